@@ -95,12 +95,13 @@ BRANCHES = [
 ]
 CALLS = START + [
     jump(3, 10), addiu(4, 4, 3), addiu(8, 8, -1), branch(5, 8, 0, -4), NOP, jump(2, 16), NOP,
-    # a function: it saves the return address on the stack
+    # the machine code of a function that saves its return address on the stack
     addiu(29, 29, -8), sw(31, 4, 29), addu(2, 4, 2), lw(31, 4, 29), registers(8, 0, 31, 0), addiu(29, 29, 8),
 ]
 MIXED = [lw(10, 0, 9), addiu(10, 10, 1), sw(10, 0, 9), addu(11, 11, 10)]
 
-# the description, the words, and the number of instructions executed before the end
+# for each benchmark loop: its description, its machine words, and the number of instructions
+# executed until the program ends
 LOOPS = [
     ("arithmetic", loop(ARITHMETIC, registers(43, 19, 18, 17)), 3 + 12 * TURNS),
     ("loads and stores", loop(MEMORY, addu(13, 13, 12)), 3 + 11 * TURNS),
@@ -121,13 +122,14 @@ ACCESSES = [
     lw(10, 0, 9), lw(11, 4, 9), sw(10, 8, 9), sw(11, 12, 9), lw(12, 8, 9), sw(12, 0, 9), lw(13, 12, 9), sw(13, 4, 9),
     addiu(8, 8, -1), branch(5, 8, 0, -10), NOP,
 ]
-# the range of the words that the loop accesses, and code that makes register 9 point to them
+# the memory range that the benchmark loop accesses, and the code that makes register 9 point into
+# that range
 RANGES = [
     ("the stack", [addiu(9, 29, -16)]),
     ("a block of the heap", allocate(1, 4)),
     ("a unique block", allocate(2, 4)),
 ]
-# service 3 returns register 4; system call 4001 is exit
+# service 3 of this project's machine returns register 4; in Linux, system call 4001 is `exit`
 OURS = [addiu(4, 0, 7), addiu(2, 0, 3), SYSCALL]
 LINUX = [addiu(4, 0, 7), addiu(2, 0, 4001), SYSCALL]
 
@@ -135,7 +137,8 @@ LINUX = [addiu(4, 0, 7), addiu(2, 0, 4001), SYSCALL]
 def executable(words):
     """Returns a file with this text, and a page of data at the data range."""
     text = b"".join(struct.pack(">I", word) for word in words)
-    # Linux's requirements on offsets and alignment are acceptable to the machine's reader too
+    # this ELF header satisfies Linux's requirements on offsets and alignment; the machine's image
+    # reader accepts it too
     header = bytes.fromhex("7f454c46010201") + bytes(9)
     header += struct.pack(">HHIIIIIHHHHHH", 2, 8, 1, TEXT, 52, 0, 0x1000, 52, 32, 2, 0, 0, 0)
     segments = struct.pack(">8I", 1, 0x1000, TEXT, TEXT, len(text), len(text), 5, 0x1000)
@@ -202,7 +205,8 @@ def images_of(folder):
         name, kind = os.path.splitext(os.path.basename(source))
         if shutil.which(pairs.GCC):
             image = os.path.join(folder, name + "-gcc.elf")
-            # machine.h contains the declarations that a text in both languages cannot contain
+            # machine.h contains the declarations that a source text valid in both C and Cyclone
+            # cannot contain
             text = ["-x", "c", "-include", os.path.join(pairs.PAIRS, "machine.h"), source, "-x", "none"]
             pairs.compiled([pairs.GCC, "-O1"] + pairs.FLAGS + text + ["-o", image] + pairs.LINKED)
             yield name + ", gcc", image

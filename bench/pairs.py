@@ -38,13 +38,16 @@ GROUPS = {
     "small functions in loops": "edits fractions grids rotations stacks",
     "tables of tables": "boards roads",
 }
-# Restricts gcc to the machine's instructions: no traps on division by 0, no branch that skips its slot, no further registers.
+# Restricts gcc to the machine's instructions: no traps on division by 0, no branch-likely instructions (which may skip their
+# delay slot), no further registers.
 FLAGS = "-w -fwrapv -mips2 -mabi=32 -msoft-float -mno-abicalls -fno-pic -G0 -mno-check-zero-division -mno-branch-likely".split()
 FLAGS += "-ffreestanding -fno-builtin -nostdlib -static -Wl,--build-id=none".split()
 LINKED = ["-x", "none", os.path.join(PAIRS, "start.s"), "-Wl,-T," + os.path.join(PAIRS, "layout.ld")]
-# Compiled as C++, a program performs the checks of each access that the language requires.
+# If a program is compiled as C++ with these options, it performs the checks that the language
+# requires for each memory access.
 AS_CHECKED = ["-x", "c++", "-fno-exceptions", "-fno-rtti", "-I", PAIRS]
-# The header of an ELF32 file, up to its table of segments, and an entry of the table; the lowest bit of a segment's flags marks code.
+# The layout of an ELF32 file's header up to its segment table, and the layout of a table entry; the lowest bit of a segment's flags
+# marks code.
 LOADED, CODE = 1, 1
 MOST = 1_000_000_000
 SHOWN = 40
@@ -193,7 +196,7 @@ def main():
             sys.exit(f"there is no command {command}: Debian has it in {package}")
     names = options.names or sorted(file[:-4] for file in os.listdir(options.pairs) if file.endswith(".cyc"))
     counts, faults = {}, []
-    # The counts are exact, however many runs are in parallel.
+    # The instruction counts are exact, even if many runs execute in parallel.
     with concurrent.futures.ThreadPoolExecutor(os.cpu_count()) as threads:
         found = {name: threads.submit(sizes_of if options.sizes else counts_of, name, options) for name in names}
         for name, future in found.items():

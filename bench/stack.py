@@ -21,17 +21,19 @@ import tempfile
 HERE = os.path.dirname(os.path.abspath(__file__))
 PROGRAM = os.path.join(HERE, "..", "crates", "cyclone", "out", "cyclone")
 STACK = 64 * 1024 * 1024
-# The operators before each form of an expression.
+# The operators that precede each form of an expression in the generated texts.
 OPERATORS = {"": "", ", behind two operators that branch": "1||1&&", ", behind operators of all levels": "1||1&&1|1^1&1==1<1<<1+1*"}
 DEEPEST = 199
-# The beginning of each text: structs, functions, and the declarations of the body.
+# The beginning of each generated text: structs, functions, and the declarations of the body of
+# `main`.
 STRUCTS = "struct S { int m; }; struct T { " + "".join(f"int m{number}; " for number in range(64)) + "}; datatype exn { X(int); }; "
 FUNCTIONS = (
     "int f(int x){ return x; } int g(" + ", ".join(f"int x{number}" for number in range(64)) + "){ return x0; } "
     "int ?h(int x){ return NULL; } struct S *k(int x){ return NULL; } region_t<`H> r(int x){ return heap_region; } "
 )
 HEAD = STRUCTS + FUNCTIONS + "int main(){ int a; int ?p = new {for i < 1 : 0}; int *q = NULL; struct S *s = NULL; "
-# The contexts of an expression within an expression, and the number of levels by which each nests.
+# The contexts in which an expression can stand within an expression, and the number of nesting
+# levels that each context adds.
 EXPRESSIONS = {
     "brackets": ("(", ")", 1),
     "an operand in front": ("(", ")+1", 1),
@@ -61,7 +63,7 @@ EXPRESSIONS = {
     "a cast to char": ("char(", ")", 1),
     "an assignment in an index": ("p[a=", "]", 2),
 }
-# The places of an expression that is within no other expression.
+# The positions in which an expression can stand outside any other expression.
 PLACES = {
     "what is returned": ("return ", ";"),
     "a statement": ("", ";"),
@@ -73,7 +75,8 @@ PLACES = {
     "the right side of a swap": ("p[0]:=:p[", "];"),
     "what is freed": ("ufree(rnew(unique_region)(", "));"),
 }
-# The contexts of a statement within a statement, and the places of other statements.
+# The contexts in which a statement can stand within a statement, with the number of nesting levels
+# that each context adds.
 STATEMENTS = {
     "a block": ("{", "}", 1),
     "a block of a label": ("L#:{", "}", 1),
@@ -90,7 +93,7 @@ STATEMENTS = {
     "the default of a catch": ("try;catch{default:", "}", 1),
     "an if in a block": ("{if(1)", "return 0;}", 2),
 }
-# The innermost expression: a valid one, and invalid ones.
+# The innermost expressions that replace the nested expression: a valid one, and invalid ones.
 VALUES = {"a number": "1", "a name that is not declared": "x", "a variable that is empty": "a", "NULL": "NULL", "nothing": ""}
 ENDS = {"a return": "return 0;", "nothing to return": ";", "a name that is not declared": "return x;", "no statement": ""}
 
@@ -99,7 +102,7 @@ def numbered(text, count):
     return "".join(text.replace("#", str(number)) for number in range(1, count + 1))
 
 
-# The longest lists: 60,000 tokens.
+# The longest possible lists of each kind, in texts of 60,000 tokens.
 LISTS = {
     "statements": "int main(){" + ";" * 59991 + "return 0;}",
     "globals": numbered("int a#;", 19997) + "int main(){return 0;}",
@@ -108,7 +111,8 @@ LISTS = {
 }
 
 
-# The commands without a text, and those on the image that was compiled last.
+# The commands that take no source text, and the commands that take the most recently compiled
+# image.
 OTHERS = (["run", "text.elf"], ["disasm", "text.elf"], ["info", "text.elf"], ["explain", "51"], ["explain"], ["--help"])
 
 

@@ -25,7 +25,7 @@ DEFAULT = 1_000_000_000
 TIMES = 5
 COPIES = 32
 SPENT = 7
-# The factor by which budgets are smaller when instructions are counted, which takes longer and need not be repeated.
+# The factor that reduces budgets when instructions are counted. Counting takes longer and need not be repeated.
 SMALLER = 100
 COUNTER = ["valgrind", "--tool=cachegrind", "--cache-sim=no", f"--cachegrind-out-file={os.devnull}"]
 COUNTED = re.compile(rb"I +refs: +([\d,]+)")
@@ -47,7 +47,7 @@ def sb(t, i, s):
 TO_TEXT, TO_DATA, TO_STACK = [lui(9, TEXT >> 16)], [lui(9, DATA >> 16)], [addiu(9, 29, -256)]
 FAR_STACK = [lui(10, 0x30), registers(35, 9, 29, 10)]  # 3 MB below the end of the stack
 
-# the code that is executed once, and the code that is repeated
+# the code that is executed once before the loop, and the code that the loop repeats
 CASES = {
     "arithmetic": ([], [addu(11, 11, 10)]),
     "products": ([], [registers(24, 0, 11, 10)]),

@@ -29,13 +29,13 @@ HERE = os.path.dirname(os.path.abspath(__file__))
 STORES = ("plain", "pages")
 IN_USE = (1, 1_000, 60_000)
 PAGES, MOST = 65_536, 1_000_000_000_000
-# The large and the small number of iterations, and the factor by which both are smaller when instructions are counted.
+# The large and the small number of loop iterations, and the factor that reduces both when instructions are counted.
 MANY, FEW, FEWER = 2_000_000, 100_000, 100
 RUNS = 5
 IN_REGION = 64
-# The expected result: every image of this script returns 7.
+# The expected result of a run: every image of this script returns 7.
 RETURNED = 7
-# The place of the addresses of blocks: the words of the data range from its second page on.
+# The addresses of blocks are stored in the words of the data range, from its second page on.
 ADDRESSES = DATA + 4096
 
 
@@ -59,13 +59,14 @@ def filled(pages):
     return [*service(7), addu(20, 2, 0), *constant(21, ADDRESSES), *looped(8, pages, block)]
 
 
-# Loop bodies: one allocates and frees a unique block, one opens and closes a region, and one fills a region with 64 blocks.
+# Loop bodies: one allocates and frees a unique block, one opens and closes a region, and one allocates 64 blocks in a
+# region.
 FREE = [*allocate(2, 16), addu(4, 9, 0), *service(10)]
 OPEN = [*service(7), addu(4, 2, 0), *service(8)]
 BLOCKS = looped(9, IN_REGION, [addu(4, 23, 0), addiu(5, 0, 16), *service(9)])
 MAKE = [*service(5), addu(22, 3, 0), addu(23, 2, 0), *BLOCKS, addu(4, 22, 0), *service(6)]
-# Computes the address of a word of a pseudo-random block: register 10 has the number that leads to the next, 11 the number of blocks, and
-# 12 the address.
+# Computes the address of a word of a pseudo-random block. Register 10 holds the pseudo-random number, register 11 the number of blocks,
+# and register 12 the address.
 ANY = [
     registers(24, 0, 10, 13), registers(18, 10, 0, 0), registers(2, 12, 0, 10, 8), registers(26, 0, 12, 11), registers(16, 12, 0, 0),
     registers(0, 12, 0, 12, 2), addu(12, 12, 14), lw(12, 0, 12), immediate(12, 15, 10, 0x7FC), addu(12, 12, 15),
@@ -76,7 +77,8 @@ def started(pages):
     return [*filled(pages), *constant(10, 12_345), *constant(11, pages), *constant(13, 69_069), *constant(14, ADDRESSES)]
 
 
-# The body of a loop, the number of its calls, the code before the loop, and whether store.c makes such calls too.
+# For each kind of loop: the loop's body, the number of service calls in it, and the code before the loop. The
+# last field is the mode in which store.c makes the same calls, if it does.
 KINDS = {
     "blocks made and freed": (FREE, 1, filled, "free"),
     "regions opened and closed": (OPEN, 1, filled, "close"),

@@ -1,15 +1,15 @@
 #!/bin/sh
-# Shows the program at work: each command, what it prints, and its exit status.
+# Demonstrates the program: shows each command, its output, and its exit status.
 set -u
 cd "$(dirname "$0")" || exit
 PATH="$(cd ../crates/cyclone/out && pwd):$PATH"
 room=$(mktemp -d)
 trap 'rm -rf "$room"' EXIT
 
-# show COMMAND ..: with no input
+# show COMMAND ..: runs a command without input, and shows its output and status
 show() { show_on /dev/null "$@"; }
 
-# show_on INPUT COMMAND ..
+# show_on INPUT COMMAND ..: runs a command with this input file, and shows its output and status
 show_on() {
   input=$1
   shift
@@ -18,7 +18,7 @@ show_on() {
   "$@" < "$input" > "$room/printed" 2> "$room/said"
   status=$?
   head -n "${lines:-1000}" "$room/printed"
-  # what is said begins a line of its own
+  # the output on standard error begins on a line of its own
   [ -z "$(tail -c 1 "$room/printed")" ] || echo
   cat "$room/said"
   echo "(exit status $status)"

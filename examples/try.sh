@@ -1,5 +1,5 @@
 #!/bin/sh
-# Compiles and runs the program in a source file, by a cyclone that is built with no proof: sh examples/try.sh SOURCE
+# Compiles and runs the program in a source file, with a `cyclone` built without proofs: sh examples/try.sh SOURCE
 set -u
 if [ ! -f "$1" ]; then
   echo "there is no file '$1': make try SOURCE=examples/hello.cyc tries that one" >&2
@@ -15,7 +15,7 @@ program=$PWD/out/unproved/fast/cyclone
 room=$(mktemp -d)
 trap 'rm -rf "$room"' EXIT
 
-# step WORD ..: one run of cyclone, and its exit status
+# step WORD ..: runs cyclone once and shows its exit status
 step() {
   "$program" "$@"
   status=$?

@@ -1,5 +1,6 @@
 #!/bin/sh
-# Runs the suites of tests/suites.txt that are marked `cases`, in turn, on the program that is built, and ends at the first that fails.
+# Runs the suites of tests/suites.txt that are marked `cases`, one after another, on the program that is already built. The script
+# stops at the first suite that fails.
 #
 #     sh tests/cases.sh
 set -u
@@ -7,7 +8,7 @@ cd "$(dirname "$0")/.." || exit
 # shellcheck disable=SC1091
 . tests/suites.sh
 
-# run NAME TRIES QUICK SCRIPT WORD ..: shows what a suite says
+# run NAME TRIES QUICK SCRIPT WORD ..: runs a suite and shows its output
 run() {
   echo "== $1"
   script=$4

@@ -1,8 +1,8 @@
 #!/usr/bin/env bash
-# The gate: every proof and test of the crates (rt ci), the suites of tests/suites.txt on the program that this has just proved and built,
-# and the wrong bodies. First it installs what they need, and ends if that cannot be had. Before the last line it prints what each crate and
-# part cost, which is in out/gate.md too, also if the gate is stopped; and then what failed, in short, for whoever sees only the end of a
-# long log. The last line is `N passed, M failed` over all of it.
+# The gate runs every proof and test of the crates (rt ci), the suites of tests/suites.txt on the program just proved and built, and the
+# wrong bodies. First, the gate installs the commands that it needs, and ends if one cannot be installed. Before the last line, the gate
+# prints the cost of each crate and part; out/gate.md records these costs too, even if the gate is stopped. After the costs, the gate lists
+# the failures in short, for a reader who sees only the end of a long log. The last line is `N passed, M failed` over all parts of the gate.
 set -u
 cd "$(dirname "$0")/.." || exit
 # shellcheck disable=SC1091
@@ -14,8 +14,8 @@ trap 'rm -f "$log" "$costs" "$faults"' EXIT
 passed=0
 failed=0
 
-# Runs a command, shows what it says, records what it costs, and adds up its last line `N passed, M failed`. A command that
-# fails without a count of failures, says no count or that of nothing, or leaves out a part, is one failure.
+# Runs a command, shows its output, records its cost, and adds up its last line `N passed, M failed`. A command counts as
+# one failure if it fails without a count of failures, reports no count or an empty one, or leaves out a part.
 add() {
   local name=$1 status count good bad
   shift
@@ -41,7 +41,8 @@ add() {
   fi
 }
 
-# The lines of a log that say what failed, and those before a crate that is not proved, which say why: at most 24.
+# Prints the lines of a log that report failures, and the lines before an unproved crate that give the reason: at
+# most 24 lines.
 faults_in() {
   grep -E -B 6 '^rt: [a-z_]+(: its tests are)? NOT PROVED$' "$1" | grep -v ': proved$' | head -n 14
   grep -E '^FAILED |^rt: FAILED|^there is no (program|command|module)' "$1" | head -n 10
@@ -53,14 +54,16 @@ if ! sh tests/install.sh; then
   exit 1
 fi
 sources=$(python3 tools/sources.py look)
-# As many crates are proved side by side as fit the memory by the measured peaks, unless the caller has said how many.
+# The number of crates proved in parallel is limited by memory, from the measured peaks, unless the caller sets
+# RT_JOBS.
 add "proofs" env "RT_JOBS=${RT_JOBS:-$(python3 tools/jobs.py)}" rt ci
-# `make build` and `make demo` take the program that was built here while the sources are the same. Wrong bodies rest on these proofs too.
+# `make build` and `make demo` use the program built by the gate as long as the sources are unchanged. The wrong-body tests also reuse the
+# gate's proofs.
 proved=
 if [ "$failed" -eq 0 ] && python3 tools/sources.py note "$sources"; then
   proved=$sources
 fi
-# suite NAME TRIES QUICK SCRIPT WORD ..: a suite of the list, on the program that was built here
+# suite NAME TRIES QUICK SCRIPT WORD ..: runs a suite of the list on the program that the gate built
 suite() {
   local name=$1 script=$4
   shift 4

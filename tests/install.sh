@@ -1,6 +1,6 @@
 #!/bin/sh
-# Installs the Debian packages of the commands that tools.sh finds missing. It fails where a package cannot be had, or where a command is
-# not there then.
+# Installs the Debian packages of the commands that tools.sh reports missing. The script fails if a package cannot be installed, or if a
+# command is still missing afterwards.
 #
 #     sh tests/install.sh
 set -eu

@@ -1,7 +1,7 @@
 #!/bin/sh
-# Tries a change in some minutes, with no proof: builds the program unproved at the place that is named, and runs on it the suites of
-# tests/suites.txt that are marked `quick`, as many side by side as there are processors. It ends before that if a command is missing that
-# they need. The last line is `N passed, M failed` over all of it.
+# Tests a change in a few minutes, without proofs. The script builds the program unproved at the given path, and runs the suites of
+# tests/suites.txt marked `quick` on it. As many suites run in parallel as there are processors. The script ends early if a command that
+# the suites need is missing. The last line is `N passed, M failed` over all suites.
 #
 #     sh tests/quick.sh PROGRAM
 set -u
@@ -14,18 +14,18 @@ failed=0
 logs=$(mktemp -d)
 trap 'rm -rf "$logs"' EXIT
 
-# begin NAME TRIES QUICK SCRIPT WORD ..: writes a line of the shell that runs a suite, and notes what it says and its status
+# begin NAME TRIES QUICK SCRIPT WORD ..: writes the shell command line that runs a suite and stores its output and status
 begin() {
   suite=$1
   line="python3 tests/runners/$4"
-  # A program that is not optimised needs more of the stack.
+  # A program built without optimisation needs more stack.
   [ "$2" = program ] && line="$line --program '$program' --stack 64"
   more=$3
   shift 4
   printf '%s %s %s > "%s/%s" 2>&1; echo $? > "%s/%s.status"\n' "$line" "$*" "$more" "$logs" "$suite" "$logs" "$suite"
 }
 
-# add NAME ..: shows what a suite said, and adds up its last line
+# add NAME ..: shows the output of a suite, and adds up its last line
 add() {
   echo "== $1"
   cat "$logs/$1"

@@ -1,7 +1,8 @@
-# Reads the list of suites, for the scripts that run them from the top of the repository.
+# Reads the list of test suites, for the scripts that run suites from the top of the repository.
 # shellcheck shell=sh
 
-# each LOOP CALL: calls CALL NAME TRIES QUICK SCRIPT WORD .. for each suite that LOOP runs. QUICK is one word: what is added there.
+# each LOOP CALL: calls CALL NAME TRIES QUICK SCRIPT WORD .. for each suite that LOOP runs. QUICK is one word: the option that the
+# quick loop adds.
 each() {
   while IFS='|' read -r suite loops tries words quick <&3; do
     case " $loops " in

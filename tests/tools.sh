@@ -1,15 +1,15 @@
 #!/bin/sh
-# Names the commands of tools.txt that are missing, with the Debian packages that have them, and fails where one is. It installs nothing:
-# install.sh does.
+# Prints the commands of tools.txt that are missing, with the Debian packages that contain them, and fails if a command is missing. The
+# script tools.sh installs no package; install.sh does.
 #
 #     sh tests/tools.sh [COMMAND ..]
 set -eu
 cd "$(dirname "$0")"
 tools=${*:-$(grep -o '^[a-z][^ ]*' tools.txt)}
 status=0
-# Where Debian's python3 has its modules.
+# The folder of the modules of Debian's python3.
 modules=${MODULES:-/usr/lib/python3/dist-packages}
-# Where Debian has scripts for pages.
+# The folder of Debian's JavaScript libraries for web pages.
 libraries=${LIBRARIES:-/usr/share/javascript}
 for tool in $tools; do
   kind="command"

@@ -10,24 +10,26 @@ import subprocess
 
 HERE = os.path.dirname(os.path.realpath(__file__))
 MISSING = "there is no program cyclone yet: `make install-unproved` builds one in some minutes, `make build` the proved one"
-# The seconds in which the program must report its abilities.
+# The time limit, in seconds, for the program to report its abilities.
 SECONDS = 60
-# The options that came one after another, each with the commands that have it where the program has it at all.
+# The command-line options that were added over time, each with the commands that accept the option if the
+# program has it.
 OPTIONS = {"json": ("check", "compile"), "places": ("compile", "run"), "report": ("run",), "peaks": ("run",), "with": ("check", "compile"),
     "at-most": ("disasm",)}
-# The last lines that say how it went, by their first words.
+# The pattern of the program's last line, which reports how the command ended; its first words name
+# the kind of end.
 END = re.compile(
     r"(?P<end>done|fault|returned|uncaught|full|trap|budget spent|image fault|read fault|write fault|no memory|usage|not formatted)"
     r"(?: (?P<rest>.*))?")
-# The members of a finding, with their types; some may be null.
+# The members of a finding in a JSON report, with their types; some members may be null.
 NUMBER, TEXT = (int,), (str,)
 MEMBERS = {
     "kind": TEXT, "rule": TEXT, "code": (int, type(None)), "first": (bool,), "line": NUMBER, "column": NUMBER, "endLine": NUMBER,
     "endColumn": NUMBER, "message": TEXT, "detail": (str, type(None)), "hint": (str, type(None)), "edit": (dict, type(None)),
     "related": (list,),
 }
-# Sets the limits of processor time and memory, and runs the command under them. The soft limit of processor time ends it by SIGXCPU, so
-# that SIGKILL has another cause.
+# Sets the limits of processor time and memory, and runs the command under these limits. The soft limit of processor time ends the
+# command by SIGXCPU, so a SIGKILL has another cause.
 CONFINED = 'ulimit -c 0 && ulimit -S -t "$1" && ulimit -H -t "$(($1 + 1))" && { [ -z "$2" ] || ulimit -v "$2"; } && shift 2 && exec "$@"'
 
 

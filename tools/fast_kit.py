@@ -7,7 +7,7 @@ then empty; and the prover, which `rt try` only asks for names that a later chec
 import os
 import shutil
 
-# Of the two programs that clang is told to build it is the one with checks that is run.
+# clang is told to build two programs; this script runs the one built with checks.
 CLANG = """#!/bin/bash
 words=()
 for word; do [[ $word == -fsanitize=* ]] && is_run=1; done

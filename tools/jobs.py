@@ -14,9 +14,9 @@ import sys
 
 ROOT = os.path.dirname(os.path.dirname(os.path.abspath(__file__)))
 PEAKS = os.path.join(ROOT, "tests", "memory.txt")
-# The share of the free memory that proofs may take.
+# The share of the free memory that parallel proofs may take.
 SHARE = 0.9
-# Files of the control group: the quota and the period of its processors, its memory limit, and its memory usage.
+# Files of the Linux control group: the processor quota and its period, the memory limit, and the memory usage.
 QUOTA, LIMIT, HELD = (f"/sys/fs/cgroup/{name}" for name in ("cpu.max", "memory.max", "memory.stat"))
 
 

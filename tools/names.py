@@ -25,9 +25,10 @@ KEYWORDS = set(
 BASES = ("int", "char", "struct", "region_t", "uregion_key_t")
 MARKS = ("*", "@", "?")
 OPERATORS = set("|| && | ^ & == != < <= > >= << >> + - * / %".split())
-# A region that no type can name: that of a block without a label, or an unknown one. Regions chosen by a caller are numbers.
+# A region that no type can name: the region of a block without a label, or an unknown region. Regions chosen by a caller are
+# represented by numbers.
 UNKNOWN, HEAP = "`0", "`H"
-# The maximum nesting of brackets and statements that is read; the language allows 200.
+# The maximum nesting of brackets and statements that this reader accepts; the language allows 200.
 DEEPEST = 210
 
 Token = collections.namedtuple("Token", "kind text start end")
@@ -45,15 +46,16 @@ class Declared:
     def __init__(self, kind, name, type_text=None, owner=None, about="", token=None):
         self.kind, self.name, self.type, self.owner, self.about = kind, name, type_text, owner, about
         self.start, self.end = (token.start, token.end) if token else (-1, -1)
-        # The whole declaration, from its first character to its last, and its parts.
+        # The range of the whole declaration in the text, from its first character to its last, and
+        # the declaration's parts.
         self.whole, self.parts = (self.start, self.end), []
-        # The result type of a call; the fields of a struct; whether a variable has an initial value; and the region of its block, or None
-        # if it has no name.
+        # The result type of a call, and the fields of a struct. For a variable, a flag tells if the variable has an initial value. The
+        # last field is the region of the variable's block, or None if this region has no name.
         self.result, self.fields, self.has_value, self.block = None, {}, False, None
-        # The type, or a function's result type, with all regions; the types of a function's parameters, and their source texts; and the
-        # region parameters of a struct.
+        # The type of a variable or of a function's result, with all regions; the types of a function's parameters, and their source
+        # texts; and the region parameters of a struct.
         self.full, self.parameters, self.written, self.regions = type_text, [], [], []
-        # The range of the text in which the name is visible, for a name in a block.
+        # The range of the text in which a name declared in a block is visible.
         self.since, self.until = -1, -1
         # For a name of the library, where it is declared, and the text of its declaration.
         self.home, self.shown = None, ""
@@ -218,10 +220,11 @@ class Names(Reading):
     def __init__(self, text, library=None):
         super().__init__(text)
         self.declared, self.top, self.uses = [], [], []
-        # The places of omitted regions, each with its meaning; and the types before each `->`, by the place after it.
+        # The positions of omitted regions, each with its meaning; and the types before each `->`, indexed by the
+        # position after the `->`.
         self.left_out, self.arrows = [], {}
         self.structs, self.globals, self.exceptions = {}, {}, {}
-        # The declarations in `top`, by the places of their names.
+        # The declarations in `top`, indexed by the positions of their names.
         self.heads = {}
         self.each(self.find_head)
         for own, name in ((self.structs, "structs"), (self.globals, "globals"), (self.exceptions, "exceptions")):
@@ -428,7 +431,7 @@ class Inside:
         self.names, self.owner = names, owner
         self.variables, self.regions, self.depth = [{}], [{}], 0
         self.blocks = ["`" + owner.name]
-        # The region of the object that was read last.
+        # The region that contains the object read last.
         self.lies = UNKNOWN
 
     # ---- visible names
@@ -537,7 +540,8 @@ class Inside:
             while names.next.kind != "end" and not names.accept(";"):
                 names.take()
             return
-        # The regions of the result are those of the parameters, which follow it in the text.
+        # The regions in a result type are declared by the parameters, which follow the result type
+        # in the text.
         about = "where this function's own variables lie, to its last brace"
         own = Declared("region", "`" + self.owner.name, owner=self.owner, about=about)
         own.start, own.end = self.owner.start, self.owner.end
@@ -613,7 +617,7 @@ class Inside:
         try:
             found = self.expression() if has_value else found
         finally:
-            # The name is visible only after its declaration.
+            # A local's name is visible only after its declaration.
             it = self.variable("local", name, type_text)
             it.has_value, it.full = has_value, names.whole_type(tokens, HEAP if found == "NULL" else region_of(found))
         names.expect(";")

@@ -27,17 +27,19 @@ sys.path.insert(0, HERE)
 import asked
 
 NAME = "program.c"
-# Lines that end in a backslash go on, for cpp also if spaces come after it.
+# A line that ends in a backslash continues on the next line; cpp also allows spaces after the
+# backslash.
 SPLICE = re.compile(r"\\[ \t\f\v\0]*\n")
 GAP = r"(?:[^\S\n]|\0|/\*.*?\*/)*"
 INCLUDE = re.compile(rf"(?:#|%:|\?\?=){GAP}(?:include_next|include|import)\b{GAP}(?:<(?P<one>[^>\n]*)>|\"(?P<other>[^\"\n]*)\")?", re.S)
-# Other ways to ask cpp whether a file is there.
+# Further ways in which a text can ask cpp about the existence of a file.
 PROBE = re.compile(r"__has_include\w*|_Pragma\b|\bdependency\b|\bpch_preprocess\b")
-# A message of the compiler, with the name that each of the tools gives the translation.
+# The pattern of a compiler message about the translation, with the file name that either tool gives
+# the translation.
 COMPILED = re.compile(r"^(?:source\.cyc|/proc/self/fd/\d+):(?=\d+:\d+: )")
 IN_C = re.compile(r"(?P<file>[^\n]*?):(?P<line>\d+): (?P<text>.*)")
 WORD = re.compile(r"\d[\w.]*|\w+|\S", re.A)
-# The most bytes of what is printed.
+# The maximum number of bytes that are printed.
 LONGEST = 4_000_000
 
 
@@ -190,7 +192,7 @@ def main():
     parser.add_argument("program")
     parser.add_argument("--name")
     options = parser.parse_args()
-    # As cyclone-c reads a file: each kind of line end is one.
+    # The file is read as cyclone-c reads it: every kind of line end becomes a line feed.
     with open(options.text, encoding="utf-8", errors="surrogateescape") as file:
         source = file.read()
     try:
@@ -198,7 +200,8 @@ def main():
     except ModuleNotFoundError as error:
         sys.exit(f"{sys.executable} has no module {error.name}: Debian has it in python3-{error.name}")
     if options.name is None:
-        # cpp looks for headers in its own folder first.
+        # The C preprocessor searches its working folder for headers first, so the working folder
+        # becomes that of the headers.
         os.chdir(HEADERS)
     try:
         found = translated(source, options.name or NAME, options.program, options.name is not None)

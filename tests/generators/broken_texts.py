@@ -1,7 +1,7 @@
 """Changes one part of a text: a token, or a statement."""
 from language.texts import KEYWORDS, tokens_of
 
-# Statements about a name that are probably invalid.
+# Templates of statements about a name (#); such a statement is probably invalid.
 STATEMENTS = [
     "ufree(#);", "ufree(#);", "free_ukey(#);", "#;", "&#;", "*#;", "# = NULL;", "# = 1;", "show(*#);", "return #;", "break;",
     "continue;", "# == #;", "look(#);", "get(#);", "eat(#);", "# :=: #;", "#[0] = eaten(#);", "region<`z_> z_ = open(#);",

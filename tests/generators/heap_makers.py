@@ -43,7 +43,8 @@ class HeapMaker(Maker):
     def prepare(self):
         self.count = 0
         self.routines = list(ROUTINES)
-        # The pointers of each open block, with their types; the first are globals.
+        # For each open block, the names of its pointers with their types; the first entry contains
+        # the globals.
         self.known = [{"gp": INT_STAR, "gf": INT_FAT, "gt": NODE_STAR}]
 
     def fresh(self, letter):
@@ -89,7 +90,7 @@ class HeapMaker(Maker):
     def pointer(self, type, depth):
         """Returns an expression that converts to a type of pointer into the heap."""
         mark, target = type[1], type[2]
-        # converting a pointer with another mark may raise an exception
+        # converting a pointer to a pointer with a different mark may raise an exception
         marks = "*@?" if self.chance(15) else {"*": "*@", "@": "@", "?": "?@"}[mark]
         found = [name for name, _ in self.to(target, marks)]
         if found and self.chance(50):
@@ -166,7 +167,7 @@ class HeapMaker(Maker):
         place, type = self.pick(ways + [("gp", INT_STAR)])
         self.put(f"{place} = {self.expression(2) if type == INT else self.pointer(type, 1)};")
 
-    # Ints accessed through pointers
+    # Returns the text of an int expression that reads an int through a pointer.
 
     def through(self, depth):
         found = self.to(INT, "*@")

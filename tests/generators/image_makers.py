@@ -9,9 +9,11 @@ import machine
 import stores
 
 STEPS = 1000
-# The step budgets for images written by the compiler and for changed ones, and the number of changed images for each.
+# The step budgets for images written by the compiler and for changed images, and the number of changed images derived
+# from each image.
 STEPS_OF_COMPILED, STEPS_OF_CHANGED, CHANGED = 30_000, 3_000, 5
-# One segment, which ends with 3 after five instructions; and the same with a note of 8 pages and 32 calls.
+# An image with one segment, which ends with result 3 after five instructions; and the same image with a
+# note of 8 pages and 32 calls.
 PLAIN = bytes.fromhex("""
 7f454c46010201000000000000000000 0002000800000001 00400000 00000034 0000000000000000 0034002000010000 00000000
 00000001 00000054 00400000 00400000 00000018 00000018 00000005 00000004
@@ -22,14 +24,16 @@ WITH_NOTE = bytes.fromhex("""
 00000004 0000008c 00000000 00000000 0000001c 0000001c 00000004 00000004
 24040001 10000002 24840002 24840004 24020003 0000000c
 00000008 00000008 00000001 4379636c6f6e6500 00000008 00000020""")
-# Two segments: text that prints the first word of the data, and data of two words in a segment of four.
+# An image with two segments: code that prints the first word of the data, and two words of data in a
+# segment of four words.
 WITH_DATA = bytes.fromhex("""
 7f454c46010201000000000000000000 0002000800000001 00400000 00000034 0000000000000000 0034002000020000 00000000
 00000001 00000074 00400000 00400000 00000018 00000018 00000005 00000004
 00000001 0000008c 10000000 10000000 00000008 00000010 00000006 00000004
 3c081000 8d040000 24020002 0000000c 24020003 0000000c
 00000048 00000069""")
-# Two segments in one place, which is a fault. No random image is derived from it.
+# An image with two segments at one address, which is invalid. No random image is derived from this
+# image.
 DOUBLED = bytes.fromhex("""
 7f454c46010201000000000000000000 0002000800000001 00400000 00000034 0000000000000000 0034002000020000 00000000
 00000001 00000074 00400000 00400000 00000018 00000018 00000005 00000004
@@ -37,14 +41,15 @@ DOUBLED = bytes.fromhex("""
 24040001 10000002 24840002 24840004 24020003 0000000c""")
 SMALL_IMAGES = {"one segment": PLAIN, "a note": WITH_NOTE, "two segments": WITH_DATA}
 SET_TO = (0x00, 0x7F, 0xFF)
-# The extreme values of a header field, and one beyond.
+# The extreme values of an ELF header field, and the values one beyond them.
 FIELDS = [
     0, 1, 2, 3, 4, 5, 6, 7, 8, 0x14, 0x17, 0x18, 0x19, 0x1B, 0x1C, 0x1D, 0x20, 0x34, 0x54, 0x58, 0x74, 0x8C, 0x3FFFFC,
     0x400000, 0x400002, 0x400004, 0x400014, 0x400018, 0x1FFFFFC, 0x2000000, 0xFFFFFFC, 0x10000000, 0x10000004, 0x103FFFFC, 0x10400000,
     0x20000000, 0x30000000, 0x7FFFEFFC, 0x7FFFFFFF, 0x80000000, 0xFFFFFFF8, 0xFFFFFFFC, 0xFFFFFFFF,
 ]
 EDGES = [0, 1, 2, 3, 4, 31, 32, 255, 0x7FFF, 0x8000, 0xFFFF, 0x10000, 0x7FFFFFFF, 0x80000000, 0x80000001, 0xFFFFFFFE, 0xFFFFFFFF]
-# Sizes of blocks in words: the limits of the classes of unique blocks, of a page, and of the allowed sizes, and invalid sizes.
+# Sizes of heap blocks in words: the limits of the size classes of unique blocks, of a page, and of the allowed sizes; and
+# invalid sizes.
 SIZES = [1, 1, 2, 3, 4, 8, 24, 25, 64, 127, 128, 129, 256, 257, 400, 512, 513, 999, 1000]
 NO_SIZES = [0, 1001, 1024, 0xFFFFFFFF]
 
@@ -221,7 +226,8 @@ class Calls:
 
     def __init__(self, numbers):
         self.numbers, self.words, self.next = numbers, [], 0
-        # the registers of handles and of addresses, and the number of open lexical regions
+        # the registers that hold region handles and block addresses, and the number of open lexical
+        # regions
         self.lexical, self.dynamic, self.blocks, self.unique, self.opened = [], [], [], [], 0
         for _ in range(numbers.randint(3, 24)):
             self.words += numbers.choice(self.MAKERS)(self)
@@ -363,7 +369,8 @@ def of_changes(numbers):
     return Made("changes", bytes(file), given(numbers))
 
 
-# Addresses at which segments begin: at both ends of the two ranges and within them.
+# Addresses at which test segments begin: at both ends of the code and data ranges and within these
+# ranges.
 ADDRESSES = [
     machine.TEXT, machine.TEXT, machine.TEXT + 0x1000, machine.TEXT_END - 24, machine.DATA, machine.DATA + 0x1000, machine.DATA_END - 24,
 ]

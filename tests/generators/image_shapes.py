@@ -9,12 +9,14 @@ import image_makers
 from image_makers import SYSCALL, service, word_of
 from machine import DATA, ENTRY_BYTES, HEADER, IDENT, LOADED, NOTE, TEXT
 
-# How many bytes of an image, and how many steps of a loop, count as one token of a text.
+# The number of bytes of an image, and the number of steps of a loop, that count as one token of a
+# source text.
 BYTES, STEPS = 8, 20
-# How many times what the usual image takes one may take for each byte, and what the usual step takes a step.
+# The maximum cost for each byte of an image, relative to the usual image, and the maximum cost of a step,
+# relative to the usual step.
 MOST, MOST_STEP = 1.5, 5.0
 SPENT = "budget spent"
-# An image of no words, to which none of a loop's steps is done.
+# An image that runs no loop: it only ends, so its cost contains no step of a loop.
 NOTHING = image_makers.image([(TEXT, service(3), 0)])
 
 
@@ -107,7 +109,7 @@ IMAGES = {
     "segments from the last to the first": Image(lambda count: of_segments(count, lambda number, all: all - 1 - number), ENTRY_BYTES + 4),
     "segments by turns from both ends": Image(
         lambda count: of_segments(count, lambda number, all: number // 2 if number % 2 == 0 else all - 1 - number // 2), ENTRY_BYTES + 4),
-    # one alone is no fault, and is run
+    # a single segment is valid, so an image with one segment is run
     "segments at one address": Image(
         lambda count: of_segments(count + 1, lambda number, all: 0), ENTRY_BYTES + 4, "image fault", "image fault"),
     "segments of data": Image(of_data, ENTRY_BYTES + 4),

@@ -15,10 +15,10 @@ from image_makers import EDGES, NOP, constant, moved, service, word_of
 IMMEDIATES = [0, 1, 2, 0xFF, 0x100, 0x7FFF, 0x8000, 0x8001, 0xFFFE, 0xFFFF]
 AMOUNTS = [0, 1, 2, 15, 16, 30, 31]
 RESULTS, ENDS = 24, 25
-# Few enough words for one write to a pipe.
+# The number of data bytes is small enough for a single write to a pipe.
 DATA_BYTES = 0x8000
 RANDOM_PROGRAMS = 40
-# Linux's calls 4004 and 4001.
+# The numbers of Linux's system calls `write` and `exit`.
 WRITE, EXIT = 4004, 4001
 
 
@@ -45,7 +45,8 @@ class Body:
         return (machine.TEXT >> 2) + len(self.words) + over
 
 
-# Which register is s, t and d: three, and the ways in which two of them are one, or the result is lost.
+# The registers chosen as s, t and d: three different registers, then the cases in which two are equal
+# or the result is discarded (register 0).
 REGISTERS = [(8, 9, 10), (8, 9, 8), (8, 9, 9), (8, 8, 10), (8, 8, 8), (0, 9, 10), (8, 0, 10), (8, 9, 0)]
 
 
@@ -112,7 +113,7 @@ def of_branches(name):
         body.add(word_of(name, 8, t, i=3), word_of("addiu", 8, 8, i=1), word_of("addiu", 0, 8, i=2), word_of("addiu", 8, 8, i=4))
         body.keep(8)
         body.set(8, first)
-        # behind the first jump stands where the branch goes back to
+        # the branch's target is the instruction after the first jump and its delay slot
         body.add(word_of("j", i=body.here(5)), word_of("addiu", 0, 10, i=0), word_of("addiu", 10, 10, i=4))
         body.add(word_of("j", i=body.here(5)), NOP)
         body.add(word_of(name, 8, t, i=-4), word_of("addiu", 8, 8, i=1), word_of("addiu", 10, 10, i=8))
@@ -187,7 +188,7 @@ def of_all(numbers):
         name = numbers.choice(names)
         s, t, d = (numbers.choice([0, *registers]) for _ in range(3))
         if name == "div":
-            # a divisor that is neither 0 nor -1
+            # makes the divisor neither 0 nor -1
             body.add(word_of("ori", t, 9, i=1), word_of("andi", 9, 9, i=0x7FFF), word_of("div", s, 9))
         elif name in ("lw", "sw"):
             body.add(word_of(name, RESULTS, t, i=0x4000 + 4 * numbers.randrange(8)))

@@ -2,14 +2,14 @@
 
 NAMES = list("abcdefgh") + ["x_1", "total"]
 CHAR_NAMES = list("ABCDEFG")
-# A global that nothing hides.
+# The name of a global that no local hides.
 CHAR_GLOBAL = "Z"
 EDGES = [0, 0, 1, 1, 2, 3, 5, 7, 10, 31, 32, 33, 64, 100, 127, 128, 255, 256, 1000]
 EDGES += [32767, 32768, 32769, 65535, 65536, 65537, 98304, 131071]
 EDGES += [2**30, 2**31 - 2**16, 2**31 - 2**15, 2**31 - 2, 2**31 - 1, 2**31 - 1]
-# Those that keep what their operands differ in stand more often.
+# Operators whose result depends strongly on their operands occur more often in the list.
 SIGNS = ["+", "-", "*", "^", "<<", ">>", "/", "%"] * 3 + ["&", "|"] * 2 + ["==", "!=", "<", "<=", ">", ">=", "&&", "||"]
-# Every program can print a number, and may call itself deeply.
+# The prelude of every generated program: it can print a number, and call itself deeply.
 SHOW = """int deep(int n) { if (n <= 0) return 0; return deep(n - 1) + 1; }
 void digits(int n) { if (n / 10 != 0) digits(n / 10); putchar('0' - n % 10); }
 void show(int n) { if (n < 0) putchar('-'); else n = -n; digits(n); putchar('\\n'); }
@@ -24,19 +24,21 @@ def filling(name):
 class Maker:
     """Makes the text of one program."""
 
-    # What numbers are called, by which their types are told.
+    # The names of numbers, which tell the types of the variables.
     NAMES = NAMES
-    # What prints a number.
+    # The functions that print a number, which every generated program contains.
     SHOW = SHOW
 
     def __init__(self, random_numbers):
         self.random = random_numbers
-        # Each function's name, its number of parameters, and whether it has no result.
+        # For each function: its name, its number of parameters, and a flag that is true if it has
+        # no result.
         count = self.random.randint(1, 5)
         self.functions = [(f"f{number}", self.number_of_parameters(), self.chance(20)) for number in range(count)]
         self.globals = [f"g{number}" for number in range(self.random.randint(0, 4))] + self.random.sample(self.NAMES, 2)
         self.lines = []
-        # For each block that is open: the names that it declares, and whether they may be assigned.
+        # For each open block: the names that the block declares, each with a flag that is true if
+        # the name may be assigned.
         self.scopes = []
         self.loops = 0
         self.is_void = False

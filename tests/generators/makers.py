@@ -53,11 +53,11 @@ def before(way):
     return {name: type(f"{way.__name__}{maker.__name__}", (way, maker), {}) for name, maker in PROFILES.items()}
 
 
-# Those whose calls, and those whose steps too, have a bound where no routine of theirs stands in the way.
+# The program makers whose calls have a bound, and those whose steps have a bound too.
 IN_ROWS, WITHOUT_LOOPS = before(InRows), before(WithoutLoops)
-# Those whose regions mostly close before the next turn of a loop.
+# The program makers whose regions mostly close before a loop's next iteration.
 IN_TURNS = {"turns": type("InRowsTurnMaker", (InRows, TurnMaker), {})}
-# Those that have nothing but ints and chars.
+# The program makers that use only ints and chars.
 OF_NUMBERS = ("ints", "chars")
-# Those whose programs are run beside the same in C.
+# The program makers whose programs are compared with equal programs in C.
 BESIDE_C = ("chars", "bytes")

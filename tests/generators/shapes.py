@@ -36,11 +36,12 @@ def text_of(count):
 
 # ---- shapes
 
-# What `check` and `compile` say last of a text.
+# The last lines that `check` and `compile` print for an accepted text and for a frame that is too
+# large.
 DONE, FRAME = "done", "fault 51"
-# How many times what the usual text takes a text may take, for each token or byte: one that is accepted, and one that is refused, which is
-# gone through again for what is said of it. Of a form whose every token is more of the same work its shape says how many: docs/FIGURES.md
-# tells why.
+# The maximum cost of a text for each token or byte, relative to the usual text. The first limit is for an accepted text, the second for a
+# rejected text, whose faults need a further pass. A shape whose every token costs more of the same work sets its own maximum, as
+# docs/FIGURES.md explains.
 MOST, MOST_REFUSED, MOST_ONE_KEY = 1.5, 10.0, 2.1
 
 
@@ -121,8 +122,8 @@ class Long(Shape):
 IN_MAIN = "int main ( ) { "
 BEHIND = " return 0 ; }"
 PROGRAM_BEHIND = " int main ( ) { return 0 ; }"
-# As many items of a list as there may be, operators of a chain, marks of a type, and levels of nesting in a body, which is one, and in
-# what follows a `=` there.
+# The maximum number of a list's items, a chain's operators or a type's pointer marks; the maximum nesting depth in a function
+# body; and that depth in an initial value.
 AS_MANY, IN_BODY, IN_VALUE = 64, 199, 198
 
 
@@ -144,7 +145,8 @@ def chained(operand, operator, count=AS_MANY):
 FIELDS = listed("int f%", " ; ") + " ; "
 REGIONS = listed("`r%")
 MARKS = " ".join("*" * AS_MANY)
-# A struct of 64 regions, and a pointer to it of 64 marks, each with a region of its own where it is a parameter's.
+# A struct with 64 region parameters, and a pointer to the struct with about 60 pointer marks. In the type of a
+# parameter, each mark has its own region.
 WIDE = f"struct W < {REGIONS} > {{ int * `r63 f ; }} ; "
 WIDE_POINTER = f"struct W < {REGIONS} > " + " ".join("*" * 60)
 
@@ -183,7 +185,7 @@ DECLARATIONS = {
     "globals of 64 regions": Shape(WIDE, f"struct W < {listed('`H')} > * g# ; ", PROGRAM_BEHIND),
 }
 
-# A function whose two parameters have the region before a key's, so that the key's region is one that a constraint names.
+# A function whose constraints relate the regions of its two pointer parameters and the region of its key.
 BY_KEY = "int f ( uregion_key_t < `k > k , int * `a p , int * `b q ; { `a , `b } : `k > `a , `a > `b ) { region < `k > h = open ( k ) ; "
 ITEMS = {
     "locals": Shape(IN_MAIN, "int @ p# = new 1 ; ", BEHIND, compiled=FRAME),
@@ -367,7 +369,7 @@ REFUSED = {
     "a token too many": Shape(IN_MAIN + "int x = 1 ; ", "x = 2 ; ", ") ;" + BEHIND, checked="fault 10"),
     "a text that is cut off": Shape(IN_MAIN + "int x = 1 ; ", "x = 2 ; ", "x = 2", checked="fault 11"),
     "a long name that is unknown": Shape("int main ( ) { ", "a", " = 1 ; return 0 ; }", checked="fault 20", by_bytes=True),
-    # the first twenty behind the first are told too
+    # a message is also printed for the first twenty faults after the first
     "a name that is unknown in each function": Shape("", "void f# ( int x ) { x = 1 ; x = y ; } ", PROGRAM_BEHIND, checked="fault 20"),
     "an int for a pointer in each function": Shape("", "void f# ( int * p ) { p = NULL ; p = 1 ; } ", PROGRAM_BEHIND, checked="fault 22"),
     "a local that is empty in each function": Shape("", "void f# ( ) { int x ; int y = 1 ; y = x ; } ", PROGRAM_BEHIND, checked="fault 40"),

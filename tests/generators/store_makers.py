@@ -7,11 +7,12 @@ import machine
 import stores
 from image_makers import NOP, constant, image, moved, number_in, service, word_of
 
-# Register 28 points to the words that keep handles and addresses, and 29 beyond those near it.
+# Register 28 points to the words that store handles and addresses; register 20 holds a sum.
 KEPT, SUM = 28, 20
 LEAVES = machine.DATA + 0x1000
 BLOCK = stores.BLOCK_AT_MOST
-# The rest of a page after the largest block, and every how many words of a page are written.
+# The number of words of a page that remain after the largest block, and the distance between the
+# words of a page that are written.
 REST, APART = stores.PAGE_WORDS - BLOCK, 11
 
 
@@ -134,7 +135,7 @@ class Refused(Exception):
 class Many:
     """Calls of a store at random, each of which succeeds by the lists of `stores.py`, and one at the end that does not."""
 
-    # As often as others, blocks of any size and, at the end, of none that there is.
+    # The block sizes in words that the generated programs request, all equally likely.
     SIZES = [1, 2, 3, 4, 5, 8, 16, 24, 25, 31, 64, 128, 129, 256, 512, 513, 999, 1000]
     SLOTS = 8_000
 
@@ -142,7 +143,8 @@ class Many:
         self.numbers, self.pages, self.store = numbers, pages, stores.Store(pages)
         self.words, self.sum = begun() + constant(SUM, 0), 0
         self.slots = list(range(self.SLOTS))
-        # the slot of each region and block, and the first and the last word that a block was given
+        # the memory slot of each region handle and block address, with the first and the last word
+        # written to each block
         self.handles, self.blocks = {}, {}
 
     def asked(self, call):

@@ -160,7 +160,7 @@ class Writer:
     def __init__(self, program, function):
         self.program, self.function = program, function
         self.temporaries = 0
-        # The variables that have the marks to go back to, of the loops that are open.
+        # For each open loop, the variable that stores the setjmp mark to jump back to.
         self.loops = []
         self.lines = [head_of(function) + " {", "struct mark home = at;"]
         self.statement(function.body)

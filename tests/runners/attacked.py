@@ -31,22 +31,25 @@ import suite  # first: it says where the references and the generators are
 from hostile_c import BOMB as MACRO
 from served import BROKEN, C_OVERRUN, ECHO, ENDLESS, HELLO, NEAR, PAGE, PRINTING, WITHOUT_END, Server, post, raise_files, waited
 
-# Fewer addresses attack than twice the places, as SECURITY.md promises.
+# The number of runs that the server executes at once. Fewer addresses attack than twice this
+# number, as SECURITY.md promises.
 PLACES = 3
 HONEST = [f"127.0.2.{number}" for number in range(1, 9)]
 ATTACKER = "127.0.3.{}"
-# The folder of the log has so many KB, and is on a disk of its own, which the attacker sees below the root of the server's namespace.
+# The size in KB of the disk that holds the log folder. The log folder has a disk of its own, which the attacker sees below the root
+# of the server's namespace.
 DISK = 128
 START = """#!/bin/sh
 exec unshare --map-root-user --mount sh -c '
 mount -t tmpfs -o size={size}k none "{folder}" && export TMPDIR="{folder}" && exec "$@" 2>>"{folder}/log"' sh "{page}" "$@"
 """
-# The first bytes of the texts whose processes the attacker may kill.
+# The first bytes of the source texts whose processes the attacker may kill.
 MARK = b"// a text of the attacker whose processes are killed\n"
 SIGNALS = (signal.SIGKILL, signal.SIGKILL, signal.SIGSTOP, signal.SIGTERM, signal.SIGSEGV, signal.SIGXCPU)
-# How much more memory, in KB, the server may have in the end: many large bodies that come at once leave some.
+# The maximum growth of the server's memory during the attack, in KB: many large request bodies that arrive at
+# once leave some memory in use.
 GROWN = 64_000
-# So many honest answers must come in a minute, or nothing was tried.
+# The minimum number of honest answers in a minute; with fewer answers the test proves nothing.
 LEAST = 4
 # Where minutes do not count, the attack takes so many times as long at most.
 MOST = 2
@@ -264,7 +267,7 @@ def flood(room, client, dice):
             with contextlib.suppress(OSError):
                 it.sendall(sent)
             if sent == run:
-                # With this option the end of a connection is a reset.
+                # With this socket option, closing the connection sends a reset.
                 it.setsockopt(socket.SOL_SOCKET, socket.SO_LINGER, struct.pack("ii", 1, 0))
                 it.close()
         room.pause(dice.uniform(0.5, 6))

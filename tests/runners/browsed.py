@@ -22,7 +22,7 @@ try:
     from selenium.webdriver.common.by import By
     from selenium.webdriver.common.keys import Keys
 except ModuleNotFoundError:
-    # Another python3 than Debian's stands first in the PATH.
+    # The `python3` found first in the PATH is not Debian's, so the script restarts with Debian's.
     is_debian = os.path.realpath(sys.executable) == os.path.realpath("/usr/bin/python3")
     if not is_debian and os.path.exists("/usr/lib/python3/dist-packages/selenium"):
         os.execv("/usr/bin/python3", ["/usr/bin/python3", *sys.argv])
@@ -35,13 +35,13 @@ from served import NotThere, Server
 
 TOOLS = ("chromium", "chromedriver", "python3-selenium", "python3-aiohttp", "python3-markdown", "python3-pycparser",
     "libjs-codemirror")
-# How long is waited for what has to come, and between two looks.
+# The maximum wait for an expected event and the pause between two polls, in seconds.
 SECONDS, LOOK = 300, 0.1
 SIZES = {"wide": (1280, 900), "narrow": (360, 780)}
 SCHEMES = ("light", "dark")
-# What a text has to stand out from what lies under it, by the guidelines for accessible pages.
+# The minimum contrast of a text with its background, by the guidelines for accessible pages.
 CONTRAST = 4.5
-# How long the browser may work at a text of so many lines that is laid out, in seconds of a processor.
+# The maximum processor time, in seconds, that the browser may spend on formatting a text of 300 lines.
 FORMATTING, LINES = 0.2, 300
 KEPT = 10
 
@@ -53,10 +53,10 @@ MOVED = "int main() {\n  int @`U u = rnew(unique_region) 5;\n  ufree(u);\n  retu
 WIDE_LETTERS = "int main() { /* äöü \U0001f600 */ return lost; }\n"
 ESCAPING = "int main() {\n  int *`main p = NULL;\n  Inner: {\n    int y = 2;\n    p = &y;\n  }\n  return *p;\n}\n"
 DIVIDED = "int main() {\n  int n = getchar() - 'x';\n  return 7 / n;\n}\n"
-# What steers a terminal or is not seen, and how it is shown.
+# Characters that control a terminal or are invisible, and the form in which the page shows them.
 HIDDEN = "\u200b\u200e\u061c\u00ad\u2028\u202e\u2066\ufeff\x1b\x7f"
 HIDDEN_SHOWN = "".join(f"\\x{byte:02x}" for byte in HIDDEN.encode("utf-8"))
-# What the keys of a text are, and what automatic indentation makes of it.
+# The keys that are typed, and the text that automatic indentation makes of them.
 TYPED = "int main() {\nif (1 < 2) {\nputchar('a');\n}\nreturn 0;\n}\n"
 INDENTED = "int main() {\n  if (1 < 2) {\n    putchar('a');\n  }\n  return 0;\n}\n"
 
@@ -196,7 +196,8 @@ class Person:
     def open(self, part="", fresh=True):
         """Opens the page, without what the browser has kept of it where it is to be fresh."""
         self.window.go("about:blank")
-        # What a page said of a server that is gone is none of this one.
+        # Errors that the page reported about an earlier, stopped server do not count for the
+        # current server.
         self.window.errors()
         self.window.go(self.server.address + part)
         self.begun()
@@ -291,14 +292,16 @@ class Person:
         self.want(f"{name}: what the browser complains of", [], self.window.errors())
 
 
-# What of the page reaches beyond the window's right side, where it does not scroll by itself.
+# Lists the elements of the page that reach beyond the window's right edge, outside any scrolling
+# part.
 TOO_WIDE = """
 const most = document.documentElement.clientWidth;
 const inScroll = it => it.closest('.editor, .scroll, .rule, #output, .skip') || !it.checkVisibility();
 const isWide = it => !inScroll(it) && it.getBoundingClientRect().right > most + 1;
 return [...document.body.querySelectorAll('*')].filter(isWide).map(it => it.tagName + '#' + it.id);
 """
-# The texts whose colour is too near to what is behind them; a disabled button apart.
+# Lists the texts whose colour has too little contrast with their background, except disabled
+# buttons.
 FAINT = """
 const numbers = colour => (colour.match(/[\\d.]+/g) || []).map(Number);
 const part = it => { const x = it / 255; return x <= 0.03928 ? x / 12.92 : ((x + 0.055) / 1.055) ** 2.4; };
@@ -318,11 +321,11 @@ for (let node = walker.nextNode(); node; node = walker.nextNode()) {
 }
 return found;
 """
-# Whether the focus is seen.
+# Returns true if the focused element has a visible outline.
 OUTLINED = "const s = getComputedStyle(document.activeElement); return s.outlineStyle !== 'none' && parseFloat(s.outlineWidth) >= 2"
-# Whether the page stands, with an editor of this kind.
+# Returns true if the page has loaded, with an editor of the given kind.
 BEGUN = "return typeof editor === 'object' && editor?.constructor.name === arguments[0] && about !== null"
-# The kind of each character of a text, as the page colours it.
+# Returns the kind of each character of a text, as the page colours the text.
 COLOURS = """
 const found = [];
 const cm = editor.cm;
@@ -896,7 +899,7 @@ PEOPLE = (
     is_narrow,
     comes_as_it_goes, ends_at_the_clock, lays_out, lists, links, translates, shows_texts, colours,
 )
-# What else the servers get for some of them.
+# The additional server options that some of the tests need.
 SERVED = {comes_as_it_goes: WITHOUT_END, ends_at_the_clock: (*WITHOUT_END, "--seconds", str(SHORT)), falls_back: ("--editor", "/nowhere")}
 
 

@@ -44,10 +44,12 @@ A_PATHS = ["tcc/tests/tests2/*.c", "tcc/examples/*.c", "cc65*/test/val/*.c", "cc
            "cc65*/samples/*.c", "emscripten*/tests/*.c", "emscripten*/tests/core/*.c", "emscripten*/tests/other/*.c",
            "emscripten*/tests/printf/*.c"]
 C_PATHS = ["bsd*/**/*.c", "9base*/**/*.c", "toybox*/toys/**/*.c", "moreutils*/*.c"]
-# Where a tool's headers lie beside it, and those of the system for what the translator's own do not declare.
+# The folders, relative to a tool, that may contain its headers; and the system's header folders, for
+# declarations that the translator lacks.
 BESIDE = [".", "..", "../include", "../..", "../../include", "../lib9"]
 SYSTEM = ["/usr/include/x86_64-linux-gnu", "/usr/include"]
-# A tool has a main function; the head of a function, for tools that are refused as a whole.
+# The pattern that finds a tool's `main` function; and the pattern of a function's head, for tools
+# that are rejected as a whole.
 MAIN, HEAD = re.compile(r"\b\w*main\s*\("), re.compile(r"^(?:\{|\w[^;=\n]*\)[^;=\n]*\{)", re.M)
 DIFFERENCES = os.path.join(ROOT, "tests", "c", "differences.txt")
 SECONDS = 10
@@ -87,7 +89,7 @@ def fetch(folder):
            "-o", f"Dir::State::Lists={os.path.join(folder, 'lists')}"]
     subprocess.run(apt + ["update"], cwd=folder, check=True)
     for package in SOURCES:
-        # What Debian changes is not needed, and may be missing where a mirror is late.
+        # The test does not need Debian's patches, and a mirror that is out of date may lack them.
         subprocess.run(apt + ["source", "--download-only", package], cwd=folder, check=False)
     subprocess.run(apt + ["download", "gcc-12-source"], cwd=folder, check=True)
     for archive in sorted(glob.glob(os.path.join(folder, "*.orig.tar.*"))):
@@ -99,13 +101,13 @@ def fetch(folder):
     for archive in glob.glob(os.path.join(folder, "usr", "src", "gcc-12", "gcc-*.tar.*")):
         subprocess.run(["tar", "xf", archive, "-C", folder, "--wildcards", "*/gcc/testsuite/gcc.c-torture/execute/*"], check=True)
     for games in glob.glob(os.path.join(folder, "bsd-games-*", "")):
-        # What its configure writes on a system of today.
+        # Writes the header that the package's configure script would write on a current system.
         with open(os.path.join(games, "include", "bsd-games.h"), "w", encoding="ascii") as file:
             file.write("#define HAVE_getloadavg 1\n#define HAVE_sig_t 1\n")
         for path in glob.glob(os.path.join(games, "**", "pathnames.h.in"), recursive=True):
             shutil.copyfile(path, path[:-len(".in")])
     for toybox in glob.glob(os.path.join(folder, "toybox-*", "")):
-        # Its headers are made by its own scripts.
+        # The package's own scripts generate its headers.
         subprocess.run("make defconfig > made.log 2>&1; NOBUILD=1 scripts/make.sh >> made.log 2>&1", shell=True, cwd=toybox, check=False)
 
 

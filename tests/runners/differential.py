@@ -36,13 +36,14 @@ import shrink
 from bounded import parts_of
 from language import values
 
-# A program whose evaluation takes more calls and iterations of loops than this is not used.
+# A test program is skipped if its evaluation takes more calls and loop iterations than this limit.
 STEPS_AT_MOST = 10_000
-# An instruction budget above the need of each program that is used.
+# An instruction budget that exceeds the need of every program in the test.
 STEPS_OF_IMAGES = "10000000"
-# The number of texts with one change that are checked for each program.
+# For each program, the number of texts with one change that are checked.
 BROKEN_TEXTS = 4
-# The number of kinds of differences for which a text is printed, and the seconds for minimizing it.
+# The number of kinds of differences for which the test prints a text, and the seconds spent on
+# minimizing that text.
 KINDS_SHOWN = 3
 SHRINKING = 60
 
@@ -160,7 +161,8 @@ class Tried:
         self.program, self.is_one = program, is_one
         names = ("main.cyc", "main.elf", "main", "main.json")
         self.source, self.image, self.built, self.report = (os.path.join(folder, name) for name in names)
-        # the first difference, its kind, the text that shows it, and the function that repeats the comparison for another text
+        # the first difference found, its kind, the text that shows it, and the function that repeats the comparison for
+        # another text
         self.fault, self.kind, self.text, self.again = None, None, None, None
 
     def want(self, what, expected, got, again):

@@ -23,7 +23,7 @@ from facts import content
 
 WIDTH = 120
 FOLDERS = ("crates", "docs", "tests", "examples", "lib", "bench", "editors", "tools")
-# Paths that the gate creates and a fresh clone lacks.
+# The pattern of paths that the gate creates and that a fresh clone lacks.
 MADE = re.compile(r"crates/\w+/out\b")
 ITEM = re.compile(r" *(- |\d+\. )")
 

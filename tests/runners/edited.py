@@ -29,7 +29,8 @@ import with_library
 
 LSP = os.path.join(suite.ROOT, "tools", "lsp")
 EXAMPLES = os.path.join(suite.ROOT, "examples")
-# Does what it is told with texts, and writes what it sees: a list of lists, for each text one.
+# The editor script performs the given actions on texts, and writes a list of observations for each
+# text.
 LUA = """
 local function read(path) local file = io.open(path) local text = file:read('*a') file:close() return vim.fn.json_decode(text) end
 local told = 0
@@ -235,12 +236,13 @@ int main() {
 }
 """
 PUSHED = "struct Int_list<`r> @`r push_int(region_t<`r> h, int value, struct Int_list<`r> *`r list)"
-# The memory that malloc gives in the fourth line is never freed.
+# In this text, the memory allocated by malloc in the fourth line is never freed.
 C_LEAKS = "#include <stdlib.h>\nint main(void)\n{\n  int *p = malloc(4);\n  int n = p[0];\n  return n;\n}\n"
 C_LEAK = "the memory of p is never freed\nhint: free(p) where it is no longer used"
 RING_FULL = "An int is added to a ring that is full."
 GIVEN = ["putchar", "getchar"]
-# Texts, and for each what is done and what is seen then.
+# Test texts, and for each text the actions performed and the observations expected after each
+# action.
 TRIED = (
     ("a refusal, its edit, and the text that is accepted then", "int main() {\n  int count = 3;\n  return coun;\n}\n", (
         (("diagnostics",), [[3, 10, 3, 14, 1, NOT_DECLARED.format("coun", "count")]]),
@@ -391,7 +393,7 @@ def seen_in_neovim(program, folder):
 
 def faults_in(steps, seen):
     wanted = [value for _, value in steps]
-    # an empty list and an empty table are one in Lua
+    # Lua does not distinguish an empty list from an empty table
     got = [[] if value == {} else value for value in seen]
     got = [plain(value) for value in got]
     return [] if got == wanted else [
@@ -436,7 +438,8 @@ BEGIN, END = request(1, "initialize", capabilities={}), (request(99, "shutdown")
 OPEN = note("textDocument/didOpen", textDocument={"uri": "file:///a", "languageId": "cyclone", "version": 1,
     "text": "int main() { return 0; }"})
 AT = {"textDocument": {"uri": "file:///a"}, "position": {"line": 0, "character": 5}}
-# The messages that are sent, the numbers of the errors that are answered, and the status of the server.
+# Test cases of the protocol: the messages sent, the error numbers in the answers, and the exit status
+# of the server.
 PROTOCOL = (
     ("a beginning and an end", (BEGIN, *END), [], 0), ("an end without shutdown", (BEGIN, note("exit")), [], 1), ("nothing", (), [], 1),
     ("no end", (BEGIN,), [], 1),
@@ -470,8 +473,8 @@ PROTOCOL = (
 )
 
 
-# A text with each of the three line ends, and its mistake: the name in the fourth line, as an editor counts, of which the third ends in a
-# carriage return alone.
+# A text with each of the three line endings. The text's mistake is a name in the fourth line, as an editor counts lines; the text's third
+# line ends in a carriage return only.
 ENDS = "int f() { return 1; }\r\n\nint g() { return 2; }\rint main() { return coun; }\n"
 
 
@@ -544,11 +547,12 @@ def faults_of_c(program):
     return [] if got == wanted else [suite.difference("what is told of C", wanted, got)]
 
 
-# Starts the server with a program that does not end its check.
+# Starts the language server with a program whose check never ends.
 SLOW = """f=$(mktemp) && trap 'rm "$f"' EXIT && chmod +x "$f"
 printf '#!/bin/sh\\ncase "$*" in *--json*) exec sleep 60;; esac\\n' > "$f"
 "$1" --program "$f" --seconds 1"""
-# Machines on which no text is checked: the program that is named, what comes before the server, and words of the reason.
+# Systems on which the server can check no text: the program it is told to use, the command that starts it, and words of
+# the reported reason.
 UNCHECKED = (
     ("without a program", "/nowhere/cyclone", "exec \"$@\"", "/nowhere/cyclone"),
     ("with few descriptors", None, "ulimit -n 9; exec \"$@\"", "Too many open files"),
@@ -568,8 +572,8 @@ def faults_of_unchecked(program, line, words):
     return faults
 
 
-# The messages of Visual Studio Code, one in a line: with `answer`, the parts that an answer must have, or with `diagnostics`, the parts of
-# those that are published after it.
+# The recorded messages of Visual Studio Code, one in a line. A field `answer` lists the parts that an answer must have, and `diagnostics`
+# the parts of the diagnostics published afterwards.
 TRACE = os.path.join(suite.TESTS, "edited", "vscode.jsonl")
 
 
@@ -633,7 +637,7 @@ def faults_of_protocol(program, messages, errors, status):
 # ---- names
 
 
-# The names that a program does not choose itself.
+# The predefined names, which a program does not choose itself.
 KEPT = {"main", *names.GIVEN, *names.GIVEN_EXCEPTIONS}
 
 
@@ -705,7 +709,8 @@ def texts(options):
 # ---- what editors make of what check says
 
 
-# A text with two refusals, or with two warnings, and what a list of places has of it: line, column, kind and words.
+# A text with two errors or two warnings, and the entries of the editor's location list: line, column, kind and
+# message.
 PLACED = (
     ("int half(int total) { return totla / 2; }\nint main() { int count = 1; return coun + 1; }\n", [
         [1, 30, "", "undeclared name `totla`"], [2, 36, "", "undeclared name `coun`"]]),
@@ -724,7 +729,8 @@ quitall!
 """
 
 
-# A text, and the text that vim has after gq over its first line. One that is refused stays.
+# A text, and the text that vim contains after `gq` on its first line. A rejected text stays
+# unchanged.
 LAID = (
     ("int main(){\n\n\nint x=3;\n\n\n\nreturn x;}\n", "int main() {\n  int x = 3;\n\n  return x;\n}\n"),
     ("int main(){return 7;}\n$\n", "int main(){return 7;}\n$\n"),

@@ -21,13 +21,15 @@ EXAMPLES = os.path.join(suite.ROOT, "examples")
 EDITORS = os.path.join(suite.ROOT, "editors")
 VIM = os.path.join(EDITORS, "vim")
 TEXTMATE = os.path.join(EDITORS, "textmate", "cyclone.tmLanguage.json")
-# Tokens that touch their neighbours, tokens that only begin like others, and comments of each form.
+# Unusual source texts: tokens that touch their neighbours, tokens that begin like other tokens, and
+# comments of each form.
 ODD = """int interest=0x1F+0X0a-017*08/12int%_1;/**//*/ if " ' # */return'\\''+'\\\\'-' '*'"';
 a-->b>>=c:=:d||e//*/ while
 `int`r int*`H x;newer new_ukeys new0 NULLs NULL/*
 struct 'a' // */ struct Point2 p?q@r 0x 0 1 x1 unique_region,heap_regions,regions region region_t
 """
-# The classes of bytes, and their names in each file: a group for vim, the beginning of a scope for TextMate.
+# The classes of source bytes, and the name of each class in the editor files: a group for vim, the beginning
+# of a scope for TextMate.
 KINDS = {
     "comment": ("cycloneComment", "comment."),
     "name": ("cycloneName", "variable.other."),
@@ -47,7 +49,7 @@ WORDS = {
     "constant": "NULL unique_region heap_region",
 }
 KIND_OF_WORD = {word: kind for kind, words in WORDS.items() for word in words.split()}
-# Writes the group of each byte, one line for each line of the text.
+# Vim script that writes the syntax group of each byte, one output line for each line of the text.
 VIM_SCRIPT = """
 set nomore encoding=latin1 synmaxcol=0 redrawtime=100000
 execute 'set runtimepath^=' . $FILES

@@ -21,18 +21,20 @@ from with_library import LIBRARY
 
 FOLDER = os.path.join(suite.ROOT, "examples")
 INDEX = os.path.join(FOLDER, "README.md")
-# A program listed in the index.
+# The pattern of a program's entry in the index.
 LISTED = re.compile(r"^\| `(\w+\.cyc)` \|", re.M)
 LANGUAGE = os.path.join(suite.ROOT, "docs", "LANGUAGE.md")
 FROM_C = os.path.join(suite.ROOT, "docs", "FROM_C.md")
 HINTS = os.path.join(suite.TESTS, "from_c.txt")
-# A program with a place for fragments, and a row of the table below it: its number, and the first code span of its last cell.
+# A program with a placeholder for fragments, and a row of the table below the program: the row's number, and the first code
+# span of its last cell.
 FRAME = re.compile(r"^(?:    .*\n)+", re.M)
 HERE = "/* here */"
 FRAGMENT = re.compile(r"^\| (\d+) \|.* \| (?:`` (.+?) ``|`([^`]+)`)[^|]*\|$", re.M)
-# The left cell of a row: the row's number, and the first code span of the cell.
+# The pattern of a row's left cell: the row's number, and the first code span of the cell.
 LEFT = re.compile(r"^\| (\d+) \| (?:`` (.+?) ``|`([^`]+)`)", re.M)
-# A program in a document: indented lines, with empty lines between, and its verdict in the first line.
+# A program in a document: indented lines, with empty lines between them; the first line states the
+# program's verdict.
 SHOWN = re.compile(r"^    // (done|fault \d+ at \d+:\d+)\n(?:    .*\n|\n(?=    ))*", re.M)
 WITH = ["--with", *LIBRARY]
 PARTS = ("standard output", "last line on standard error", "exit status")

@@ -20,9 +20,10 @@ import stores
 import wrong
 
 FOLDERS = (("src", ".rt"), ("specs", ".antt"), ("proofs", ".antt"))
-# Numbers that sentences spell as words.
+# The number words that sentences use for numbers.
 WORDS = "no one two three four five six seven eight nine ten eleven twelve thirteen fourteen fifteen sixteen".split()
-# The fields in the first lines of a crate's document, in this order; a crate of tests or figures may lack some.
+# The fields in the first lines of a crate's document, in this order. The document of a crate of tests or
+# figures may lack some of these fields.
 FIELDS = ("Definitions", "Contract", "Proved")
 
 Head = collections.namedtuple("Head", ("what", *FIELDS))
@@ -83,7 +84,7 @@ def rows_of_sizes():
     yield "all", *(f"{number:,}" for number in total)
 
 
-# A table, by its first line, and its rows.
+# A table in a document: the first line of the table, and its expected rows.
 Table = collections.namedtuple("Table", "document head rows")
 TABLES = [
     Table("docs/ARCHITECTURE.md", "| Crate | What it is | Proved | Definitions (`specs/`) | Contract |", rows_of_architecture),
@@ -209,12 +210,13 @@ def faults_of(path, text):
               for number, (one, other) in enumerate(zip(wanted, got), 1) if one != other]
     if len(wanted) != len(got):
         faults.append(f"it has {len(got)} lines, and would have {len(wanted)}")
-    # A missing or extra line makes all following lines differ.
+    # After a missing or extra line all following lines differ, so only the first three faults are
+    # returned.
     return faults[:3]
 
 
-# The crates whose definitions are compared with a public source, the form in which a first comment names one, and the files without
-# definitions.
+# The crates whose definitions are compared with a public source, the pattern of a source's name in a file's first comment, and the
+# files without definitions.
 DEFINING = ("cyc_syntax", "cyc_types", "cyc_meaning", "cyc_isa", "cyc_elf", "cyc_store", "cyc_machine_model", "cyc_machine")
 SOURCE = re.compile(r"own\s+choice|[Mm]anual|Grossman|System\s+V|MIPS32\s+architecture|C\s+and\s+Cyclone")
 DEFINES_NOTHING = re.compile(r"(Lib|\w*View|\w*Examples|Readings|[a-z_]+)\.antt")

@@ -20,7 +20,8 @@ import termios
 import suite  # first: it makes the references and the generators importable
 import run
 
-# Words of an image that prints its input and returns 0, and of one that requests two bytes and returns their sum.
+# The machine words of an image that prints its input and returns 0, and of an image that requests two bytes and
+# returns their sum.
 ECHO = "24020001 0000000c 04400005 00402021 24020002 0000000c 1000fff9 00000000 24020003 24040000 0000000c"
 SUM = "24020001 0000000c 00408021 24020001 0000000c 00502021 24020003 0000000c"
 GIVEN = b"hi"

@@ -15,8 +15,8 @@ BENCH = os.path.join(suite.ROOT, "bench")
 sys.path.insert(0, BENCH)
 import pairs as bench_pairs
 
-# Three samples during a gate, a second apart. They contain two checks of a crate side by side, one with a helper process, and a wrong body.
-# They also contain a proof that ends, another one whose parent has ended, and an unrelated check.
+# Three samples of the processes during a gate, one second apart. The samples contain two checks of one crate in parallel, one of them with
+# a helper process, and a wrong body. The samples also contain a proof that ends, a proof whose parent has ended, and an unrelated check.
 LOOKS = """\
 100 1 5 0.2 python3 /usr/local/bin/rt ci
 101 100 10 3.0 /opt/bin/rattle build --crate-name low src/lib.rt -o /x/low.rlib
@@ -47,8 +47,8 @@ Seconds of processors, and in brackets those on the clock while such a check ran
 The whole gate: 1.0 processor minutes in 0.5 minutes, on 4 processors, 2026-01-01."""
 
 
-# The second sample has no memory figures; the others give the peaks in MB. The two processes of the proof of `low` take more than its
-# tests.
+# The process sizes of a sample, in bytes, and the memory peaks expected in MB; the second sample has no sizes. The two processes of
+# the proof of `low` take more memory than its tests.
 SIZES = {101: 600 << 20, 102: 200 << 20, 103: 500 << 20, 106: (900 << 20) + 1, 900: 5000 << 20}
 MEMORY = "low 800\ntop 901\n"
 
@@ -69,8 +69,8 @@ def is_table_right():
     return got == wanted
 
 
-# Peaks of crates, and how many crates are proved in parallel with so many processors and megabytes. The crate `new` was not measured. The
-# crates of a chain are never proved in parallel.
+# The memory peaks of crates, and the number of crates expected to be proved in parallel for a number of processors and megabytes. The
+# crate `new` has no measured peak. The crates of a dependency chain are never proved in parallel.
 PEAKS = {"low": 1000, "middle": 2000, "top": 4000}
 CHAIN = {"low": [], "middle": ["low"], "top": ["middle"], "beside": ["low"]}
 SIDE_BY_SIDE = [
@@ -92,7 +92,7 @@ def are_jobs_right():
     return right and jobs.jobs_here(jobs.peaks(), {}) >= 1
 
 
-# The files of a finished gate, and variants of a part for which no table is published.
+# The output of a finished gate, and variants of one part for which no table is published.
 GATE_LEFT = f"""{COSTS}
 The commit: Words wrap
 1234 passed, 0 failed
@@ -111,8 +111,9 @@ def is_gate_published():
     return right
 
 
-# Stand-ins for the program and for gcc when bench/pairs.py compiles and runs pairs. An image is its number of instructions, the last line
-# of its run, and its output. A C source file has one image for each level, after the level's name.
+# Stand-ins for the compiler and for gcc when bench/pairs.py compiles and runs pairs. A stand-in image contains its number of
+# instructions, the last line of its run, and its output. A stand-in C source file has one image for each optimisation level, after the
+# level's name.
 PAIRS_PROGRAM = """#!/bin/sh
 case "$1" in
 compile) cp "$2" "$4";;
@@ -131,8 +132,8 @@ sed -n "s/^$1 //p" "$source" > "$image"
 """
 PAIRS_GXX = PAIRS_GCC.replace("$1", "checked")
 
-# The programs in Cyclone, with -O0, with -O1, and with all tests if that differs, of equal pairs, and of others. Each line of an image ends
-# at a `|`.
+# Stand-in programs, for equal and unequal pairs: the image in Cyclone, with -O0, with -O1, and with all checks if that differs. Each line
+# of an image ends at a `|`.
 EQUAL_PAIRS = {
     "one": ("9|returned 7|a|b|", "3|returned 7|a|b|", "1|returned 7|a|b|"),
     "two": ("1001|returned 0|c|", "3003|returned 0|c|", "1001|returned 0|c|"),
@@ -148,7 +149,8 @@ UNEQUAL_PAIRS = {
     "has_no_end": ("2000000000|returned 7|", "2000000000|returned 7|", "2000000000|returned 7|"),
 }
 
-# 9 / 3 is 3 and 1,001 / 3,003 is a third, so their geometric mean is 1; that of 9 / 1 and 1,001 / 1,001 is the square root of 9.
+# The ratio 9 / 3 is 3 and the ratio 1,001 / 3,003 is a third, so their geometric mean is 1. The geometric mean of 9 / 1 and
+# 1,001 / 1,001 is the square root of 9.
 PAIRS_TABLE = """\
 instructions that equal programs execute, compiled here and by gcc
 | Program | `cyclone compile` | `gcc -O0` | `gcc -O1` | checked -O1 | To `-O0` | To `-O1` | To checked -O1 |
@@ -173,7 +175,8 @@ def write_pair(folder, name, images):
 def are_words_counted(folder):
     """Returns true if exactly the words of an image's loaded code are counted."""
     header = b"\0" * 28 + struct.pack(">I", 52) + b"\0" * 10 + struct.pack(">HH", 32, 4) + b"\0" * 6
-    # Notes, code, data, and code again: kind, offset, two addresses, lengths in the file and in memory, flags and alignment.
+    # The segments of a test image: notes, code, data, and code again. Each has a kind, an offset, two addresses, lengths in
+    # the file and in memory, flags and alignment.
     segments = [(4, 0, 0, 0, 8, 8, 4, 4), (1, 0, 0, 0, 40, 40, 5, 4), (1, 0, 0, 0, 16, 16, 6, 4), (1, 0, 0, 0, 8, 8, 1, 4)]
     image = os.path.join(folder, "words.elf")
     with open(image, "wb") as file:
@@ -210,7 +213,8 @@ def are_pairs_right(folder):
     return right
 
 
-# A shape of texts, its cost for a number of tokens if the usual text costs 1,000 for each token, the last line, and the expected faults.
+# Test cases: a shape of texts, its cost by number of tokens (the usual text costs 1,000 for each token), the last line of the output,
+# and the expected faults.
 GROWING, BEHIND_MUCH = shapes.Shape("a b ", "c d # ", "e"), shapes.Shape("a " * 500, "c ", "e")
 WITH_FAULT = shapes.Shape("", "c ", "e", checked="fault 20")
 COSTS_OF_TEXTS = [
@@ -225,7 +229,8 @@ COSTS_OF_TEXTS = [
     (WITH_FAULT, lambda tokens: 10500 * tokens, "fault 20 at 1:1", ["for each part"]),
     (WITH_FAULT, lambda tokens: 1000 * tokens, "done", ["the last line"]),
     (WITH_FAULT, lambda tokens: 2 * tokens * tokens, "fault 20 at 1:1", ["twice as long"]),
-    # The part before the forms does not grow, and each token is charged its share of that part's cost.
+    # The part of a text before the repeated forms does not grow, and each token is charged its share
+    # of the cost of that part.
     (BEHIND_MUCH, lambda tokens: 1000 * tokens + 400_000, "done", []),
     (BEHIND_MUCH, lambda tokens: 1000 * tokens + 600_000, "done", ["for each part"]),
     (BEHIND_MUCH, lambda tokens: 500_000 + (tokens - 500) ** 2, "done", ["twice as long"]),

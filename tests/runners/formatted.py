@@ -19,7 +19,7 @@ import makers
 from language import texts
 
 EXAMPLES = os.path.join(suite.ROOT, "examples")
-# A part of a text that this test changes: a run of blanks, a comment, or a token.
+# A part of a text that the formatter test changes: a run of blanks, a comment, or a token.
 PART = re.compile(
     r"(?P<blanks>[ \t\r\n]+)|(?P<comment>/\*.*?\*/|//[^\n]*)"
     r"|(?P<other>'(?:\\.|[^'\n])'|`?[A-Za-z_0-9]+|:=:|&&|\|\||[=!<>]=|<<|>>|->|.)",

@@ -31,19 +31,20 @@ import image_makers
 import in_trees
 
 MINUTES = 1
-# The maximum size of a text or an image; it also limits the number of copies of a part.
+# The maximum size of a text or an image in bytes; the next limit is the number of copies of a part.
 MOST_BYTES = 200_000
 MOST_COPIES = 3_000
 MOST_CHANGES = 6
 SECONDS, MEMORY = 0.5, 512 * 1024 * 1024
-# The maximum size of a written file in bytes: a write beyond it fails.
+# The maximum size of a written file in bytes: a write beyond this size fails.
 MOST_WRITTEN = 16 * 1024 * 1024
-# The time limit of a command in seconds, and its address space in MB.
+# The time limit of a command in seconds.
 WAITED = 20
 STEPS = "200000"
-# The statuses of faults, and those that a program of this language may return.
+# The exit statuses of faults, and the exit statuses that a compiled program may return.
 REFUSED, OWN = range(1, 9), range(0, 256)
-# `qemu-x86_64` loads a position-independent program at this address; the libraries are above it.
+# `qemu-x86_64` loads a position-independent program at this address; the program's libraries are at
+# higher addresses.
 BASE, SIZE = 0x4000000000, 0x10000000
 TRACED = re.compile(rb"^IN:.*\n0x([0-9a-f]+):", re.M)
 TOKENS = (
@@ -222,7 +223,7 @@ def work(pool, lane, seed):
             kind = rng.choice(("text", "text", "image"))
             with pool.lock:
                 seeds = list(pool.seeds[kind])
-            # The newest inputs reached new code, so they are mutated more often.
+            # The newest inputs reached new code, so the fuzzer mutates them more often.
             first = max(0, len(seeds) - 50) if rng.random() < 0.5 else 0
             try_one(pool, kind, changed(seeds[rng.randrange(first, len(seeds))], seeds, rng, TOKENS), rng, lane)
     except Exception as problem:  # a lane that ends is a fault, and must be reported

@@ -30,17 +30,18 @@ import threading
 import time
 from collections import namedtuple
 
-# The seconds between two samples of the processes.
+# The number of seconds between two samples of the processes.
 EVERY = 1.0
-# The numbers of samples after which the table so far is written, and memory is sampled.
+# The table of costs is written after every LOOKS_A_TABLE samples, and memory is measured after
+# every LOOKS_A_SIZE samples.
 LOOKS_A_TABLE, LOOKS_A_SIZE = 20, 4
 PARTS = ("proof", "tests", "wrong bodies")
-# The parts that `rt ci` runs in parallel, whose memory is recorded.
+# The parts that `rt ci` runs in parallel; their memory use is recorded.
 MEASURED = PARTS[:2]
 TICK = os.sysconf("SC_CLK_TCK")
 
-# A process: its number, its parent's number, its start time in ticks, the processor seconds of it and of its awaited children, and its
-# command line.
+# A process: its number, its parent's number, its start time in ticks, the processor seconds of the process and its awaited children,
+# and its command line.
 Process = namedtuple("Process", "pid parent started seconds words")
 
 
@@ -86,7 +87,8 @@ def part_of(words):
     crate = words[words.index("--crate-name") + 1]
     if "--test" in words:
         return crate, PARTS[1]
-    # A proof writes a library or a checked program, and the check of a wrong body writes nothing.
+    # A proof writes a library or a checked program, whereas the check of a wrong body writes no
+    # file.
     return crate, PARTS[0] if "-o" in words else PARTS[2]
 
 
@@ -95,12 +97,13 @@ class Account:
 
     def __init__(self, root):
         self.root = root
-        # the processes below the first one at the last sample; process numbers are reused, but not with the same start time
+        # the processes below the first one at the last sample; a process number may be reused, but not with the same start
+        # time
         self.known = set()
-        # for each crate and part: the processor seconds, by process, and the wall-clock seconds
+        # for each crate and part: the processor seconds of each process, and the elapsed seconds
         self.spent = {}
         self.lasted = {}
-        # the most bytes that the processes of a check were seen to take together
+        # for each check: the largest total memory, in bytes, that its processes took in any sample
         self.peaks = {}
 
     def take(self, processes, since, size=None):
@@ -115,7 +118,8 @@ class Account:
             if part and size:
                 sizes[part] = sizes.get(part, 0) + size(it.pid)
             above = by_number.get(it.parent)
-            # A check's own helper processes have the same command line, and are counted with it.
+            # A check's own helper processes have the same command line as the check, and are
+            # counted with the check.
             if part and not (above and part_of(above.words) == part):
                 self.spent.setdefault(part, {})[it.pid, it.started] = used(it, below)
                 seen.add(part)
@@ -241,7 +245,7 @@ def table(wholes, cores, day):
 
 
 MEMORY_HEAD = """\
-# The most memory that the proof of each crate took, in MB of 2^20 bytes, as the gate measured it. tools/jobs.py reads it, and
+# The peak memory of each crate's proof, in MB of 2^20 bytes, as the gate measured it. tools/jobs.py reads this table, and
 # `tests/runners/gate_table.py publish` writes it.
 """
 
@@ -263,7 +267,8 @@ def commit():
 
 ROOT = os.path.join(os.path.dirname(os.path.abspath(__file__)), "..", "..")
 FIGURES, MEMORY = os.path.join(ROOT, "docs", "FIGURES.md"), os.path.join(ROOT, "tests", "memory.txt")
-# The section of docs/FIGURES.md about a gate: from its heading to the end of the table.
+# The pattern of the section of docs/FIGURES.md about a gate: from the section's heading to the end
+# of its table.
 PUBLISHED = re.compile(r"(?<=\n## The gate\n\n).*?\n(?=\n(?!\|)[^|]*\n## )", re.S)
 SAID = re.compile(r"""(?P<table>\| \| Proof .*?)\n
 Seconds of .*

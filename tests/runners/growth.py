@@ -27,20 +27,21 @@ import shapes
 
 TOKENS = 15_000
 MOST_GROWTH = 2.1
-# In MB of 2^20 bytes; and in bytes, the maximum of 22 messages.
+# The maximum memory of a command in MB of 2^20 bytes, and the maximum output on standard error in
+# bytes: that of 22 messages.
 MOST_MEMORY, MOST_SAID = 256, 22 * 4096
-# The minimum number of forms in a text.
+# The minimum number of repeated forms in a generated text.
 FORMS = 4
-# The processor seconds after which a command is abandoned.
+# A command is stopped after this number of processor seconds.
 SECONDS = 120
 COUNTER = ["valgrind", "--tool=cachegrind", "--cache-sim=no", f"--cachegrind-out-file={os.devnull}"]
 COUNTED = re.compile(r"I +refs: +([\d,]+)")
 BEHIND = {"check": [], "compile": ["-o", "image"], "run": [], "disasm": []}
 KINDS = {"Text": shapes.TEXTS, "Image": image_shapes.IMAGES, "Loop": image_shapes.LOOPS}
 
-# The cost of a command on a file: instructions (None if it did not end), the peak of memory in MB, the bytes and the last line on standard
-# error, and the size of the image that it made. And the cost of a shape's files: the ratio to the usual file, and the ratio to half as many
-# parts.
+# `Cost` is the cost of a command on a file: instructions (None if the command did not end), peak memory in MB, and the size of the image
+# made. `Cost` also has the number of bytes and the last line on standard error. `Figures` is the cost of a shape's files: the ratio to the
+# usual file, and the ratio to half as many parts.
 Cost = collections.namedtuple("Cost", ("instructions", "memory", "length", "said", "made"))
 Figures = collections.namedtuple("Figures", ("share", "growth", "cost"))
 
@@ -57,7 +58,7 @@ class Meter:
             with open(os.path.join(folder, "given"), "wb") as file:
                 file.write(content)
             log = os.path.join(folder, "log")
-            # the limits of a run are no options of a listing
+            # only `run` takes the options for a run's limits; the listing command does not
             words = [self.program, command, "given", *(options if command == "run" else ()), *BEHIND[command]]
             ended([*self.counter, f"--log-file={log}", *words], folder)
             with open(log, encoding="utf-8") as file:

@@ -13,7 +13,8 @@ from sources import stands_on
 
 LONG_FILE, LONG_IMPORT = 600, 300
 CRATES = os.path.join(suite.ROOT, "crates")
-# A name with its type, at the left margin or in a module with parameters; continuation lines are indented further.
+# The pattern of a definition's name and type, at the left margin or in a module with parameters; continuation
+# lines are indented further.
 SIGNATURE = re.compile(r"^( {0,2})(pub )?([A-Za-z_][\w'-]*) : (.*(?:\n(?:\1 +\S.*|\s*))*)", re.M)
 WORD = re.compile(r"[^\W\d][\w'-]*")
 IMPORT = re.compile(r"^(?:ghost )?use (.+)$", re.M)
@@ -49,11 +50,12 @@ def lemmas():
         if path.endswith("Answers.antt"):
             continue
         for match in SIGNATURE.finditer(without_comments(text)):
-            # A parameter of a module is declared and has no equation.
+            # A parameter of a module is declared but has no defining equation.
             if not re.search(rf"^{match[1]}{re.escape(match[3])}(?![\w'-])(?! :)", text[match.start():], re.M):
                 continue
             lines = match[4].split("\n")
-            # Removes the equations of the last declaration; lines after an empty line belong to the next one.
+            # Removes the equations of the last declaration; the lines after an empty line belong to the next
+            # declaration.
             kept = [lines[0]]
             for line in lines[1:]:
                 if not line.strip() or re.match(rf" *{re.escape(match[3])}\b.* = ", line):
@@ -126,7 +128,7 @@ def without_lemma(text, name):
     return "\n".join(kept)
 
 
-# Files that are read on their own: worked examples, and lemmas that laws name.
+# Files whose lemmas need not be used by any other file: worked examples, and lemmas that laws name.
 READ_ALONE = re.compile(r"Examples|examples/|Programs\.antt|Texts\.antt|/laws/|KeyFields|LaterRegions|ReadsFirst|/(Answers|Invariants|Proof)\.antt")
 
 
@@ -178,7 +180,8 @@ def files_with(word):
     return sum(bool(re.search(rf"\b{word}\b", text)) for text in sources().values())
 
 
-# Additions to the language, each with an existing form and the name of its variant.
+# Kinds of additions to the language, each with an existing form as an example and the variant name
+# of that form.
 FORMS = (
     ("a construct that a typing rule gives a meaning", "`char(e)`", "LowByteOf"),
     ("an operator", "`~`", "Complement"),

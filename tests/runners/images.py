@@ -38,20 +38,23 @@ import objdump
 import stores
 from with_library import whole
 
-# A run of a thousand steps takes some milliseconds of processor time, and so does a listing of LISTED_AT_MOST words.
+# A run of a thousand steps takes a few milliseconds of processor time, and so does a listing of LISTED_AT_MOST
+# words.
 SECONDS = 20
 LISTED_AT_MOST = 5_000
-# The number of images that one process tries in sequence.
+# The number of images that one test process tries, one after another.
 SHARE = 25
 EXAMPLES = os.path.join(suite.ROOT, "examples")
-# The tools with which instructions are compared, in addition to the reference.
+# The tools whose results for instructions are compared with the program's, in addition to the
+# reference interpreter.
 QEMU = "qemu-mips"
 BESIDE = (QEMU, objdump.OBJDUMP)
 INSTRUCTIONS_AT_MOST = 10_000_000
 CAUSES = [
     "reserved instruction", "unpredictable", "misaligned", "no such address", "dead cell", "write to text", "break", "bad service",
 ]
-# The documented last lines, by command, with their status; None stands for the number in the line.
+# The documented last lines of each command, with the exit status of each. None means that the
+# number in the line determines the status.
 NAMED = {
     "run": [
         (r"returned (-?\d+)", None), (r"uncaught \d+ -?\d+", 4), ("full", 5), (f"trap ({'|'.join(CAUSES)})", 6), ("budget spent", 7),

@@ -26,11 +26,12 @@ JUDGE = os.path.join(suite.ROOT, "tools", "judge")
 MANUAL = os.path.join(suite.ROOT, "docs", "cyclone-judge.1")
 HERE = os.path.join(suite.TESTS, "judged")
 INPUTS = os.path.join(HERE, "lines")
-# The clock of what has to come to its own end.
+# The time limit, in seconds, for a process that must end by itself.
 LONG = suite.CLOCK * suite.SECONDS
 LIMITS = ["--steps", "300000", "--output", "5000", "--calls", "200", "--pages", "16", "--seconds", str(LONG)]
 COUNT = 2000
-# A stand-in for the program: it makes an image of any text. A run prints its limits, does what a script says, or reports the image.
+# A stand-in for the program; it makes an image of any source text. When run, the stand-in prints its limits, follows a script in
+# the image, or reports the image.
 STAND_IN = """#!/bin/sh
 case "$1" in
 compile) cp "$2" "$4"; echo done >&2;;
@@ -40,10 +41,11 @@ elif [ -s image.elf ]; then cat image.elf > "$2"; else ulimit -v; ulimit -S -t; 
 echo returned 0 >&2;;
 esac
 """
-# A script that does it: it waits as on a busy machine, and another ends as where there is no memory.
+# Scripts for the stand-in: one that sleeps as on a busy machine, and one that ends as if memory ran
+# out.
 WAITS = "sleep {}\necho 'REPORT' > \"$1\"\necho returned 0 >&2\n"
 NO_MEMORY = b"sleep 0\necho no memory >&2\nexit 8\n"
-# A whole report, and texts that are none.
+# A complete report, and texts that are not reports.
 REPORT = (
     '{"end":"returned","value":0,"exception":null,"cause":null,"image_fault":null,"limit":null,"instructions":1,"counter":0,'
     '"most_calls":null,"most_pages":null,"read":0,"written":0}')
@@ -56,14 +58,18 @@ NUMBERS = [
     ("--memory", "1.5"), ("--memory", "-1"), ("--output", "-1"), ("--output", "9" * 5000), ("-j", "0"), ("-j", "\udcff"),
 ]
 ERROR = "a number from"
-# The exit statuses of the judge for a fault of the machine, a wrong name, and a program that is not right.
+# The exit statuses of the judge for an internal fault, a wrong command line, and a submitted program that
+# is not right.
 INTERNAL, WRONGLY_ASKED, NOT_RIGHT = 75, 2, 3
 STEPS = ["--steps", "1000000000000"]
-# Two functions with a mistake each: the first at the 30th byte of the first line, the second at the 36th of the second.
+# Two functions with one mistake each: the first mistake is at the 30th byte of the first line, the second at the 36th
+# byte of the second line.
 TWO_MISTAKES = b"int half(int total) { return totla / 2; }\nint main() { int count = 1; return coun + 1; }\n"
-# A pointer is freed at 3:9 and used at 4:11.
+# A test program that frees a pointer at line 3, column 9, and uses the freed pointer at line 4,
+# column 11.
 USED_AFTER = b"int main() {\n  int @`U one = rnew(unique_region) 1;\n  ufree(one);\n  return *one;\n}\n"
-# Throws on a line, with 40 calls of `deeper` and that of `start` under way.
+# A test program that throws an exception while 40 calls of `deeper` and one call of `start` are
+# active.
 THROWN = b"""datatype exn { Other; Failed(int); };
 int deeper(int n) {
   if (n == 0) throw new Failed(-7);
@@ -221,7 +227,8 @@ def try_ends(room):
     yield "no place in an image", None, room.judge("--images", os.path.join(room.submissions, "trap.elf"))["runs"][0]["where"]
 
 
-# Counts the line ends of its input, and in C another way to say so that is wrong by one.
+# A C program that counts the line ends of its input. The tests also run a copy whose count is wrong
+# by one.
 COUNTS_IN_C = b"""#include <stdio.h>
 int main(void)
 {
@@ -528,7 +535,8 @@ def shown_lines():
     return [next(it for it in commands if it.startswith(first)) for first in ("find submissions ", "parallel ")]
 
 
-# Names of submissions that are told apart by no other part of their paths, or that a script may stumble over.
+# File names of submissions that differ only in one part of their paths, or that contain characters special to
+# a shell.
 NAMES = (
     "alice/main.cyc", "bob/main.cyc", "x" * 247 + ".cyc", "bob/" + "x" * 247 + ".cyc", "a b.cyc", "a\nb.cyc", "a\tb.cyc", "q'u\"o.cyc",
     "b\\s.cyc", "{}.cyc", "{= exit =}.cyc", "$(touch pwned).cyc", "-j.cyc", "*.cyc", "\udcff.cyc", "ö.cyc",
@@ -606,7 +614,8 @@ def try_class(room, count):
     lists, script = shown_lines()
     over = script.replace("parallel ", "parallel --sshloginfile machines ")
     first = go_on(folder, lists + script, count // 4, [signal.SIGTERM])
-    # A submission that comes meanwhile changes nothing: the list is kept.
+    # A submission that arrives during the run has no effect, because the list of submissions is
+    # fixed at the start.
     room.write(os.path.join(folder, "submissions", "!.cyc"), b"int main() { return 0; }")
     second = go_on(folder, script, count // 2, [signal.SIGTERM] * 2)
     before = len(lines_of(os.path.join(folder, "log")))

@@ -14,9 +14,9 @@ import sys
 
 import suite
 
-# Files whose names the prover gives, and names of no lemmas.
+# File names that the prover prescribes; these are not names of lemmas.
 GIVEN = ("Answers.antt", "Invariants.antt", "Proof.antt", "Lib.antt")
-# A name with its statement, which continues in the following indented lines.
+# The pattern of a lemma's name with its statement, which continues in the following indented lines.
 LEMMA = re.compile(r"^(?:pub )?([^\s:]+) : ((?:.|\n(?=[ \t]+\S))*)", re.M)
 COMMENT = re.compile(r"^ *--.*\n", re.M)
 

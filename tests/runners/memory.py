@@ -24,13 +24,16 @@ import suite
 
 MB = 1024 * 1024
 PAGES = "65536"
-# A loop allocates a block of 1,000 words in the heap, and writes its address to its first word.
+# The machine code of a loop that allocates heap blocks of 1,000 words and writes each block's
+# address to its first word.
 BLOCKS = "24040001 240503e8 24020009 0000000c ac420000 1000fffa 00000000"
-# A text that opens regions until no page is left, and the place where that happens.
+# A program that opens regions until the heap has no page left, and the source position where memory
+# runs out.
 REGIONS = "int main() {\n  while (1) { let NewDynamicRegion {<`k> key} = new_ukey(); }\n  return 0;\n}\n"
 PLACE = ":2:38: "
 ENOUGH, TOO_LITTLE = 304, 256
-# The memory in MB for any image: the program's own code and stack, and a store of 1,024 pages.
+# The memory in MB that any image needs: the program's own code and stack, and a heap of 1,024
+# pages; and the processor seconds.
 ANY, PROCESSOR_SECONDS = 16, 2
 # The additional memory in MB for loading an image that fills the whole text range.
 LOADED = 160

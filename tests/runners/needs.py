@@ -14,19 +14,21 @@ import instruction_makers
 HERE = os.path.dirname(os.path.abspath(__file__))
 BENCH = os.path.join(suite.ROOT, "bench")
 MACHINE = os.path.join(suite.TESTS, "references", "machine.py")
-# The gate's own scripts, which are tried in a copy of the tree, since they write files.
+# The gate's own scripts; they are tested in a copy of the repository, because they write files.
 OF_GATE = ("gate.sh", "install.sh", "suites.sh", "suites.txt", "tools.sh", "tools.txt")
-# Commands of these scripts that every system has.
+# Commands that the gate's scripts use and that every system has.
 USUAL = "bash cat cp cut dirname env grep head id make mkdir mktemp rm sed sh tail tee".split()
 NOTHING = "#!/bin/sh\n"
-# A package manager without packages; one that claims to install them; and one that installs a stand-in.
+# Three stand-ins for a package manager: one without packages, one that only claims to install them, and
+# one that installs a stand-in for vim.
 HAS_NONE = '#!/bin/sh\necho "$1" >> "$CALLED"\n[ "$1" = update ]\n'
 SAYS_SO = '#!/bin/sh\necho "$1" >> "$CALLED"\n'
 HAS_VIM = SAYS_SO + '[ "$1" = update ] || cp "$(command -v readelf)" "${0%/*}/vim"\n'
 PYTHON = f'#!/bin/sh\nexec "{sys.executable}" "$@"\n'
 AS_ROOT = '#!/bin/sh\nexec "$@"\n'
 
-# A stand-in for Python in the gate: maps a test's name to its output. The last five do not pass.
+# A stand-in for Python in the gate, which maps each test's name to an output. The last five outputs
+# do not count as passed.
 SAYING = """#!/bin/sh
 case "$*" in
 */gate_table.py\\ measure*) shift 5; exec "$@";;
@@ -40,10 +42,11 @@ case "$*" in
 *) echo "1 passed, 0 failed";;
 esac
 """
-# 1 of the proofs, 10 of the cases, 3 of the codes, 4 of memory, 1 of each of twenty-two others; the failures are those above.
+# The total of the stand-in's counts: 1 for the proofs, 10 for the cases, 3 for the codes, 4 for memory, and 1 for each of
+# twenty-two other tests. The failures are those of SAYING.
 ADDED = "43 passed, 5 failed"
 
-# A case file, and its fault.
+# Case files with a mistake, and the fault that the reader of case files reports for each.
 BAD_CASES = {
     "": "there is no case",
     "# a remark\n": "there is no case",
@@ -57,14 +60,14 @@ BAD_CASES = {
     "== a\nlet WORD = b\n> silent\nends 0\n== c\n> say $WORD\nout b\nends 3 said\n": "6: nothing sets $WORD",
     "== a\n$\nends 0\n": "2: a line `$ WORDS` names a command",
 }
-# Values that differ, and the expected excerpt around the first difference.
+# Pairs of different values, and the expected excerpt around their first difference.
 FAR = b"a" * 300 + b"b" + b"c" * 300, b"a" * 300 + b"d" + b"c" * 300
 ABOUT = "at 300 wanted b'" + 30 * "a" + "b" + 29 * "c" + "'", "got    b'" + 30 * "a" + "d" + 29 * "c" + "'"
 PARTINGS = [
     (*FAR, ABOUT), ((FAR[0], "", 0), (FAR[1], "", 0), ABOUT), ([b"x", FAR[0]], [b"x", FAR[1]], ABOUT), ("a" * 60, "b" * 60, ()),
     ("a" * 70, "a" * 71, (f"at 70 wanted '{30 * 'a'}'", f"got    '{31 * 'a'}'")), ((1,), (1, 2), ("1 parts, and 2 in place of them",)),
 ]
-# Scripts, and whether their checkers find no fault.
+# Test scripts, which their checkers accept or reject.
 SCRIPTS = {
     "good.sh": '#!/bin/sh\necho "$1"\n', "good": "#!/usr/bin/env python3\nprint(1)\n", "none.txt": "cd $1\n", "out/made.sh": "cd $1\n",
     "bad.sh": "#!/bin/sh\ncd $1\n", "bad": "#!/bin/sh\nls $1\n", "bad.py": "import os\n", ".ci/bad": "#!/usr/bin/env bash\ncd $1\n",

@@ -21,9 +21,11 @@ import tempfile
 import suite  # first: it makes the references and the generators importable
 import run
 
-# The program's crate, which has functions of its own with the same names.
+# The crate of the command-line program, which has its own functions with the names of the public
+# calls.
 PROGRAM = "cyclone"
-# Each call: its result without memory, and the case files that are likely to exercise it.
+# For each public call: its result when memory runs out, and the case files that are likely to
+# exercise the call.
 TEXTS = {
     "run_phases": ("Fault::memory()", ["texts"]),
     "accept": ("Fault::memory()", ["bounds"]),
@@ -46,7 +48,7 @@ IMAGES = {
 CALLS = {**TEXTS, **IMAGES}
 NUMBERS = {name: number for number, name in enumerate(IMAGES, 1)}
 NO_CALL = "none"
-# The byte of an image's header that contains the switch: the last byte of the flags.
+# The byte of an image's header that contains the planted switch: the last byte of the flags.
 BYTE = 39
 
 
@@ -64,7 +66,8 @@ def plant(tree):
         with open(path, encoding="utf-8") as file:
             text = file.read()
         for name, (answer, _) in {} if f"/{PROGRAM}/" in path else dict(left).items():
-            # The body begins after the clauses, at the first line that is only an opening brace or that ends the signature.
+            # The body of a function begins after its clauses, at the first line that is only an opening brace or that ends
+            # the signature.
             given = "text" if name in TEXTS else "image"
             head = re.search(rf"^pub fn {name}\b[^{{]*?\b{given}: &\[u8\](?:.*\n)+?(?:\{{|\) -> .* \{{)$", text, re.M)
             if head and left.pop(name):

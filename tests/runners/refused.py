@@ -28,7 +28,7 @@ int main() {
   if (i == 0) return twice(i) / 1; else { return twice(most) % 5; }
 }
 """
-# A text with nearly every form of the language.
+# A program with nearly every form of the language.
 WHOLE = """\
 datatype exn { Bad(int); };
 struct List<`r> { int head; struct List<`r> *`r tail; };
@@ -48,16 +48,18 @@ int main() {
   return *shared;
 }
 """
-# Two texts that are rejected with an explanation: by a region that does not outlive another, and by a moved variable.
+# Two programs that are rejected with an explanation: in one, a region does not outlive another; in the other, a
+# variable was moved.
 SHORTER = WHOLE.replace("shared = new 5;", "shared = &l->head;")
 MOVED = WHOLE.replace("free_ukey(key);", "ufree(u);")
-# 40 times a block of 1,000 words is allocated and its last word written, a region is opened and closed, and an A printed; then 7 is
-# returned.
+# An image that does the following 40 times: allocate a block of 1,000 words, write its last word, open and close a region, and
+# print an A. After these 40 rounds, the test image returns 7.
 STORE = """
 24100028 24020009 24040001 240503e8 0000000c ac500f9c 24020007 0000000c 00402021 24020008
 0000000c 24040041 24020002 0000000c 2610ffff 1e00fff1 00000000 24020003 24040007 0000000c
 """
-# Test programs: output; arrays and exceptions; throws out of calls and regions; unique pointers.
+# Test programs for output, for arrays and exceptions, for throws out of calls and regions, and for
+# unique pointers.
 PRINTS = "int main(){ putchar(72); return 7; }"
 ARRAYS = """\
 int main(){ int ?p = new {for i < 3 : 65 + i}; putchar(p[2]); int ?q = p + 5; putchar(48 + numelts(q));
@@ -82,14 +84,14 @@ TEXTS = {
     "main.cyc": SOURCE, "whole.cyc": WHOLE, "shorter.cyc": SHORTER, "moved.cyc": MOVED,
     "prints.cyc": PRINTS, "arrays.cyc": ARRAYS, "throws.cyc": THROWS, "swaps.cyc": SWAPS,
 }
-# An image of one segment, which ends with 3 after five instructions.
+# An image with one segment, which returns 3 after five instructions.
 SMALL = "24040001 10000002 24840002 24840004 24020003 0000000c"
-# The limits of a run of THROWS.
+# The limits for a run of the program THROWS: heap pages and nested calls.
 PAGES, CALLS = "8", "32"
 OLD = b"what was there"
-# The last line and the status if memory runs out.
+# The last line and the exit status of a command when memory runs out.
 WANTING = "no memory", 8
-# The number of faults of a command that are printed.
+# The maximum number of faults printed for each command.
 SHOWN = 3
 
 

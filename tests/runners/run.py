@@ -24,15 +24,16 @@ import suite
 
 CASES = os.path.join(suite.TESTS, "cases")
 WHOLE = os.path.join(suite.TESTS, "whole")
-# The options of a run that take a word, and those that are kept when the run is repeated over both stores.
+# The options of `run` that take a value; these options are kept when a run is repeated with both heap
+# implementations.
 LIMITS = {"--pages", "--calls", "--steps", "--at-most-pages", "--at-most-calls"}
-# The file that contains the text of a line `? LINE | TEXT`.
+# The name of the file that contains the text of a case line `? LINE | TEXT`.
 TEXT_FILE = "text.cyc"
-# The size in bytes above which --quick skips a file's case.
+# A case with a file larger than this number of bytes is skipped by --quick.
 LONG = 8192
-# The environment variables that the commands of a case may use.
+# The environment variables that the commands of a test case may use.
 ENVIRONMENT = {"CYCLONE", "ROOT", "PATH", "PWD", "TMPDIR"}
-# A command in a shell line: the first word, or a word after a separator of commands.
+# The pattern of a command in a shell line: the first word, or a word after a command separator.
 COMMAND = re.compile(r"(?:^|[|;&(])\s*([\w.-]+)")
 
 
@@ -96,7 +97,8 @@ class Case:
         self.actions = []
         self.longest = 0
         self.is_slow = False
-        # the names that the shell must know, each with its line, and those that the case sets
+        # the shell variables that the case uses, each with its line, and the variables that the
+        # case sets
         self.asked = []
         self.set = set()
 
@@ -311,7 +313,7 @@ def look_holds(reader, rest):
     return act
 
 
-# The words that create, change or examine a file, and their actions.
+# The case-file words that create, change or examine a file, with the action of each.
 FILES = {
     "file": lambda reader, rest: made(reader, rest, reader.block(is_of_shell=True).encode("latin-1")),
     "bytes": make_bytes,
@@ -342,7 +344,7 @@ def run_step(step, folder, program):
             step.input,
             cwd=folder,
             stdout=output,
-            # the command of a step may run the program, and read files of the repository
+            # the command of a test step may run the program and read files of the repository
             env={**os.environ, "LC_ALL": "C", "CYCLONE": program, "ROOT": suite.ROOT},
         )
     finally:

@@ -14,9 +14,9 @@ import subprocess
 import suite
 
 SHELLCHECK, PYFLAKES = "shellcheck", "pyflakes3"
-# For a script's first line or its extension, the command that checks it.
+# The command that checks a script, chosen by the script's first line or its extension.
 CHECKERS = ((re.compile(rb"#!.*\b(?:ba|da)?sh\b"), ".sh", SHELLCHECK), (re.compile(rb"#!.*\bpython"), ".py", PYFLAKES))
-# The only hidden folder with scripts.
+# The only hidden folder that contains scripts.
 HIDDEN = ".ci"
 
 

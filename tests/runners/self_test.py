@@ -38,10 +38,11 @@ import wrong
 import wrong_tried
 
 HERE = os.path.dirname(os.path.abspath(__file__))
-# The cases of the program that only check texts and take little time.
+# The program's case files that only check source texts and take little time.
 TEXT_CASES = ["flow", "parsing", "texts", "tokens", "types"]
 
-# Over both stores the stand-in does the same with each image except two: for one its output differs, and for one its count of instructions.
+# With both heap implementations, the stand-in acts alike for each image except two: for one the output differs, for the other the
+# instruction count.
 STAND_IN = """#!/bin/sh
 run() {
   cat
@@ -130,7 +131,7 @@ closed in out err
 ends 0
 """
 
-# Only the last two of these cases run an image for which the stores differ.
+# Only the last two of these cases run an image for which the two heap implementations differ.
 STORES = r"""
 == what is no run of an image by limits
 > say run
@@ -156,7 +157,7 @@ bytes counts.elf x
 ends 0 done
 """
 
-# Each of these cases breaks one expectation.
+# Each of these test cases violates one expectation.
 BAD = r"""
 == a wrong output
 > say hi
@@ -212,7 +213,8 @@ def last_line_of_run(cases, folder, *options):
     return done.stdout.rstrip().split("\n")[-1], done.returncode, done.stdout + done.stderr
 
 
-# Changes of documents that must be found: a row of each table, numbers, paths and names of files, lines.
+# Changes of documents that the checker must detect: a row of each table, numbers, paths and file names,
+# lines.
 DRIFTS = [
     ("docs/ARCHITECTURE.md", "| the tokens of the longest-match rule", "| all tokens of the longest-match rule"),
     ("docs/ARCHITECTURE.md", "| `cyc_lex` |", "| `cyc_lexer` |"),
@@ -240,7 +242,8 @@ def are_drifts_found():
         if text.count(old) != 1 or documents.faults_of(path, text) or not documents.faults_of(path, text.replace(old, new)):
             print(f"{path}: {old!r} stands there {text.count(old)} times, or is as well as {new!r}")
             right = False
-    # A crate that is not listed, and a definition that names no public source.
+    # The checker must find a crate that is not listed, and a definition that names no public
+    # source.
     listed = facts.crates()
     with unittest.mock.patch.object(facts, "crates", lambda: listed[1:]), unittest.mock.patch.object(facts, "SOURCE", re.compile("System V")):
         if not facts.faults_of_crates() or not facts.faults_of_sources():
@@ -253,8 +256,8 @@ def are_drifts_found():
     return right
 
 
-# Files of proofs with their lemmas, and the names that have two statements. Layout, privacy and comments make no difference, and
-# definitions and answers do not count.
+# Proof files with their lemmas, and the names that have two different statements. Layout, visibility and comments make no
+# difference; definitions and answer files do not count.
 PROOFS = {
     "one/proofs/First.antt": "pub same : A\n    → B\nsame = it\n\npub other : A\n\n-- third : A\nabbrev fourth : A\n",
     "two/proofs/topic/Second.antt": "same : A → B\nother : B\nthird : B\nfourth : B\nlast : A\n",
@@ -286,7 +289,7 @@ def are_long_imports_found():
     return found == ["long"]
 
 
-# Lines that a session shows, printed lines, and whether they match.
+# Test cases: the lines that a session shows, the lines that are printed, and true if they match.
 SHOWN_LINES = [
     ("a", "a", True), ("a", "b", False), ("", "a", False), ("a", "", False), ("a", "a|b", False), ("a|..|d", "a|b|c|d", True),
     ("a|..|d", "a|d", True), ("a|..|d", "a|b|c", False), ("a|..|d", "b|d", False), ("..", "", True),
@@ -309,7 +312,7 @@ def are_sessions_tried(folder):
     return right
 
 
-# Changes of a text that docs/TRUSTED.md is compared with: the file, the text, its replacement, and the expected fault.
+# Changes to a text that docs/TRUSTED.md describes: the file, the old text, its replacement, and the expected fault.
 UNTRUSTED = [
     ("cyc_compiler/specs/FullPreservation.antt", "\nuse ", "\nuse Rattle.cyc_plain.specs.inside.State.{Configuration}\nuse ", "lacks: | `cyc_plain/specs/inside/State.antt`"),
     ("cyc_compiler/specs/FullPreservation.antt", "own choice", "choice", "FullPreservation.antt names no public source"),
@@ -384,14 +387,14 @@ def is_case_right(case):
     return not faults
 
 
-# Stand-ins that give a wrong answer for each image.
+# Stand-ins for the emulator that give a wrong result for every image.
 WRONG_MACHINES = {
     "a wrong output": "printf x; echo 'returned 3' >&2; exit 3",
     "a last line that is none of the manual's": "echo 'returned three' >&2; exit 3",
     "no last line": "exit 0",
     "a crash": "kill -SEGV $$",
 }
-# An expected answer, the program's answer, and whether that is a fault.
+# Test cases: an expected result, the program's result, and true if the difference is a fault.
 ENDED, OPEN = (b"x", "returned -1", 255), (b"x", None, None)
 ANSWERS_OF_RUNS = [
     (ENDED, ENDED, False), (ENDED, (b"y", "returned -1", 255), True), (ENDED, (b"x", "returned 255", 255), True),
@@ -444,7 +447,7 @@ def is_shrinker_right(folder):
     return True
 
 
-# A stand-in for the program, for dialogs: it compiles nothing, and runs the given code.
+# A stand-in for the program in tests of dialogs; it compiles no text, and runs the given code.
 ASKED = """#!/usr/bin/env python3
 import os, sys
 if sys.argv[1] == "compile":
@@ -455,8 +458,8 @@ value = given[0] if given else -1
 print("returned", value, file=sys.stderr)
 sys.exit(value & 255)
 """
-# The behaviour in two dialogs: in one all input is there from the start, and most of it is left; in the other the input ends after the
-# prompt.
+# Behaviours in two dialogs. In the first dialog all input is available from the start and most of it stays unread; in the second the
+# input ends after the prompt.
 WAYS_TO_ASK = {
     "os.write(1, b'A'); given = os.read(0, 8192)": "2 passed, 0 failed",
     "given = os.read(0, 8192); os.write(1, b'A')": "1 passed, 1 failed",

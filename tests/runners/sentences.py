@@ -14,12 +14,12 @@ import subprocess
 
 import suite
 
-# The pattern of a comment line, by the extension of its file.
+# The pattern of a comment line, for each file extension.
 COMMENTS = {
     kind: re.compile(rf"\s*{sign}\s?(?P<text>.*)")
     for kind, sign in ((".rt", "//[/!]?"), (".antt", "--"), (".py", "#(?!!)"), (".sh", "#(?!!)"))
 }
-# Lines that are no sentences: separators, tables, examples.
+# The pattern of comment lines that are not sentences: separators, tables, examples.
 OTHER = re.compile(r"\s*(?:[-|=#+]|```|\s{4})|.*[;{}]$")
 
 

@@ -31,7 +31,8 @@ from hostile_c import BOMB as MACRO, READS
 PAGE = os.path.join(suite.ROOT, "tools", "page")
 UNIT = os.path.join(suite.ROOT, "tools", "cyclone-page.service")
 SECURITY = os.path.join(suite.ROOT, "SECURITY.md")
-# What the unit sets, as far as one who is no systemd can: of prctl, 65 denies memory that is both written and executed.
+# Sets the limits of the systemd unit, as far as possible without systemd. The prctl option 65 denies memory that is
+# both writable and executable.
 WALLS = """#!/bin/sh
 exec unshare --map-root-user --mount --ipc --uts sh -c '
 mount -o remount,bind,ro / && umask 0077 && exec setpriv --inh-caps=-all --ambient-caps=-all --bounding-set=-all --no-new-privs \\
@@ -40,18 +41,19 @@ import ctypes, os, sys
 ctypes.CDLL(None).prctl(65, 1, 0, 0, 0)
 os.execv(sys.argv[1], sys.argv[1:])" "$@"' sh "{page}" "$@"
 """
-# The limits of the servers that are tried: on a machine with much to do a process may take long, and has to come to its own end. Where a
-# run is to be stopped at the clock, that is a short one; and where one is to go on until it is stopped, it has more steps than any
+# The limits of the servers under test. On a busy machine a process may take long and must still end by itself, so the time limit is
+# long. A test that stops a run by the clock uses the limit SHORT. A run that must continue until it is stopped gets more steps than any
 # machine executes in that time.
 SECONDS, SHORT, RUNS, OUTPUT, TEXT = 60, 3, 2, 10_000, 50_000
 WITHOUT_END = ("--steps", "1000000000000")
-# What an answer may take beside the clock of the server, and more by the load of the machine.
+# The time that an answer may take in addition to the server's time limit; it grows with the load of
+# the machine.
 SPARE = suite.grown(5)
-# The seconds after which the server closes a connection on which nothing comes.
+# The server closes a connection on which no data arrives for this number of seconds.
 RECEIVING = 10
-# How long it may be deaf, beside what it is without work.
+# The seconds for which the server may fail to respond, in addition to its delay without work.
 DEAF = 0.5
-# The server's addresses, as its clients see them: all of 127.0.0.0/8 is this machine.
+# The client addresses that the server sees; all of 127.0.0.0/8 belongs to this machine.
 HONEST, HOSTILE = "127.0.0.9", ("127.0.0.2", "127.0.0.3", "127.0.0.4", "127.0.0.5", "127.0.0.6")
 
 HELLO = "int main() {\n  putchar('H');\n  return 7;\n}\n"
@@ -254,7 +256,7 @@ def logged_lines(server, most):
     return faults + ([f"{log.count(chr(10))} lines in the log for {most} requests"] if log.count("\n") > most else [])
 
 
-# Bodies and heads that are none, each with the statuses that an answer may have.
+# Malformed request bodies and heads, each with the statuses that the answer may have.
 BOMB = gzip.compress(b" " * 50_000_000)
 BROKEN = (
     ("no gzip", post("/run", b"not compressed", "Content-Encoding: gzip"), (400, 413)),
@@ -399,7 +401,8 @@ def does_not_read(program, page):
             it.sendall(post("/run", {"source": PRINTING}))
         time.sleep(1)
         faults += served(server, SHORT, "among clients that do not read")
-        # Four addresses with four runs each, two places, and some seconds for the words that nobody reads.
+        # The test waits for four addresses with four runs each on two places, plus some seconds for the
+        # output that nobody reads.
         faults += waited("the end of all that nobody reads", lambda: not server.children(), (len(held) / RUNS + 2) * SHORT + SPARE)
         for it in held:
             it.close()
@@ -539,7 +542,7 @@ def is_heard(program, page):
 
         listener = threading.Thread(target=listen)
         listener.start()
-        # On a machine with much to do a server that does nothing is slow too.
+        # On a busy machine even an idle server is slow, so the limit includes the measured delay.
         time.sleep(3)
         most = DEAF + 2 * worst[0]
         for path, body in (("/run", {"source": long}), ("/listing", {"source": long}), ("/check", {"source": "(" * 99_999}),
@@ -592,7 +595,7 @@ def has_full_disks(program, page):
 
 # ---- many at once
 
-# What is sent under load, and how the last object of its answer begins.
+# The requests sent under load, and the beginning of the last object of each answer.
 LOADS = (
     ({"source": ECHO, "input": "#"}, {"now": "ended", "end": "returned"}),
     ({"source": HELLO}, {"now": "ended", "end": "returned"}),
@@ -610,11 +613,12 @@ LOADS = (
     ({"source": MARKUP}, {"now": "ended", "end": "returned"}),
     ({"source": C_OVERRUN, "language": "c"}, {"now": "ended", "end": "uncaught"}),
 )
-# The runs, the connections at once, and the addresses that they come from.
+# The number of runs under load, of simultaneous connections, and of client addresses.
 LOADED, CONNECTIONS, ADDRESSES = 1_000, 200, 40
-# The clock and the places under load: hostile clients hold some of these places for that long.
+# The time limit in seconds and the number of runs at once under load. Hostile clients occupy some
+# of the runs for that time.
 LOAD_SECONDS, LOAD_RUNS = 20, 4
-# The steps by which a run is known that is to be killed.
+# A run with this step limit is recognised as one that the test kills.
 MARKED = 999_999_999_999
 
 

@@ -20,11 +20,11 @@ import suite
 DOCUMENTS = ["README.md", "docs/TUTORIAL.md", "docs/LANGUAGE.md", "docs/FROM_C.md", "docs/cyclone.1"]
 PROMPT = "$ "
 ANY = ".."
-# The characters that the manual's escapes stand for, and the lines that begin and end its examples.
+# The characters that the manual page's escapes denote, and the pattern of an escape.
 ESCAPES = {r"\-": "-", r"\(rs": "\\", r"\(aq": "'"}
 ESCAPE = re.compile(r"\\(?:\(..|.)")
 
-# A command with its line in the document, and the lines shown below it.
+# A command with its line in the document, and the output lines shown below the command.
 Command = collections.namedtuple("Command", "line words shown")
 
 
@@ -57,7 +57,7 @@ def commands_of(path):
         elif is_open:
             found[-1].shown.append(line)
     for command in found:
-        # Empty lines after a block separate it from the following text.
+        # The empty lines after a block separate the block from the following text.
         while command.shown and not command.shown[-1]:
             command.shown.pop()
     return found

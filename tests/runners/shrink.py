@@ -5,10 +5,11 @@ Parts are found only by brackets and signs, so many candidates are no programs. 
 import re
 import time
 
-# A run of spaces, a comment, or a token.
+# The pattern of a run of spaces, a comment, or a token.
 TOKEN = re.compile(r"\s+|//[^\n]*|/\*.*?\*/|(`?[A-Za-z_]\w*|0[xX]\w+|\d+|'(?:\\.|[^\\])'|:=:|->|<<|>>|[=!<>]=|&&|\|\||.)", re.S)
 CLOSING = {"(": ")", "{": "}", "[": "]"}
-# A name just before a bracket, and the replacement for a call of a removed function.
+# The pattern of a name directly before a bracket, and the replacements for a call of a removed
+# function.
 NAME = re.compile(r"(?!(?:if|while|for|return|catch|case|throw|new)$)[A-Za-z_]\w*")
 VALUES = ("0", "NULL")
 

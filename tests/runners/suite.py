@@ -15,23 +15,26 @@ import time
 
 TESTS = os.path.dirname(os.path.dirname(os.path.abspath(__file__)))
 ROOT = os.path.dirname(TESTS)
-# A module that imports this one can also import the references, the generators and the tools.
+# A module that imports `suite` can also import the modules of the references, the generators and
+# the tools.
 sys.path += [os.path.join(TESTS, "references"), os.path.join(TESTS, "generators"), os.path.join(ROOT, "tools")]
 from processes import family  # noqa: E402 it is in one of these folders
 PROGRAM = os.path.join(ROOT, "crates", "cyclone", "out", "cyclone")
-# The two stores that `run` can use.
+# The two heap implementations that `run` can use.
 STORES = ("plain", "pages")
-# The limit of processor seconds of a command, and the factor for wall-clock seconds: other work may have the processors meanwhile.
+# The limit of a command in processor seconds, and the factor for its limit in elapsed seconds: other work may occupy the
+# processors meanwhile.
 SECONDS, CLOCK = 60, 20
-# The stack of each program that is run, in MB of 2^20 bytes: half of a shell's default.
+# The stack limit of each program under test, in MB of 2^20 bytes: half of a shell's default.
 STACK = 4
-# The commands that tests run in addition to the program, and their packages.
+# The file that lists the commands that tests run in addition to the program, and their packages.
 TOOLS = os.path.join(TESTS, "tools.txt")
-# The prefix of a module's name in that file, and the folder of Debian's python3 modules, as in tools.sh.
+# The prefix of a module's name in tools.txt, and the folder of Debian's python3 modules, as in tools.sh.
 MODULE, MODULES = "python3-", "/usr/lib/python3/dist-packages"
-# The prefix and the folder of JavaScript modules for pages.
+# The prefix and the folder of the JavaScript modules for web pages.
 LIBRARY, LIBRARIES = "libjs-", "/usr/share/javascript"
-# A long value is shown by its two ends; two different long values by so many bytes around the first difference.
+# A long value is printed by its first and last bytes; two different long values by the bytes around their first
+# difference.
 SHOWN = 400
 ABOUT = 60
 

@@ -28,13 +28,14 @@ ROW = re.compile(r"^\? fault (\d+) at \d+:\d+ \| (.*)$")
 KEYWORDS = set("""int char void struct datatype exn region region_t uregion_key_t open let alias NewDynamicRegion new_ukey new rnew for if else
 while return break continue throw try catch case default NULL numelts ufree free_ukey unique_region heap_region""".split())
 BEFORE = {"putchar", "getchar", "Null_Exception", "Array_bounds", "Array_size", "Div_zero"}
-# A name or a region name; or a number or a character, which contain no names.
+# The pattern of a name or a region name, or of a number or a character constant, which contain no
+# names.
 WORD = re.compile(r"'(?:\\.|[^'])'|[0-9][A-Za-z0-9_]*|`?[A-Za-z_][A-Za-z0-9_]*")
 HEADLINE = re.compile(r"^text\.cyc:(\d+):(\d+): (.*)$")
 FURTHER = "further, if that is mended:"
 MEMBERS = ["kind", "rule", "code", "first", "file", "line", "column", "endLine", "endColumn", "message", "detail", "hint", "edit", "related"]
 BODIES = set(range(20, 44)) - {30}
-# The tokens of the language, as in docs/LANGUAGE.md, and a byte that begins none.
+# The tokens of the language, as defined in docs/LANGUAGE.md, and any byte that begins no token.
 TOKEN = re.compile(rb"`?[A-Za-z_][A-Za-z0-9_]*|0[xX][0-9a-fA-F]+|[0-9]+|'(?:\\.|[^'])'|:=:|&&|\|\||[=!<>]=|<<|>>|->|/\*|.", re.DOTALL)
 
 
@@ -92,7 +93,7 @@ def messages_of(lines):
             is_noted = True
         elif line != FURTHER:
             found[-1].append(line)
-        # A place within a message belongs to the message; the hint ends it.
+        # A source position within a message belongs to the message; the hint ends the message.
         is_noted = is_noted and not line.startswith("    hint: ")
     return [Message(block) for block in found]
 
@@ -111,13 +112,15 @@ class Pair:
     def faults(self, program):
         lines = said_of(program, "\n".join(self.lines))
         found = messages_of(lines)
-        # A mistake in the use of a built-in name is none if that name is renamed.
+        # A mistake in the use of a built-in name disappears if the name is renamed, so such a text
+        # is skipped.
         first = found[0].place[0] if found else 3
         if first > 2:
             return [], False
         mended = [line if number != first else "" for number, line in enumerate(self.lines, 1)]
         wanted = messages_of(said_of(program, "\n".join(mended)))
-        # The first text's line may have further mistakes, which are blanked out with it.
+        # The line of the first message may contain further mistakes; these are blanked out with the
+        # line.
         behind = [message for message in found[1:] if message.place[0] != first]
         said, due = ([self.compared(message) for message in messages] for messages in (behind, wanted))
         if not said and (self.codes[first - 1] not in BODIES or not self.is_in_body(found[0])):

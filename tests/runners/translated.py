@@ -27,7 +27,7 @@ FOLDER = os.path.join(ROOT, "tests", "c")
 TOOL = os.path.join(ROOT, "tools", "c")
 SAID = re.compile(r"/\* (ends|refused|warned): (.*) at (\d+) \*/")
 LINES = 1000
-# The programs that mean something else where long has 64 bits, or what is aligned does.
+# The C programs whose meaning changes if `long` has 64 bits or alignment is 64-bit.
 NARROW = ("scanned.c", "wide.c", "wider.c", "unions.c", "offsets.c")
 
 
@@ -99,7 +99,7 @@ class Tests:
             return f"{words} at {line} is told as: {first.place}: {first.message}"
         return ""
 
-    # What holds of all translations
+    # The checks of properties that every translation has.
 
     def is_laid_out(self, path, folder):
         """The text is in the layout of `cyclone format`, and each place is a line of the C file."""

@@ -20,7 +20,8 @@ import suite
 
 PAGE = os.path.join(suite.ROOT, "docs", "TRUSTED.md")
 CRATES = os.path.join(suite.ROOT, "crates")
-# The public calls: the symbol in the tables, the name, the crate, and the type of a method's receiver, if any.
+# The public calls: the symbol in the tables, the name, the crate, and the type of the receiver if the call is
+# a method.
 CALLS = (
     ("a", "accept", "cyc_front", None),
     ("c", "compile", "cyc_compiler", None),
@@ -36,11 +37,12 @@ CALLS = (
     ("e", "read_image", "cyc_elf", None),
     ("f", "format", "cyc_format", None),
 )
-# The crates whose public contracts use the definitions in `specs/`.
+# The crates with definitions in `specs/` that public contracts use.
 PUBLIC = ("cyc_front", "cyc_image", "cyc_compiler", "cyc_emulator", "cyc_system", "cyc_machine_model", "cyc_machine", "cyc_store", "cyc_elf", "cyc_isa", "cyc_format", "cyc_bound")
-# The program's messages use these results of the front end, about which the page promises nothing.
+# Results of the front end that the program uses only for its messages; docs/TRUSTED.md promises
+# nothing about them.
 FOR_MESSAGES = ("run_phases", "Phases", "compile_with_tokens", "Compilation", "compile_with_places", "Placed", "bounds_with_tokens", "Bounded")
-# Each public source, with the words that name it in the first comment of a file.
+# For each public source: the words by which the first comment of a file names the source.
 SOURCES = (
     ("Cyclone's manual", r"Cyclone (User's )?[Mm]anual|User's Manual"),
     ("Grossman et al.", r"Grossman et al\."),
@@ -50,7 +52,7 @@ SOURCES = (
     ("own choice", r"own choice"),
 )
 INSIDE = "inside"
-# The maximum numbers of files and lines of definitions to be read for `compile`.
+# The maximum numbers of definition files and lines that a reader must read to trust `compile`.
 MOST_FILES, MOST_LINES = 81, 9_700
 CALL_TABLE = "| Call | Mark | Files | Lines | Files of types | Lines |\n|---|---|---|---|---|---|\n"
 FILE_TABLE = "| File | Lines | Calls | What it says | Source |\n|---|---|---|---|---|\n"

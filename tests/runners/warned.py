@@ -23,7 +23,7 @@ from with_library import whole
 
 TABLE = os.path.join(suite.ROOT, "docs", "warnings.txt")
 UNWARNED = os.path.join(suite.TESTS, "unwarned.txt")
-# The minimum number of texts similar to those with a warning.
+# The minimum number of texts that resemble a text with a warning but have none.
 NEAR = 10
 EXAMPLES = os.path.join(suite.ROOT, "examples")
 MOST = 20
@@ -148,7 +148,7 @@ def warnings_said(program, folder, text):
 def faults_of(program, folder, thing):
     said, are_more, last = warnings_said(program, folder, thing.text)
     wanted = sorted(thing.wanted)
-    # The order of two warnings at one place is free.
+    # Two warnings at one source position may appear in either order.
     faults = [] if last == ["done"] else [f"the last line is {last}"]
     if getattr(thing, "read", []):
         faults.append(f"the second reading warns of {thing.read}")

@@ -21,7 +21,7 @@ import texts
 from language import placed, values
 
 STEPS_AT_MOST = 10_000
-# The number of places of a program in which a mistake is planted.
+# The number of source positions in each program at which the test plants a mistake.
 PLANTED = 2
 # Statements that throw, each for a different reason.
 MISTAKES = (

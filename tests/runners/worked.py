@@ -25,12 +25,13 @@ import store_makers
 import stores
 
 WORKED = os.path.join(suite.TESTS, "worked")
-# The place where registers are saved until they are printed, and the register with its address.
+# The memory where registers are saved until they are printed, and the register that holds the
+# address of this memory.
 ROOM, POINTER = machine.DATA + 0x300000, 26
 BREAK = 0x0D
-# The text segment of the images in which other segments are tested: six words.
+# The text segment, of six words, of the images that test other segments.
 TEXT = "3c081000 8d090004 8d0a0008 3c0b0040 8d6c0100 8d6d0018"
-# A text that stores 7 at an address, loads it, and stops.
+# The code of an image that stores 7 at an address, loads it again, and stops.
 STORED = "3c08{high} 3508{low} 24090007 ad090000 8d0a0000 0000000d"
 STATUSES = {"uncaught": 4, "full": 5, "trap": 6, "budget": 7}
 LIES = {"word": ("trap break", 6), "dead": ("trap dead cell", 4), "nothing": ("trap no such address", 4)}

@@ -8,11 +8,13 @@ import sys
 
 import suite  # first: it makes the tools importable
 
-# A crate above another, whose functions return numbers. The stand-in for the prover proves a function if its body is the right number.
+# Two crates, one above the other, whose functions return numbers. The stand-in for the prover proves a function if its body is the
+# right number.
 CRATES = {"low": ["one", "two"], "top": [f"f{it:02}" for it in range(20)]}
 FUNCTION = "/// Answers a number.\npub fn {0}() -> u32\n    ensures {{ result ≡ {0} }}\n{{\n    n_{0}\n}}\n"
 CASE = "== {0}_is_{1}\ntests: {0} is itself\nfile: src/lib.rt\nold:     n_{0}\nnew:     {1}\nrefused: {0}\n\n"
-# The stand-in's answer for a function depends on the name in its body: no proof names `gone`, and `other` removes a name from the proof.
+# A stand-in for the prover. The stand-in's answer for a function depends on the name in the function's body: no proof names `gone`, and
+# `other` removes a name from the proof.
 PROVER = r"""#!{python}
 import os, re, sys
 words = sys.argv

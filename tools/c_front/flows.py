@@ -5,7 +5,7 @@ from . import c_types as t
 from .tree import Stmt, expressions, statements, walk
 
 
-# The functions that keep their first argument, or store it elsewhere.
+# The C library functions that keep a pointer passed as first argument, or store it elsewhere.
 KEPT_FIRST = ("sprintf", "snprintf", "sscanf", "strtok", "strtol", "strtoul", "strtoll", "strtoull", "qsort", "realloc")
 
 

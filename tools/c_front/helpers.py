@@ -2,7 +2,7 @@
 import re
 
 HELPERS = {}
-# What the helpers that keep something between calls begin with.
+# The beginnings of the declarations of variables in which helpers keep state between calls.
 STATES = ("int wide_high", "int wide_rest", "char ?text_rest", "int kept_byte", "int number_end", "char ?scanned_text",
           "char ?printed_to", "int ?random_state", "char ?format_rest")
 

@@ -46,7 +46,7 @@ class Program(Statements):
             self.choose_member(struct)
         for symbol in self.globals:
             if symbol.defined and isinstance(symbol.type, t.Array) and symbol.type.length is None:
-                # C gives an array of which no declaration says the length one element.
+                # In C, an array whose length no declaration gives has one element.
                 symbol.type = t.Array(symbol.type.element, 1)
         return self
 

@@ -24,7 +24,7 @@ def assigns(node, symbol):
 class ExpressionWriter(WideWriter):
     """The part of a function's writer that is about expressions."""
 
-    # The exact value of a number, a pointer, or what leads to an aggregate
+    # Returns the exact value of a number, a pointer, or a pointer to an aggregate.
 
     def value(self, node):
         if t.is_wide(node.type):

@@ -30,7 +30,7 @@ class FunctionWriter(LibraryWriter):
         self.uses_region = self.needs_region()
         self.region = "`" + (program.region_name if self.uses_region else program.function_name(symbol, symbol.place))
 
-    # What has to be known before the body
+    # The facts that must be known before a function's body is written.
 
     def mark_hoisted(self, stmts, inside):
         """Objects that a loop declares are made once, before it."""

@@ -6,7 +6,7 @@ from .tree import Node, has_effect
 from .write_statements import with_first
 from .write_streams import StreamWriter, is_computed
 
-# Functions that a helper does as they are: the helper for each.
+# C library functions that a helper implements exactly, each with the name of the helper.
 SAME = {"strlen": "text_length", "strcmp": "compare_texts", "strncmp": "compare_texts_within", "strcasecmp": "compare_small",
         "strncasecmp": "compare_small", "strchr": "find_byte", "index": "find_byte", "strrchr": "find_last_byte",
         "rindex": "find_last_byte",
@@ -137,7 +137,7 @@ class LibraryWriter(StreamWriter):
     def do_perror(self, node):
         self.effect(node.a[0])
 
-    # Texts that are printed
+    # The handling of texts that are printed.
 
     def constant_text(self, node):
         return node.a[0].v if node.op == "decay" and node.a[0].op == "string" else None

@@ -13,24 +13,28 @@ import time
 
 from aiohttp import web
 
-# The seconds for the head of a request, for its body behind that, and for words to somebody who is turned away.
+# The seconds allowed for receiving a request's head and then its body, and the seconds for sending a message to
+# a rejected client.
 RECEIVING = 10
 TURNING = 2
-# The most bytes of a head, of what follows a request, and of what the parser reads at once.
+# The maximum bytes of a request's head, of data after a request, and of a single read by the
+# parser.
 HEAD = 32_768
 BEYOND = 262_144
 SLICE = 16_384
-# So many are turned away in words at once, of all and of one address; beyond that a connection is closed at once.
+# The maximum number of rejected clients, in total and for each address, that receive a message at the
+# same time; further connections are closed at once.
 TURNED, TURNED_EACH = 100, 20
-# The connections that the kernel keeps until they are accepted.
+# The maximum number of connections that the kernel queues until the server accepts them.
 BACKLOG = 128
-# The descriptors of a request that has a place, and of the server itself.
+# The file descriptors reserved for a running request, and for the server itself.
 FILES, OWN = 16, 64
-# The lines of the log in a minute, and the length of one.
+# The maximum number of log lines in a period, the period in seconds, and the maximum length of a
+# line.
 LINES, MINUTE, LENGTH = 60, 60, 300
-# The prefix of an address of IPv6 that one network has.
+# The prefix length of an IPv6 address that identifies one network.
 NETWORK = 64
-# What a terminal takes for an order, or does not show.
+# Characters that a terminal interprets as a command or does not display.
 HIDDEN = re.compile("[\x00-\x1f\x7f-\x9f\xad\u061c\u200b-\u200f\u2028-\u202e\u2060-\u206f\ufeff\ufff9-\ufffb\U000e0000-\U000e007f]")
 
 
@@ -71,7 +75,7 @@ class Log(logging.Handler):
         try:
             print(f"page: {line}", file=sys.stderr, flush=True)
         except (OSError, ValueError):
-            # nobody reads the log, or its disk is full
+            # nobody reads the log, or the log's disk is full, so the error is ignored
             pass
 
 
@@ -171,14 +175,14 @@ class Connection(web.RequestHandler):
             if self._request_count < 2:
                 super().data_received(data[start:start + SLICE])
         if self._request_count == 1 and not self.has_come:
-            # Its work sets another clock, when it begins.
+            # The request's work sets another time limit when it begins.
             self.has_come = True
             self.end_in(RECEIVING)
         self.received += len(data)
         if not self._request_count and self.received > HEAD:
             self.say(431, "the head of the request is too long")
         elif self._request_count > 1:
-            # The first one is answered, and the connection is closed then.
+            # The first request is answered, and then the connection is closed.
             self.close()
             self.drop(data)
 

@@ -10,15 +10,17 @@ try:
 except ModuleNotFoundError:
     markdown = None
 
-# The documents for who writes programs, those shown first; the others of docs/ follow.
+# The documents for users who write programs; the page lists these documents first, and the others
+# of docs/ after them.
 FIRST = ("LANGUAGE", "FROM_C", "CODES", "PAGE", "PLACES", "GUARANTEES")
-# The examples that are shown first; the others follow by their names.
+# The examples that the page lists first; the others follow in the order of their names.
 EXAMPLES = ("hello", "count", "wrong", "unset")
-# The titles of examples that begin with no comment.
+# The titles of examples that have no comment at the beginning.
 TITLES = {
     "hello": "Prints a word", "wrong": "Is refused: a semicolon is missing", "unset": "Is refused: a variable may have no value",
 }
-# The longest title of an example, of the first sentence of the comment that it begins with.
+# The maximum length of an example's title, which is the first sentence of the example's first
+# comment.
 TITLE = 80
 COMMENT = re.compile(r"\s*(?:/\*(?P<block>.*?)\*/|//(?P<line>[^\n]*))", re.S)
 FRAME = """<!DOCTYPE html>

@@ -4,9 +4,10 @@ import collections
 import contextlib
 import time
 
-# Who waits is told how many are before it after so many seconds, where that has changed.
+# A waiting client is told its number in the queue after this number of seconds, if the number has
+# changed.
 LOOK = 0.5
-# What an address has spent is halved after so many seconds, and forgotten below so many.
+# The time that an address has used is halved after HALVING seconds, and forgotten below FORGOTTEN.
 HALVING, FORGOTTEN = 60, 0.1
 
 
@@ -31,7 +32,8 @@ class Line:
         self.free, self.most_waiting, self.seconds = places, waiting, seconds
         self.each, self.each_waiting = part_of(places, share), part_of(waiting, share)
         self.held, self.spent, self.halved = collections.Counter(), collections.Counter(), time.monotonic()
-        # The address of each turn that waits, in the order in which they came, and how many are before each.
+        # The address of each waiting request, in the order of arrival, and the number of requests before
+        # each.
         self.waiting, self.before = {}, {}
 
     @contextlib.asynccontextmanager

@@ -1,4 +1,5 @@
--- The order of the lines contains each line once, and the labelled machine behaves as with the original order.
+-- The order of lines that the assembler chooses contains each line once, and the labelled machine behaves as
+-- with the original order.
 use Rattle.std.proofs.Common.{◌≡◌, ℕ, zero, suc, ◌+◌, ◌-◌, ◌<◌, List, [], length, nat_le, Bool, true, false, cond, not, Option, None, Some, refl, sym, ap, subst, ◌∙◌, arith, inl, inr}
 use Rattle.std.specs.Prelude.{◌&&◌, All, slice_get, flat_map}
 use Rattle.std.specs.List.{swap, range_with_len}
@@ -56,8 +57,8 @@ swap_places code number first second movable passing unnamed here following =
 
 -- ---- properties that a reordering keeps
 
--- The order contains the lines of the original, returns go to the same lines as there, and each run of the reordered code follows one of
--- the original.
+-- `Keeps` says that the new order is a permutation of the original lines and that returns go to the same lines. Each run of the
+-- reordered code follows a run of the original code.
 pub record Keeps (globals : List ℕ) (code order : List Line) : Type 0 where
   pub permutes : IsPermutation code order
   pub points : (line : ℕ) → IsReturnPoint (record { lines = order; globals = globals }) line → IsReturnPoint (record { lines = code; globals = globals }) line
@@ -90,7 +91,7 @@ same_named code order number permutes = sym (list_any-IsPermutation (λ (line : 
 
 -- ---- an instruction moved down
 
--- If a line may be moved past another, both lines are instructions.
+-- If a line may be moved past the next one, both lines are instructions.
 passing_lines : (line following : Option Line) → passes_line line following ≡ true
     → (first second : Instr) × (line ≡ Some (lines.Ordinary first)) × (following ≡ Some (lines.Ordinary second)) × (passes first second ≡ true)
 passing_lines (Some (lines.Ordinary first)) (Some (lines.Ordinary second)) may = (first, second, refl, refl, may)
@@ -123,7 +124,7 @@ same_instruction : (i j : Instr) → Some (lines.Ordinary i) ≡ Some (lines.Ord
 same_instruction i j is = cc
 
 module _ (globals : List ℕ) (code : List Line) (from : ℕ) (i : Instr) (found : slice_get code from ≡ Some (lines.Ordinary i)) (movable : is_movable i ≡ true) where
-  -- The instruction has been moved past `count` lines.
+  -- `IsSunk` says that an instruction has been moved past `count` lines.
   record IsSunk (count : ℕ) : Type 0 where
     pub keeps : Keeps globals code (sunk code from count)
     pub here : slice_get (sunk code from count) (from + count) ≡ Some (lines.Ordinary i)
@@ -200,7 +201,7 @@ permutes_before code count = (keeps_before [] code count).permutes
 pub permutes : (code : List Line) → IsPermutation code (arranged code)
 permutes code = permutes_before code (length code)
 
--- A reordering keeps the set of used labels.
+-- A reordering of lines leaves the set of used labels unchanged.
 pub still_named : (code order : List Line) (named : List Bool) → IsPermutation code order → AreNamed code (length code) named → AreNamed order (length order) named
 still_named code order named permutes are = record {
   long = are.long ∙ sym (length_permutation code order permutes);
@@ -231,7 +232,8 @@ same_addresses code other addresses long points places = record {
   below = λ line inside. places.below line (omega (arith, inside, long));
 }
 
--- Words that represent code also represent any code of equal size with equal return points and an equal order of lines.
+-- Words that represent some code also represent any code with equal size, equal return points and an equal order of
+-- lines.
 text_as : (code other order : Labelled) (addresses : ℕ → ℕ) (words : List ℕ) → length other.lines ≡ length code.lines → Points code other → all_words other.lines ≡ all_words code.lines
     → IsTextInOrder code order addresses words → IsTextInOrder other order addresses words
 text_as code other order addresses words long points most text = record {
@@ -253,7 +255,7 @@ assembled_means code formed fits =
     (keeps_before code.globals code.lines (length code.lines)).new_points (sym (same_words code.lines))
     (in_order_means (in_order code) (still_formed code.lines formed) (still_fits code.lines fits))
 
--- Words that represent labelled code run as it does.
+-- Words that represent labelled code run as the labelled code does.
 pub runs : (code : Labelled) (addresses : ℕ → ℕ) (words : List ℕ) → IsTextOf code addresses words → Runs code addresses words
 runs code addresses words text =
     (keeps_before code.globals code.lines (length code.lines)).runs addresses words (runs_in_order (in_order code) addresses words (in_its_order code addresses words text))

@@ -30,11 +30,11 @@ use Rattle.cyc_asm.specs.inside.Layout.{is_near, position}
 use Rattle.cyc_asm.specs.inside.Words.{jump_words, head_of_branch, head_in, round_words, words_filled, words_ordinary, words_in, assembled}
 use Rattle.cyc_asm.specs.inside.Machine.{start_in}
 
--- The words are worked out by hand from the architecture's manual. Each line is preceded by its number and followed by the instruction in
--- its delay slot.
+-- The words of these examples are worked out by hand from the architecture's manual. Each line is preceded by its number and followed by
+-- the instruction in its delay slot.
 
--- Register 8 counts down from 3. No slot is filled: a label stands at the first branch, and a call precedes the jump. A branch precedes
--- each call and return, and the second branch tests the register set just before it.
+-- Example: register 8 counts down from 3. No delay slot is filled: a label stands at the first branch, and a call precedes the jump. A
+-- branch precedes each call and return, and the second branch tests the register set just before it.
 abbrev counting : Labelled
 counting = record {
   lines =
@@ -62,8 +62,8 @@ counting_words : assembled counting ≡
     ∷ []
 counting_words = refl
 
--- An instruction that writes register 8 moves after a branch on register 9 and after a jump, but not after a branch on register 8. An
--- instruction that reads the return address does not move after a call.
+-- Example: an instruction that writes register 8 moves into the slot of a branch on register 9 and of a jump, but not of a branch on
+-- register 8. An instruction that reads the return address does not move into the slot of a call.
 abbrev moving : Labelled
 moving = record {
   lines =
@@ -91,8 +91,8 @@ moving_words : assembled moving ≡
     ∷ []
 moving_words = refl
 
--- Register 31 at a call: an instruction that writes it does not move, and one that does not use it does. Before a return a load into
--- register 31 stays, and the pop of the frame moves.
+-- Example: at a call, an instruction that writes register 31 does not move into the delay slot, and one that does not use register
+-- 31 does. Before a return, a load into register 31 stays, and the pop of the frame moves.
 abbrev calling : Labelled
 calling = record {
   lines =
@@ -120,8 +120,8 @@ calling_words : assembled calling ≡
     ∷ []
 calling_words = refl
 
--- HI and LO are no registers of a branch: `mult` and `mflo` move, unless `mflo` writes a tested register. A branch after a branch, and a
--- jump after a `syscall`, have empty slots.
+-- Example: HI and LO are no registers that a branch tests, so `mult` and `mflo` move into its slot, unless `mflo` writes a tested
+-- register. A branch after a branch, and a jump after a `syscall`, have empty slots.
 abbrev multiplying : Labelled
 multiplying = record {
   lines =
@@ -151,8 +151,8 @@ multiplying_words : assembled multiplying ≡
     ∷ []
 multiplying_words = refl
 
--- Two jumps to one label: each has its own instruction in its slot. The branch at the label has an empty slot. A jump to an instruction
--- that moved goes to the branch or jump after it. The three lines before the branch are unreachable.
+-- Example: two jumps to one label, each with its own instruction in its delay slot. The branch at the label has an empty slot. A jump
+-- to an instruction that moved goes to the branch or jump after it. The three lines before the branch are unreachable.
 abbrev meeting : Labelled
 meeting = record {
   lines =
@@ -175,8 +175,9 @@ meeting_words : assembled meeting ≡
     ∷ []
 meeting_words = refl
 
--- Instructions moved down to a branch: past one operand of the branch, past two, and a store, which is no operand. A line is not moved in
--- four cases: it sets a register that is read after it, reads one that is set after it, precedes a line with a label, or would pass a load.
+-- Example: instructions are moved down to a branch: past one operand of the branch, past two, and past a store, which is no operand. A line
+-- is not moved in four cases: it sets a register that is read after it, reads one that is set after it, precedes a line with a label, or
+-- would pass a load.
 abbrev passing : Labelled
 passing = record {
   lines =
@@ -231,7 +232,8 @@ passing_words : assembled passing ≡
     ∷ []
 passing_words = refl
 
--- A far branch is the inverse branch over a jump, with the instruction in the inverse branch's slot. (The statement holds for any code.)
+-- A branch to a far target becomes the inverse branch over a jump, with the moved instruction in the delay slot of the inverse branch.
+-- (The statement holds for any code.)
 far_words : (code : List Line) (number label : ℕ) (i : Instr) → slice_get code number ≡ Some (lines.Ordinary i) → filling code (suc number) ≡ Some i
     → slice_get code (suc number) ≡ Some (lines.Branch (conditions.Registers NotEqual (register_of 9) (register_of 0)) label) → is_near code (suc number) label ≡ false
     → (words_in code number (slice_get code number) ≡ 0x11200003 ∷ [])
@@ -245,8 +247,8 @@ far_words code number label i at some branch far = (
       ∙ ap (λ b. word_of i ∷ round_words b code label) far,
 )
 
--- The sum of 3, 2 and 1 by a loop that calls a function, in 30 instructions. The addition is in the slot of the return, and the decrement
--- in that of the jump.
+-- Example: the sum of 3, 2 and 1 is computed by a loop that calls a function, in 30 instructions. The addition is in the delay slot of
+-- the return, and the decrement in that of the jump.
 abbrev summing : Labelled
 summing = record {
   lines =
@@ -264,7 +266,7 @@ summing = record {
   globals = [];
 }
 
--- An empty store, since the example program allocates nothing.
+-- Returns an empty store, since the example program allocates nothing.
 abbrev empty_store : StoreState
 empty_store = start 3 (λ (x : ℕ). 0)
 
@@ -272,8 +274,8 @@ sum_is_six : end_of (after 30 (any_choice empty_store) (start_in (assembled summ
 unfolding instruction_of sign_extended
 sum_is_six = refl
 
--- The sum of three 2s by a loop whose test is at its end, in 16 instructions. The addition is moved past the decrement and the test, into
--- the slot of the backward branch.
+-- Example: the sum of three 2s is computed by a loop whose test is at its end, in 16 instructions. The addition is moved past the
+-- decrement and the test, into the delay slot of the backward branch.
 abbrev adding : Labelled
 adding = record {
   lines =

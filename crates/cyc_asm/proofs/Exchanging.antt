@@ -1,5 +1,5 @@
--- Labelled code behaves as before if two adjacent instructions are exchanged, the first of which may be moved past the second. The machines
--- run in lockstep; between the two lines each has executed one of the instructions.
+-- If two adjacent instructions are exchanged, the first of which may be moved past the second, labelled code behaves as before. The
+-- machines run in lockstep; between the two lines, each has executed one of the instructions.
 use Rattle.std.proofs.Common.{◌≡◌, ◌≢◌, ℕ, suc, ◌+◌, List, [], ◌∷◌, length, Bool, true, false, cond, Option, None, Some, refl, sym, ap, subst, ◌∙◌, arith, inl, inr, append-nil}
 use Rattle.std.specs.Prelude.{◌⊎◌, slice_get, sum_by, flat_map}
 use Rattle.std.proofs.lemmas.Bool.{cases_eq}
@@ -34,7 +34,8 @@ use Rattle.cyc_asm.proofs.Fillings.{label_named}
 
 -- ---- exchanged code
 
--- The second code is the first with the instructions of two adjacent lines exchanged.
+-- `IsExchange` says that the second code is the first one in which the instructions of two adjacent
+-- lines are exchanged.
 pub record IsExchange (code exchanged : List Line) (number : ℕ) (first second : Instr) : Type 0 where
   pub movable : is_movable first ≡ true
   pub passing : passes first second ≡ true
@@ -54,7 +55,7 @@ failed_running is = cc
 
 -- After the exchange of two lines, calls return to the same lines as before.
 module _ (code : Labelled) (exchanged : List Line) (number : ℕ) (first second : Instr) (x : IsExchange code.lines exchanged number first second) where
-  -- Neither of the two exchanged lines is a call.
+  -- Neither of the two exchanged lines is a call instruction.
   call_apart : (call label : ℕ) → slice_get code.lines call ≡ Some (lines.Call label) → (call ≢ number) × (call ≢ suc number)
   call_apart call label calls = (
     λ same. ordinary_no_call first label (sym x.here ∙ ap (slice_get code.lines) (sym same) ∙ calls),
@@ -87,7 +88,7 @@ module _ (code : Labelled) (exchanged : List Line) (number : ℕ) (first second 
   abbrev below : Machine
   below = labelled.machine new_code addresses
 
-  -- The state between the two lines.
+  -- `Between` relates the states of the two machines between the two exchanged lines.
   record Between (c d : Configuration) : Type 0 where
     pub before : Configuration
     pub at : before.line ≡ number
@@ -100,7 +101,7 @@ module _ (code : Labelled) (exchanged : List Line) (number : ℕ) (first second 
   Matches (labelled.Ended ending output input) t = t ≡ labelled.Ended ending output input
   Matches (labelled.Stopped output input) t = t ≡ labelled.Stopped output input
 
-  -- A state that is not between the two lines.
+  -- `IsOutside` says that a state is not between the two exchanged lines.
   abbrev IsOutside : labelled.State → Type 0
   IsOutside (labelled.Running c) = c.line ≢ suc number
   IsOutside (labelled.Ended ending output input) = Unit {0}
@@ -145,7 +146,7 @@ module _ (code : Labelled) (exchanged : List Line) (number : ℕ) (first second 
       let (not_here, not_after) = call_apart code exchanged number first second x p.call p.label p.calls in
       not_here (let b = p.following in omega (arith, same, b))
 
-  -- No line jumps to the second of the two lines.
+  -- No line of the code jumps to the second of the two exchanged lines.
   label_outside : (at label : ℕ) (line : Line) → slice_get code.lines at ≡ Some line → label_of line ≡ Some label → label ≢ suc number
   label_outside at label line found goes same =
       true_is_not_false (sym (label_named code.lines at label line found goes) ∙ ap (is_named code.lines) same ∙ x.unnamed)
@@ -190,7 +191,7 @@ module _ (code : Labelled) (exchanged : List Line) (number : ℕ) (first second 
 
   -- ---- the two lines
 
-  -- An ordinary line has the effect of its instruction.
+  -- A line with an ordinary instruction has the effect of this instruction.
   steps_as : (some : Labelled) (c : Configuration) (i : Instr) → is_movable i ≡ true → slice_get some.lines c.line ≡ Some (lines.Ordinary i) → (next : labelled.State)
       → labelled.Performs c i next → labelled.Step some addresses (labelled.Running c) next
   steps_as some c i movable found next performs =
@@ -273,7 +274,8 @@ module _ (code : Labelled) (exchanged : List Line) (number : ℕ) (first second 
   follows store calls input never =
       simulates above below matching matched (code_is_lawful new_code addresses) [] (labelled.start code store calls input) never (labelled.start new_code store calls input) refl (inl (refl, (λ same. omega (arith, same))))
 
-  -- Two ways to assign places to lines have equal costs.
+  -- If two ways to assign places to lines have equal costs for each line, they have equal costs for
+  -- each run.
   module _ (one other : ℕ → List ℕ) (same : (price : ℕ → ℕ) (line : ℕ) → sum_by price (one line) ≡ sum_by price (other line)) (from : labelled.State) (w : World) where
     sums : (price : ℕ → ℕ) (places : List ℕ) → sum_by (λ (p : ℕ). sum_by price (one p)) places ≡ sum_by (λ (p : ℕ). sum_by price (other p)) places
     sums price [] = refl

@@ -1,4 +1,4 @@
--- Laws of filled delay slots, and of reachable lines.
+-- Laws of filled delay slots, and of the reachability of lines.
 use Rattle.std.proofs.Common.{◌≡◌, ℕ, zero, suc, List, Bool, true, false, cond, Option, None, Some, refl, sym, ap, subst, ◌∙◌, eq-eqb}
 use Rattle.std.specs.Prelude.{◌&&◌, ◌||◌, not, slice_get}
 use Rattle.std.proofs.lemmas.List.Folds.{list_any_at}
@@ -10,14 +10,14 @@ use Rattle.cyc_select.specs.declared.code.Line.{Line}
 use Rattle.cyc_select.specs.declared.code.Line.TheVariants as lines
 use Rattle.cyc_asm.specs.inside.Slots.{is_movable, moves, label_of, is_label, is_named, goes_on, is_call, may_lack, fills_after, is_unreached_after, is_unreached, is_unreached_before, moved, filling}
 
--- A line that is a branch or a jump.
+-- Returns true if a line is a branch or a jump.
 abbrev pub is_jump : Line → Bool
 is_jump (lines.Ordinary instruction) = false
 is_jump line = true
 
 -- ---- a filled delay slot
 
--- The properties of an instruction that fills the delay slot of a line.
+-- `IsFilled` states the properties of an instruction that fills the delay slot of a line.
 pub record IsFilled (code : List Line) (number : ℕ) (i : Instr) : Type 0 where
   pub before : ℕ
   pub line : Line
@@ -58,7 +58,8 @@ filled code (suc before) i is = unless (is_named code (suc before)) refl is
     unless true named is = absurd (let e : None ≡ Some i = is in cc)
     unless false unnamed is = by (slice_get code before) (slice_get code (suc before)) refl refl is unnamed
 
--- An instruction that fills a slot may be moved, and its line is a branch or a jump.
+-- If an instruction fills the delay slot of a line, the instruction may be moved, and the line is a
+-- branch or a jump.
 pub filled_moves : (i : Instr) (line : Line) → moves i line ≡ true → (is_movable i ≡ true) × (is_jump line ≡ true)
 filled_moves i (lines.Ordinary other) may = absurd (let e : false ≡ true = may in cc)
 filled_moves i (lines.Branch condition label) may = (and_left (is_movable i) _ may, refl)
@@ -68,20 +69,20 @@ filled_moves i lines.Return may = (and_left (is_movable i) _ may, refl)
 
 -- ---- empty delay slots
 
--- A label that a line jumps to is used.
+-- If a line jumps to a label, the label is used.
 pub label_named : (code : List Line) (number label : ℕ) (line : Line) → slice_get code number ≡ Some line → label_of line ≡ Some label → is_named code label ≡ true
 label_named code number label line at goes =
     list_any_at (λ (l : Line). is_label label (label_of l)) code number line (slice_get_within code number line at)
     (ap (λ (l : Line). is_label label (label_of l)) (get_or_from_slice_get code number line line at)
     ∙ ap (is_label label) goes ∙ eq-eqb label label refl)
 
--- A line with a used label satisfies `IsMet`.
+-- If a label is used, the delay slot of the line with this label is empty.
 pub named_empty : (code : List Line) (number label : ℕ) (line : Line) → slice_get code number ≡ Some line → label_of line ≡ Some label → filling code label ≡ None
 named_empty code number zero line at goes = refl
 named_empty code number (suc before) line at goes =
     ap (λ b. cond b None (moved (slice_get code before) (slice_get code (suc before)))) (label_named code number (suc before) line at goes)
 
--- The delay slot of a line after a branch or jump is empty.
+-- If a line is a branch or a jump, the delay slot of the next line is empty.
 pub after_empty : (code : List Line) (number : ℕ) (line : Line) → slice_get code number ≡ Some line → is_jump line ≡ true → filling code (suc number) ≡ None
 after_empty code number line at jumps =
     unless (is_named code (suc number)) (ap (λ (o : Option Line). moved o (slice_get code (suc number))) at ∙ still line jumps (slice_get code (suc number)))
@@ -97,7 +98,7 @@ after_empty code number line at jumps =
     unless true none = refl
     unless false none = none
 
--- An ordinary line has no delay slot.
+-- A line with an ordinary instruction has no delay slot.
 pub ordinary_empty : (code : List Line) (number : ℕ) (i : Instr) → slice_get code number ≡ Some (lines.Ordinary i) → filling code number ≡ None
 ordinary_empty code number i at = by (filling code number) refl
   where
@@ -111,25 +112,25 @@ ordinary_empty code number i at = by (filling code number) refl
 
 -- ---- reachable lines
 
--- Reachability is computed line by line.
+-- The reachability of a line is computed from that of the line before it.
 pub unreached_in_turn : (code : List Line) (unreached : Bool) (number : ℕ) → unreached ≡ is_unreached_before code number → is_unreached_after unreached code number ≡ is_unreached code number
 unreached_in_turn code unreached zero is = refl
 unreached_in_turn code unreached (suc before) is = ap (λ b. is_unreached_after b code (suc before)) is
 
--- A line after a reachable one that continues is reachable.
+-- If a line is reachable and control continues after it, the next line is reachable.
 pub reached_after : (code : List Line) (number : ℕ) (line : Line) → slice_get code number ≡ Some line → goes_on (Some line) ≡ true → is_unreached code number ≡ false → is_unreached code (suc number) ≡ false
 reached_after code number line at on reached =
     ap (λ b. is_unreached_after b code (suc number)) reached
     ∙ ap (λ b. not b && (not (is_named code (suc number)) && may_lack (fills_after code (suc number)) (slice_get code (suc number)))) (ap goes_on at ∙ on)
 
--- A line with a used label satisfies `IsMet`.
+-- A line whose label is used is reachable.
 named_reached : (code : List Line) (number : ℕ) → is_named code number ≡ true → is_unreached code number ≡ false
 named_reached code zero named = refl
 named_reached code (suc before) named =
     let following : Bool = is_unreached code before || not (goes_on (slice_get code before)) in
     ap (λ b. following && (not b && may_lack (fills_after code (suc before)) (slice_get code (suc before)))) named ∙ and_false following
 
--- A line that may not be omitted is reachable.
+-- A line that must not be omitted from the text is reachable.
 kept_reached : (code : List Line) (number : ℕ) (line : Option Line) → slice_get code number ≡ line → may_lack (fills_after code number) line ≡ false → is_unreached code number ≡ false
 kept_reached code zero line at kept = refl
 kept_reached code (suc before) line at kept =
@@ -140,7 +141,7 @@ kept_reached code (suc before) line at kept =
 pub call_reached : (code : List Line) (number label : ℕ) → slice_get code number ≡ Some (lines.Call label) → is_unreached code number ≡ false
 call_reached code number label at = kept_reached code number (Some (lines.Call label)) at refl
 
--- The instruction that fills the slot of a reachable line is reachable.
+-- If a line is reachable and an instruction fills its delay slot, this instruction is reachable.
 pub filling_reached : (code : List Line) (number : ℕ) (i : Instr) (f : IsFilled code number i) → is_unreached code number ≡ false → is_unreached code f.before ≡ false
 filling_reached code number i f reached = by f.line f.at f.moves
   where
@@ -150,7 +151,8 @@ filling_reached code number i f reached = by f.line f.at f.moves
     at_after : (line : Line) → slice_get code number ≡ Some line → slice_get code (suc f.before) ≡ Some line
     at_after line at = ap (slice_get code) (sym f.is) ∙ at
 
-    -- If the instruction before a line is unreachable, so is the line.
+    -- If the instruction before a branch or jump, which fills its delay slot, is unreachable, so is
+    -- the branch or jump.
     neither : (line : Line) → slice_get code number ≡ Some line → may_lack (fills_after code (suc f.before)) (Some line) ≡ true → is_unreached code f.before ≡ true → is_unreached code (suc f.before) ≡ true
     neither line at lacks unreached =
         ap (λ b. is_unreached_after b code (suc f.before)) unreached
@@ -170,17 +172,17 @@ filling_reached code number i f reached = by f.line f.at f.moves
         (ap (λ b. not (not b && is_call (slice_get code (suc f.before)))) unnamed ∙ ap (λ o. not (is_call o)) (at_after (lines.Call label) at))
     by lines.Return at may = unless lines.Return at refl (is_unreached code f.before) refl
 
--- A reachable line whose delay slot is not filled.
+-- `IsMet` says that a line is reachable and that its delay slot is not filled.
 pub record IsMet (code : List Line) (number : ℕ) : Type 0 where
   pub empty : filling code number ≡ None
   pub reached : is_unreached code number ≡ false
 
--- A line with a used label satisfies `IsMet`.
+-- A line whose label is used is reachable, and its delay slot is not filled.
 pub named_met : (code : List Line) (number label : ℕ) (line : Line) → slice_get code number ≡ Some line → label_of line ≡ Some label → IsMet code label
 named_met code number label line at goes =
     record { empty = named_empty code number label line at goes; reached = named_reached code label (label_named code number label line at goes) }
 
--- A line after a reachable branch or call satisfies `IsMet`.
+-- The line after a reachable branch or call is reachable, and its delay slot is not filled.
 pub after_met : (code : List Line) (number : ℕ) (line : Line) → slice_get code number ≡ Some line → is_jump line ≡ true → goes_on (Some line) ≡ true → is_unreached code number ≡ false → IsMet code (suc number)
 after_met code number line at jumps on reached = record { empty = after_empty code number line at jumps; reached = reached_after code number line at on reached }
 

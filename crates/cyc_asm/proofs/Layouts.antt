@@ -1,4 +1,4 @@
--- Laws of the positions of lines.
+-- Laws of the positions of lines in the assembled text.
 use Rattle.std.proofs.Common.{◌≡◌, ℕ, zero, suc, ◌+◌, ◌-◌, ◌≤◌, ◌<◌, List, [], ◌∷◌, ◌++◌, length, get_or, take, Bool, true, false, cond, nat_le, Option, None, Some, append-nil, refl, sym, ap, subst, ◌∙◌, arith, inl, inr}
 use Rattle.std.specs.Prelude.{slice_get}
 use Rattle.std.specs.List.{range_with_len, flat_map}
@@ -23,7 +23,7 @@ use Rattle.cyc_asm.specs.inside.Text.{stretch, own}
 use Rattle.cyc_asm.proofs.Fillings.{call_reached}
 use Rattle.cyc_asm.proofs.Stretches.{own-stretch, stretch-append}
 
--- The line of this number exists, or all lines are before it.
+-- If a number is below the number of lines, a line with this number exists.
 pub line_there : (code : List Line) (number : ℕ) → number < length code → (line : Line) × (slice_get code number ≡ Some line)
 line_there code number below = (_, slice_get-get_or code number lines.Return below)
 
@@ -39,7 +39,7 @@ tail_width-some : (near : Bool) → 0 < tail_width near
 tail_width-some true = omega arith
 tail_width-some false = omega arith
 
--- A line takes at most its most words.
+-- A line takes at most as many words as `words_of` allows for it.
 pub width_of-most : (code : List Line) (number : ℕ) (line : Line) → width_of code number line ≤ words_of line
 width_of-most code number (lines.Ordinary i) = omega arith
 width_of-most code number (lines.Branch condition label) = omega (arith, head_width-most (filling code number), tail_width-most (is_near code number label))
@@ -61,7 +61,8 @@ words_of-some (lines.Jump label) = omega arith
 words_of-some (lines.Call label) = omega arith
 words_of-some lines.Return = omega arith
 
--- The maximum number of words before the next line, in terms of the current one.
+-- The maximum number of words before the next line is that before this line plus the most words
+-- that this line takes.
 pub most_before-suc : (code : List Line) (number : ℕ) (line : Line) → slice_get code number ≡ Some line → most_before code (suc number) ≡ most_before code number + words_of line
 most_before-suc code number line found =
     let below = slice_get_within code number line found in
@@ -79,7 +80,8 @@ pub position-unreached : (code : List Line) (number : ℕ) → is_unreached code
 position-unreached code number unreached =
     ap (λ b. position code number + cond b 0 (width_in code number (slice_get code number))) unreached ∙ (let e : position code number + 0 ≡ position code number = omega arith in e)
 
--- The position of the next line, for any line.
+-- The position of the next line is at least that of this line, and at most the line's width
+-- greater.
 pub position-next : (code : List Line) (number : ℕ) (line : Line) → slice_get code number ≡ Some line
     → (position code number ≤ position code (suc number)) × (position code (suc number) ≤ position code number + width_of code number line)
 position-next code number line found = by (is_unreached code number) refl
@@ -92,7 +94,8 @@ position-next code number line found = by (is_unreached code number) refl
 pub most_before-all : (code : List Line) → most_before code (length code) ≡ all_words code
 most_before-all code = ap all_words (take_all (length code) code (omega arith))
 
--- Between two lines there are at most their most words.
+-- `IsBetween` says that the lines between two lines take at most the most words that `words_of`
+-- allows for them.
 
 pub record IsBetween (code : List Line) (from to : ℕ) : Type 0 where
   pub up : position code from ≤ position code to
@@ -114,7 +117,7 @@ between code from (suc more) to is within =
 pub between_lines : (code : List Line) (from to : ℕ) → from ≤ to → to ≤ length code → IsBetween code from to
 between_lines code from to up within = between code from (to - from) to (omega (arith, up)) within
 
--- All lines together take at most their most words.
+-- All lines together take at most as many words as `words_of` allows for them.
 pub position-most : (code : List Line) (number : ℕ) → number ≤ length code → position code number ≤ all_words code
 position-most code number within =
     let front = between_lines code 0 number (omega arith) within in
@@ -123,7 +126,8 @@ position-most code number within =
     let whole = between_lines code 0 (length code) (omega arith) (omega arith) in
     omega (arith, front.up, front.most, back.up, back.most, whole.most, all)
 
--- A line is before a later return point, since the call before that takes words.
+-- A line is at a lower position than a later return point, since the call before the return point
+-- takes words.
 point_less : (code : Labelled) (a b : ℕ) → a < b → IsReturnPoint code b → position code.lines a < position code.lines b
 point_less code a b less point =
     let call : Line = lines.Call point.label in
@@ -135,7 +139,7 @@ point_less code a b less point =
     let there = ap (position code.lines) is in
     omega (arith, front, wide, some, there)
 
--- Every line is before the end of the most words.
+-- The position of each line is less than the most words that all lines may take.
 position-below : (code : List Line) (number : ℕ) → number < length code → position code number < all_words code
 position-below code number within =
     let (line, found) = line_there code number within in
@@ -144,7 +148,7 @@ position-below code number within =
     let back = between_lines code (suc number) (length code) (omega (arith, within)) (omega arith) in
     omega (arith, front, more, words_of-some line, back.up, back.most, most_before-all code)
 
--- Return points have different addresses, and all lines are in the text range.
+-- The addresses of return points differ, and the addresses of all lines are in the text range.
 pub addresses_fit : (code : Labelled) → Fits code.lines → AreAddresses code (addresses_in code.lines)
 addresses_fit code fits = record {
   apart = λ a b point_a point_b same. elim (cases_lt a b) [
@@ -159,7 +163,8 @@ addresses_fit code fits = record {
   below = λ line inside. omega (arith, fits, position-below code.lines line inside);
 }
 
--- A near label is within reach. (Of the four words that a branch may take, a near one has at most two.)
+-- A label that is near a branch is within the reach of its offset. (Of the four words that a branch may
+-- take, a near one takes at most two.)
 pub near_below : (code : List Line) (from to : ℕ) (condition : Condition) → is_near code from to ≡ true → slice_get code from ≡ Some (lines.Branch condition to) → to < length code → from < to → position code to ≤ position code from + 32765
 near_below code from to condition near found in_to up =
     let line : Line = lines.Branch condition to in
@@ -176,7 +181,7 @@ near_above code from to near in_from in_to up =
     let second : most_before code from ≤ most_before code to + MAX_REACH = leb-true (most_before code from) (most_before code to + MAX_REACH) (and_right (nat_le (most_before code to) (most_before code from + MAX_REACH)) (nat_le (most_before code from) (most_before code to + MAX_REACH)) near) in
     omega (arith, most, second)
 
--- The lines' own words are all words, in order.
+-- The words that belong to the lines, in the order of the lines, are all words of the text.
 pub own_words : (code : Labelled) (count : ℕ) → flat_map (own (addresses_in code.lines)) (range_with_len 0 count) ≡ stretch text_base (position code.lines count)
 own_words code zero = refl
 own_words code (suc count) =

@@ -1,5 +1,5 @@
--- The targets of returns, branches and jumps, and the worlds that match a configuration. A branch or jump whose slot is filled is executed
--- before the instruction that fills it.
+-- The targets of returns, branches and jumps, and the worlds that match a configuration of labelled code. A branch or jump whose delay
+-- slot is filled is executed before the instruction that fills it.
 use Rattle.std.proofs.Common.{◌≡◌, ◌≢◌, ℕ, zero, suc, pos, ◌+◌, ◌%◌, ◌≤◌, ◌<◌, List, length, Bool, true, false, cond, not, nat_eq, Option, None, Some, refl, sym, ap, subst, ◌∙◌, arith, inl, inr}
 use Rattle.std.specs.Prelude.{◌⊎◌, ◌&&◌, slice_get}
 use Rattle.std.proofs.lemmas.Bool.{cases_eq, cases_lt, not-true}
@@ -46,7 +46,7 @@ use Rattle.cyc_asm.proofs.Fillings.{is_jump}
 
 -- ---- the target of a return
 
--- One of the first `count` lines after calls is at this address, or none is.
+-- `Found` says that one of the first `count` return points is at this address, or that none is.
 abbrev Found : Labelled → (ℕ → ℕ) → (address count : ℕ) → Type 0
 Found code addresses address count =
     ((line : ℕ) × IsReturnPoint code line × (addresses line ≡ address)) ⊎ ((line : ℕ) → line < count → IsReturnPoint code line → addresses line ≢ address)
@@ -87,7 +87,8 @@ find code addresses address (suc count) within = elim (find code addresses addre
 running_over : (end : End) → phases.Running ≡ phases.Over end → ⊥
 running_over end is = let e : phases.Running ≡ phases.Over end = is in cc
 
--- The inverse of a branch is taken exactly if the branch is not. (`words` gives the word of each register.)
+-- The inverse of a branch is taken exactly if the branch is not. (The function `words` maps each register
+-- to its word.)
 pub holds-inverse : (words : ℕ → ℕ) (condition : Condition) → holds_of words (inverse_of condition) ≡ not (holds_of words condition)
 holds-inverse words (conditions.Registers Equal left right) = refl
 holds-inverse words (conditions.Registers NotEqual left right) = sym (not_not (nat_eq (words left.number) (words right.number)))
@@ -96,7 +97,7 @@ holds-inverse words (conditions.Sign signs.Greater source) = int_le-not_lt (sign
 holds-inverse words (conditions.Sign signs.Less source) = int_le-not_lt (pos 0) (signed (words source.number))
 holds-inverse words (conditions.Sign signs.GreaterOrEqual source) = int_lt-not_le (pos 0) (signed (words source.number))
 
--- A branch executes its slot and then continues at its target or after the slot.
+-- A branch executes its delay slot, and then continues at its target or after the delay slot.
 pub branches_to : (words : List ℕ) (c : Configuration) (from : ℕ) (condition : Condition) (offset : ℕ) → executes (world_at words c from (from + 4) false).machine (branch_of condition offset)
     ≡ Does events.Ran (world_at words c (from + 4) (cond (holds_of (word_in c) condition) (branch_target from offset) (add_of (from + 4) 4)) true).machine
 branches_to words c from (conditions.Registers op left right) offset = refl
@@ -108,7 +109,8 @@ module _ (code : Labelled) (addresses : ℕ → ℕ) where
   abbrev pub above : Machine
   above = labelled.machine code addresses
 
-  -- The registers after a branch or jump, before its slot: a call has stored its return address.
+  -- Returns the registers after a branch or jump, before its delay slot: a call has stored its
+  -- return address.
   abbrev linked_in : (number : ℕ) → Line → Configuration → List ℕ
   linked_in number (lines.Call label) c = (with_register (core_of c) RETURN_ADDRESS (addresses (suc number))).registers
   linked_in number line c = c.registers
@@ -116,7 +118,8 @@ module _ (code : Labelled) (addresses : ℕ → ℕ) where
   abbrev pub headed : (number : ℕ) → Line → Configuration → Configuration
   headed number line c = record c { registers = linked_in number line c }
 
-  -- The address after the slot. A far branch that is taken continues at the jump that it skips otherwise.
+  -- Returns the address at which control continues after the delay slot of a taken branch. A far branch
+  -- continues at the jump that it skips if it is not taken.
   abbrev pub taken_to : (near : Bool) → (number label : ℕ) → ℕ
   taken_to true number label = addresses label
   taken_to false number label = addresses number + 4
@@ -131,7 +134,7 @@ module _ (code : Labelled) (addresses : ℕ → ℕ) where
   leads number (lines.Call label) c = addresses label
   leads number lines.Return c = word_in c RETURN_ADDRESS
 
-  -- An instruction that may be moved has the same effect before and after the branch or jump.
+  -- An instruction that may be moved has the same effect before a branch or jump and after it.
   pub headed_moves : (number : ℕ) (line : Line) (c : Configuration) (i : Instr) → moves i line ≡ true → did (headed number line c) i ≡ headed number line (did c i)
   headed_moves number (lines.Ordinary other) c i may = refl
   headed_moves number (lines.Branch condition label) c i may = refl
@@ -153,7 +156,8 @@ module _ (code : Labelled) (addresses : ℕ → ℕ) where
       (not-true (reads i RETURN_ADDRESS) (and_left (not (reads i RETURN_ADDRESS)) (not (writes i RETURN_ADDRESS)) free)) ∙ allowed
   headed_allowed number lines.Return c i may allowed = allowed
 
-  -- An instruction that may be moved does not change the target of the branch or jump.
+  -- An instruction that may be moved into the delay slot of a branch or jump does not change the
+  -- target of this branch or jump.
   pub leads_moves : (number : ℕ) (line : Line) (c : Configuration) (i : Instr) → moves i line ≡ true → leads number line c ≡ leads number line (did c i)
   leads_moves number (lines.Ordinary other) c i may = refl
   leads_moves number (lines.Branch condition label) c i may =
@@ -165,12 +169,12 @@ module _ (code : Labelled) (addresses : ℕ → ℕ) where
       sym (unwritten_stays c i RETURN_ADDRESS (and_left (is_movable i) (not (writes i RETURN_ADDRESS)) may) (not-true (writes i RETURN_ADDRESS) (and_right (is_movable i) (not (writes i RETURN_ADDRESS)) may)))
 
   module _ (words : List ℕ) where
-    -- The machine's world that matches a configuration of labelled code.
+    -- Returns the MIPS machine's world that matches a configuration of labelled code.
     abbrev pub placed : Configuration → World
     placed c = world_at words c (addresses c.line) (add_of (addresses c.line) 4) false
 
-    -- The state between the two instructions: the labelled machine has executed the one before the branch or jump. The machine has executed
-    -- the branch or jump and has that instruction in its slot.
+    -- `Between` relates states in the middle of a filled delay slot. The labelled machine has executed the instruction before the branch or
+    -- jump. The MIPS machine has executed the branch or jump and has this instruction in its delay slot.
     pub record Between (c : Configuration) (i : Instr) (line : Line) (w : World) : Type 0 where
       pub before : Configuration
       pub found : slice_get code.lines c.line ≡ Some line
@@ -192,7 +196,7 @@ module _ (code : Labelled) (addresses : ℕ → ℕ) where
     matched_seen None c w is = ap seen_of is
     matched_seen (Some i) c w (line, mid) = ap seen_of mid.is ∙ ap (λ (c : Configuration). labelled.seen_of (labelled.Running c)) (sym mid.did)
 
-    -- The matching world at a line that is no branch or jump with a filled slot.
+    -- At a line whose delay slot is not filled, the matching world is at the address of the line.
     pub at_empty : (c : Configuration) (w : World) → filling code.lines c.line ≡ None → w ≡ placed c → MatchesAs (filling code.lines c.line) c w
     at_empty c w empty is = subst (λ (o : Option Instr). MatchesAs o c w) (sym empty) is
 
@@ -217,7 +221,8 @@ module _ (code : Labelled) (addresses : ℕ → ℕ) where
 
     -- ---- a branch or jump and its delay slot
 
-    -- A branch or jump is in the text with its slot filled or empty.
+    -- If a line is a branch or jump, the text contains its words, with its delay slot filled or
+    -- empty.
     pub jump_stands : (number : ℕ) (line : Line) → is_jump line ≡ true → Stands code words addresses number line → StandsFilled (filling code.lines number) code words addresses number line
     jump_stands number (lines.Ordinary i) jumps stands = absurd (let e : false ≡ true = jumps in cc)
     jump_stands number (lines.Branch condition label) jumps stands = stands
@@ -225,7 +230,7 @@ module _ (code : Labelled) (addresses : ℕ → ℕ) where
     jump_stands number (lines.Call label) jumps stands = stands
     jump_stands number lines.Return jumps stands = stands
 
-    -- Executing a branch or jump leads the machine to its delay slot.
+    -- After the MIPS machine executes a branch or jump, it is at the delay slot.
     pub head_goes : (number : ℕ) (line : Line) (i : Instr) (from : ℕ) (c : Configuration) → StandsFrom code words addresses number line i from → addresses number ≡ from + 4 → from % 4 ≡ 0 → from < text_end
         → (u : World) → Goes (world_at words c from (from + 4) false) u → u ≡ world_at words (headed number line c) (from + 4) (leads number line c) true
     head_goes number (lines.Ordinary other) i from c stands place multiple low u goes = absurd stands
@@ -263,7 +268,7 @@ module _ (code : Labelled) (addresses : ℕ → ℕ) where
       pub line_stands : (number : ℕ) (line : Line) → slice_get code.lines number ≡ Some line → is_unreached code.lines number ≡ false → Stands code words addresses number line
       line_stands number line found reached = subst (λ b. StandsUnless b code words addresses number line) reached (text.stands number line found)
 
-      -- The instruction has its usual effect in the slot.
+      -- An instruction in a delay slot has its usual effect.
       pub slot_goes : (c : Configuration) (small : length c.stack ≤ 1048576) (i : Instr) → is_movable i ≡ true → cause_of (machine_of c) i ≡ None → (at next : ℕ) → IsAt words at i → at % 4 ≡ 0
           → (u : World) → Goes (world_at words c at next true) u → u ≡ world_at words (did c i) next (add_of next 4) false
       slot_goes c small i movable allowed at next here multiple u (event, s, step, is) =

@@ -1,4 +1,4 @@
--- A reordering keeps the number of lines.
+-- A reordering leaves the number of lines unchanged.
 use Rattle.std.proofs.Common.{◌≡◌, ℕ, zero, suc, ◌+◌, ◌-◌, nat_le, List, length, Bool, true, false, cond, refl, ◌∙◌}
 use Rattle.std.specs.Option.{is_some}
 use Rattle.std.proofs.lemmas.List.Edits.{length-swap}

@@ -1,9 +1,9 @@
--- the lemmas for the laws and for the contract of `assemble`
+-- the lemmas from which the laws and the contract of `assemble` follow
 pub mod Running
 pub mod Stretches
 pub mod Standing
 pub mod Arranging
--- auxiliary lemmas on delay slots
+-- auxiliary lemmas on delay slots and reachable lines
 pub mod Fillings
 pub mod Moving
 pub mod Passed

@@ -1,5 +1,5 @@
--- An instruction has the same effect in the delay slot of a branch or jump as before it, and leaves the effect of the branch unchanged. An
--- instruction does not change registers that it does not write, and does not depend on those that it does not read.
+-- An instruction has the same effect in the delay slot of a branch or jump as before it, and does not change the effect of the branch or
+-- jump. An instruction does not change registers that it does not write, and does not depend on those that it does not read.
 use Rattle.std.proofs.Common.{◌≡◌, ◌≢◌, ℕ, ◌+◌, ◌-◌, ◌%◌, ◌^◌, Bool, true, false, not, ◌==◌, ◌||◌, ◌&&◌, List, [], ◌∷◌, length, Option, None, Some, refl, sym, ap, subst, ◌∙◌}
 use Rattle.std.specs.Prelude.{if◌then◌else◌, slice_index, slice_set}
 use Rattle.std.proofs.lemmas.Bool.{not-true}
@@ -35,11 +35,11 @@ use Rattle.cyc_asm.specs.inside.Slots.{is_movable, leaves}
 
 -- ---- the effect of the instruction
 
--- The configuration after an instruction that calls no service.
+-- Returns the configuration after an instruction that calls no service.
 abbrev pub did : Configuration → Instr → Configuration
 did c i = from_world (reported (world_of c) Ran (after (machine_of c) i)) (c.line + 1)
 
--- The configuration with a register set, as a call sets that of the return address.
+-- Returns the configuration with a register set, as a call sets the register of the return address.
 abbrev pub with_word : Configuration → (number word : ℕ) → Configuration
 with_word c number word = record c { registers = (with_register (core_of c) number word).registers }
 
@@ -95,7 +95,7 @@ after_runs c (MoveFrom Low d) movable = refl
 after_runs c (MultiplyDivide op l r) movable = refl
 after_runs c (Arithmetic op d l r) movable = refl
 
--- The labelled machine performs the instruction if nothing forbids it.
+-- The labelled machine performs a movable instruction if the machine has no reason to refuse it.
 pub performs_did : (c : Configuration) (i : Instr) → is_movable i ≡ true → cause_of (machine_of c) i ≡ None → Performs c i (Running (did c i))
 performs_did c i movable allowed = (
   Ran,
@@ -104,7 +104,7 @@ performs_did c i movable allowed = (
   sym (ap (settled (reported (world_of c) Ran (after (machine_of c) i)) (c.line + 1)) (after_runs c i movable)),
 )
 
--- A forbidden instruction stops the labelled machine.
+-- An instruction that the machine refuses stops the labelled machine.
 pub performs_refused : (c : Configuration) (i : Instr) (cause : Cause) → cause_of (machine_of c) i ≡ Some cause → Performs c i (Stopped c.output c.input)
 performs_refused c i cause is = (
   Ended (Trap cause),
@@ -113,7 +113,7 @@ performs_refused c i cause is = (
   refl,
 )
 
--- An allowed instruction has no other effect.
+-- A movable instruction that the machine does not refuse leads to exactly one state.
 pub only_did : (c : Configuration) (i : Instr) → is_movable i ≡ true → cause_of (machine_of c) i ≡ None → (next : State) → Performs c i next → next ≡ Running (did c i)
 only_did c i movable allowed next (event, left, acts, is) =
     let ran : (event ≡ Ran) × (left ≡ after (machine_of c) i) =
@@ -123,7 +123,7 @@ only_did c i movable allowed next (event, left, acts, is) =
     ∙ ap (λ (s : machines.State). settled (reported (world_of c) Ran s) (c.line + 1) s.phase) ran.1
     ∙ ap (settled (reported (world_of c) Ran (after (machine_of c) i)) (c.line + 1)) (after_runs c i movable)
 
--- The instruction keeps the length of the stack.
+-- A movable instruction leaves the length of the stack unchanged.
 pub same_stack : (c : Configuration) (i : Instr) → is_movable i ≡ true → length (did c i).stack ≡ length c.stack
 same_stack c (Immediate op t b h) movable = refl
 same_stack c (LoadUpper t h) movable = refl
@@ -167,7 +167,7 @@ registers-either true false xs i j v w differ = refl
 registers-either false true xs i j v w differ = refl
 registers-either false false xs i j v w differ = set_comm xs j i w v (λ same. differ (sym same))
 
--- The registers after two writes, where the first word is one of two equal words.
+-- Writes of two different registers commute.
 both_set : (core : Core) (target number word value value' : ℕ) → value' ≡ value → target ≢ number
     → (with_register (with_register core number word) target value').registers ≡ (with_register (with_register core target value) number word).registers
 both_set core target number word value value' same differ =
@@ -205,7 +205,7 @@ unwritten_stays c i n movable none = go (n == 0) refl
         ∙ sym (ap (λ (x : Bool). if x then 0 else slice_index c.registers n) zero)
     go false some = sets-stays c i n movable (sym (ap (λ (x : Bool). not x && names_result i n) some) ∙ none)
 
--- A branch is taken after the instruction exactly if it is taken before it.
+-- A branch is taken after a movable instruction exactly if it is taken before this instruction.
 pub holds_stays : (c : Configuration) (i : Instr) (condition : Condition) → is_movable i ≡ true → leaves i condition ≡ true → holds_of (word_in (did c i)) condition ≡ holds_of (word_in c) condition
 holds_stays c i (conditions.Registers op left right) movable free =
     ap (λ (x : ℕ). branch_taken op x (word_in (did c i) right.number)) (unwritten_stays c i left.number movable (not-true (writes i left.number) (and_left _ _ free)))
@@ -218,7 +218,8 @@ holds_stays c i (conditions.Sign op source) movable free =
 unread_register : (c : Configuration) (number word other : ℕ) → (other == number) ≡ false → word_in (with_word c number word) other ≡ word_in c other
 unread_register c number word other none = register-other (core_of c) number word other (λ same. other_from_eqb other number none (sym same))
 
--- A store leaves the same memory as before the exchange if neither of its registers is the one that the other instruction sets.
+-- If neither register of a store instruction is the one that another instruction sets, the store has the same effect on memory
+-- before and after it.
 store_commutes : (c : Configuration) (t b : Register) (n w : ℕ) (left : (base word : ℕ) → machines.Memory) → (t.number == n || b.number == n) ≡ false
     → (let m : machines.Memory = left (word_in (with_word c n w) b.number) (word_in (with_word c n w) t.number) in let d : Configuration = record (with_word c n w) { globals = m.globals; stack = m.stack; store = m.store; line = c.line + 1 } in d)
     ≡ (let m : machines.Memory = left (word_in c b.number) (word_in c t.number) in let d : Configuration = record (with_word c n w) { globals = m.globals; stack = m.stack; store = m.store; line = c.line + 1 } in d)
@@ -227,8 +228,8 @@ store_commutes c t b n w left free =
     (ap (λ (x : ℕ). left x (word_in (with_word c n w) t.number)) (unread_register c n w b.number (or_right_false (t.number == n) (b.number == n) free))
     ∙ ap (left (word_in c b.number)) (unread_register c n w t.number (or_left_false (t.number == n) (b.number == n) free)))
 
--- Setting a register that the instruction neither reads nor writes commutes with it. A call may store its return address before such a
--- commuting instruction.
+-- Setting a register commutes with an instruction that neither reads nor writes this register. A call may store its return address
+-- before an instruction that neither reads nor writes the return address register.
 pub commutes : (c : Configuration) (i : Instr) (n w : ℕ) → is_movable i ≡ true → reads i n ≡ false → names_result i n ≡ false → did (with_word c n w) i ≡ with_word (did c i) n w
 commutes c (Immediate op t b h) n w movable free none =
     ap (λ (rs : List ℕ). record (did c (Immediate op t b h)) { registers = rs })
@@ -277,7 +278,7 @@ commutes c (Arithmetic op d l r) n w movable free none =
     (ap (λ (x : ℕ). arithmetic_result op x (word_in (with_word c n w) r.number)) (unread_register c n w l.number (or_left_false (l.number == n) (r.number == n) free))
     ∙ ap (arithmetic_result op (word_in c l.number)) (unread_register c n w r.number (or_right_false (l.number == n) (r.number == n) free))) (other_from_eqb d.number n none))
 
--- The reason for which a load, a store or a division may be forbidden, from the words of its registers.
+-- Returns the reason to refuse a load or a store at an address, if there is one.
 abbrev memory_cause : Configuration → (stores : Bool) → (address : ℕ) → Option Cause
 memory_cause c stores address = let place = place_of (memory_of c) address in first_of (
     (false, causes.Unpredictable)
@@ -300,7 +301,8 @@ division_cause left right = first_of (
     ∷ (false, causes.BadService)
     ∷ [])
 
--- The instruction is forbidden after the register is set exactly if it is forbidden before.
+-- If an instruction does not read a register, the machine refuses it after this register is set
+-- exactly if it refuses it before.
 pub same_refusal : (c : Configuration) (i : Instr) (n w : ℕ) → is_movable i ≡ true → reads i n ≡ false → cause_of (machine_of (with_word c n w)) i ≡ cause_of (machine_of c) i
 same_refusal c (Memory LoadWord t b h) n w movable free = ap (λ (x : ℕ). memory_cause c false (memory_address x h)) (unread_register c n w b.number free)
 same_refusal c (Memory StoreWord t b h) n w movable free =

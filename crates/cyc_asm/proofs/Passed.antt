@@ -1,4 +1,4 @@
--- A line without a delay slot is skipped: no instruction is moved down to it.
+-- The assembler skips a line without a delay slot: it moves no instruction down to this line.
 use Rattle.std.proofs.Common.{◌≡◌, ℕ, suc, ◌+◌, ◌-◌, ◌<◌, nat_le, List, Bool, true, false, cond, not, Option, Some, refl, ap, ◌∙◌, arith}
 use Rattle.std.specs.Prelude.{◌&&◌, slice_get}
 use Rattle.std.specs.Option.{is_some}
@@ -38,7 +38,7 @@ pub settled_passed : (code : List Line) (number : ℕ) (line : Line) → slice_g
 settled_passed code number line here ordinary =
     ap (λ (order : List Line). tried order number 2) (tried_passed code number 1 line here ordinary) ∙ tried_passed code number 2 line here ordinary
 
--- A line with a filled delay slot is skipped.
+-- The assembler skips a line whose delay slot is already filled.
 tried_filled : (code : List Line) (number count : ℕ) → is_some (filling code number) ≡ true → tried code number count ≡ code
 tried_filled code number count filled =
     ap (λ (b : Bool). cond (nat_le number count) code (cond b code (sunk_from code (number - suc count) count))) filled ∙ by (nat_le number count)

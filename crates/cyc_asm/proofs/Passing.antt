@@ -14,7 +14,8 @@ use Rattle.cyc_asm.specs.inside.Slots.{is_movable}
 use Rattle.cyc_asm.specs.inside.Order.{is_apart, passes}
 use Rattle.cyc_asm.proofs.Moving.{did, with_word, unwritten_stays, commutes, same_refusal}
 
--- An instruction that others may be moved past may itself be moved, and is never forbidden.
+-- If an instruction may be moved past another one, the other one may itself be moved, and the
+-- machine never refuses it.
 pub passed_movable : (i j : Instr) → passes i j ≡ true → is_movable j ≡ true
 passed_movable i (Immediate op t b h) may = refl
 passed_movable i (LoadUpper t h) may = refl
@@ -68,11 +69,11 @@ apart_commutes c i r w movable apart = go (r.number == 0) refl
         commutes c i r.number w movable (apart_reads i r apart)
         (sym (ap (λ (x : Bool). not x && names_result i r.number) some) ∙ apart_writes i r apart)
 
--- A register is set, and the next line follows.
+-- Returns the configuration with a register set, at the next line.
 abbrev set_next : Configuration → (number word : ℕ) → Configuration
 set_next c number word = record (with_word c number word) { line = c.line + 1 }
 
--- The register may be set first, with one of two equal words.
+-- An instruction commutes with setting a register that it neither reads nor writes.
 set_before : (c : Configuration) (i : Instr) (r : Register) (w w' : ℕ) → is_movable i ≡ true → is_apart i r ≡ true → w' ≡ w → set_next (did c i) r.number w' ≡ did (set_next c r.number w) i
 set_before c i r w w' movable apart same =
     ap (set_next (did c i) r.number) same
@@ -80,7 +81,7 @@ set_before c i r w w' movable apart same =
 
 -- ---- both orders of the two instructions
 
--- A register that the instruction does not write holds the same word in both orders.
+-- A register that an instruction does not write holds the same word before and after it.
 same_word : (c : Configuration) (i : Instr) (r : Register) → is_movable i ≡ true → not (writes i r.number) ≡ true → word_in (did c i) r.number ≡ word_in c r.number
 same_word c i r movable free = unwritten_stays c i r.number movable (not-true (writes i r.number) free)
 
@@ -112,7 +113,8 @@ either_order c i (Exception op x) movable may = cc
 either_order c i (MoveFrom op d) movable may = cc
 either_order c i (MultiplyDivide op l r) movable may = cc
 
--- The machine refuses an instruction after the other exactly if it refuses it before the other.
+-- The machine refuses an instruction after another one exactly if it refuses it before, if the
+-- instruction may be moved past the other.
 pub passing_refusal : (c : Configuration) (i j : Instr) → is_movable i ≡ true → passes i j ≡ true → cause_of (machine_of (did c j)) i ≡ cause_of (machine_of c) i
 passing_refusal c i (Immediate op t b h) movable may =
     same_refusal c i t.number _ movable (apart_reads i t (and_left (is_apart i t) (not (writes i b.number)) may))

@@ -1,4 +1,4 @@
--- The machine that runs the words follows the labelled machine.
+-- The MIPS machine that runs the assembled words follows the labelled machine.
 use Rattle.std.proofs.Common.{◌≡◌, ℕ, ◌*◌, List, [], replicate, refl, sym, ap, arith, false}
 use Rattle.std.specs.Prelude.{slice_set}
 use Rattle.std.proofs.lemmas.List.{length-replicate}
@@ -29,7 +29,7 @@ over_of phases.Running ending ended = absurd (running_ended ending ended)
 over_of phases.Waiting ending ended = absurd (running_ended ending ended)
 over_of (phases.Over end) ending ended = (end, refl)
 
--- The output only grows, and a run that has ended stays as it is.
+-- In a run of the MIPS machine, the output only grows, and a run that has ended stays in its state.
 pub world_is_lawful : IsLawful world_machine
 world_is_lawful = record {
   grows = λ old new goes. (Goes-output old new goes, Goes-input old new goes);
@@ -37,7 +37,7 @@ world_is_lawful = record {
   rests = λ w ending ended. let (end, over) = over_of w.machine.phase ending ended in Goes-rests w end over;
 }
 
--- The initial configuration of the labelled machine.
+-- Returns the initial configuration of the labelled machine.
 abbrev started : Labelled → StoreState → (calls : ℕ) → (input : List ℕ) → Configuration
 started code store calls input = record {
   registers = slice_set (slice_set (replicate 32 0) ARGUMENT calls) STACK_POINTER stack_end;

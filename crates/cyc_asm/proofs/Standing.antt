@@ -1,4 +1,4 @@
--- The assembled words represent the labelled code.
+-- The words that the assembler emits represent the labelled code.
 use Rattle.std.proofs.Common.{◌≡◌, ℕ, zero, suc, ◌+◌, ◌-◌, ◌*◌, ◌^◌, ◌≤◌, ◌<◌, List, [], ◌∷◌, ◌++◌, length, Bool, true, false, cond, nat_lt, Option, None, Some, refl, sym, ap, subst, ◌∙◌, arith, inl, inr, append_assoc, append-nil}
 use Rattle.std.specs.Prelude.{slice_get, slice_index_or}
 use Rattle.std.proofs.lemmas.Bool.{le-leb, ltb-true, ltb-false, cases_lt}
@@ -80,7 +80,7 @@ length-words_before code (suc number) =
 
 -- ---- positions of words
 
--- The words of the first lines are a prefix of those of more lines.
+-- The words of the first lines are a prefix of the words of more lines.
 begins : (code : List Line) (from more to : ℕ) → from + more ≡ to → (rest : List ℕ) × (words_before code to ≡ words_before code from ++ rest)
 begins code from zero to is = ([], ap (words_before code) (let e : to ≡ from = omega (arith, is) in e) ∙ sym (append-nil (words_before code from)))
 begins code from (suc more) to is =
@@ -91,7 +91,7 @@ begins code from (suc more) to is =
           ∙ append_assoc (words_before code from) rest (words_at code (from + more)),
     )
 
--- A word of the list is found in the text.
+-- A word in the list of assembled words is found in the text, at its index.
 found_in : (ws rest : List ℕ) (j w : ℕ) → slice_get ws j ≡ Some w → slice_index_or (text_of (ws ++ rest)) j None ≡ Some w
 found_in [] rest j w at = cc
 found_in (x ∷ ws) rest zero w at = at
@@ -105,7 +105,7 @@ found_after_words (x ∷ front) ws rest j w at =
 
 -- ---- targets
 
--- The offset of a branch leads from its slot to its target.
+-- The offset of a forward branch yields the address of its target.
 target_below : (from to offset : ℕ) → from < to → to ≤ from + 32767 → to ≤ TEXT_WORDS → offset ≡ to - (from + 1) → branch_target (text_base + 4 * from) offset ≡ text_base + 4 * to
 target_below from to offset less near inside is =
     let small : offset < 2 ^ 15 = omega (arith, is, less, near) in
@@ -119,14 +119,14 @@ target_above from to offset least near inside is =
     let extended = sign_extended_high offset large half in
     ap (λ (e : ℕ). add_of (add_of (text_base + 4 * from) 4) (mul_of 4 e)) extended ∙ (let e : add_of (add_of (text_base + 4 * from) 4) (mul_of 4 (offset + (2 ^ 32 - 2 ^ 16))) ≡ text_base + 4 * to = omega (arith, is, least, near, inside) in e)
 
--- Two positions within reach of each other.
+-- `AreNear` says that two positions are within the reach of a branch offset.
 pub record AreNear (from to : ℕ) : Type 0 where
   pub below : from ≤ to → to ≤ from + 32767
   pub above : to ≤ from → from ≤ to + 32767
   pub low_from : from ≤ TEXT_WORDS
   pub low_to : to ≤ TEXT_WORDS
 
--- A near branch, at the position of its word, and its label.
+-- The position of a near branch and that of its label are within the reach of an offset.
 pub are_near_at : (code : List Line) (number label from : ℕ) (condition : Condition) → Fits code → slice_get code number ≡ Some (lines.Branch condition label) → label < length code → is_near code number label ≡ true
     → IsHeadPosition code number from → AreNear from (position code label)
 are_near_at code number label from condition fits found is_label near (least, most) =
@@ -184,11 +184,11 @@ module _ (code : Labelled) (formed : IsFormed code) (fits : Fits code.lines) whe
     next : is_unreached code.lines number ≡ false → at (suc number) ≡ at number + 4 * width_of code.lines number line
     next reached = let more = position-suc code.lines number line found reached in omega (arith, more)
 
-    -- The words of a reachable line are at its position.
+    -- If a line is reachable, its words are at the line's position.
     words_there : is_unreached code.lines number ≡ false → words_at code.lines number ≡ words_of_line code.lines number line
     words_there reached = ap (λ b. cond b [] (words_in code.lines number (slice_get code.lines number))) reached ∙ ap (words_in code.lines number) found
 
-    -- A word of the line is in the text.
+    -- Each word of a reachable line is in the text, at the line's address plus the word's offset.
     word_there : is_unreached code.lines number ≡ false → (j w address : ℕ) → address ≡ at number + 4 * j → slice_get (words_of_line code.lines number line) j ≡ Some w → text_at (text_of words) address ≡ Some w
     word_there reached j w address is has =
         let (rest, whole) = begins code.lines (suc number) (length code.lines - suc number) (length code.lines) (let inside = below in omega arith) in
@@ -222,7 +222,8 @@ module _ (code : Labelled) (formed : IsFormed code) (fits : Fits code.lines) whe
         slot = record { encodable = encodable; word = second };
       }
 
-  -- The text contains the word of a branch or jump at this address, and these words after it.
+  -- The module assumes that the text contains the word of a branch or jump at an address, and the
+  -- words after it.
   module _ (number from : ℕ) (slotted : Instr) (encodable : IsEncodable slotted) (is_head : IsHeadPosition code.lines number from) where
     abbrev here : ℕ
     here = text_base + 4 * from

@@ -1,4 +1,5 @@
--- Each step of the labelled machine is matched by steps of the machine that runs the words.
+-- Each step of the labelled machine is matched by steps of the MIPS machine that runs the assembled
+-- words.
 use Rattle.std.proofs.Common.{◌≡◌, ℕ, suc, ◌+◌, ◌*◌, ◌%◌, ◌≤◌, ◌<◌, List, [], ◌∷◌, length, Bool, true, false, cond, not, Option, None, Some, refl, sym, ap, subst, ◌∙◌, arith, inl, inr}
 use Rattle.std.specs.Prelude.{Contains, slice_get, slice_set}
 use Rattle.std.proofs.lemmas.Option.{slice_get_within}
@@ -55,7 +56,7 @@ module _ (code : Labelled) (addresses : ℕ → ℕ) (words : List ℕ) (text : 
     abbrev Goal : List ℕ → World → Type 0
     Goal places w = IsMatchedStep (above code addresses) world_machine (matching code addresses words) (labelled.Running c) places w
 
-    -- The labelled machine may reach this state by executing the line.
+    -- `May` says that the labelled machine may reach this state by executing the line.
     abbrev May : Line → labelled.State → Type 0
     May line next = labelled.Executes code addresses c line next
 
@@ -75,7 +76,7 @@ module _ (code : Labelled) (addresses : ℕ → ℕ) (words : List ℕ) (text : 
       on_the_way : (w : World) → seen_of w ≡ labelled.seen_of (labelled.Running c) → status_in w.machine.phase ≡ Running → Way w
       on_the_way w seen running = way_before (above code addresses) world_machine (matching code addresses words) (labelled.Running c) w running seen
 
-      -- The step is made, and the world is at its target.
+      -- If the MIPS world has reached the target, the step of the labelled machine is matched.
       arrived : (places : List ℕ) (c' : Configuration) (target : ℕ) → May line (labelled.Running c') → length c'.stack ≤ 1048576 → IsMet code.lines c'.line → target ≡ addresses c'.line
           → 0 < length places → Goal places (world_at words c' target (add_of target 4) false)
       arrived places c' target may few met is some = record {
@@ -85,7 +86,7 @@ module _ (code : Labelled) (addresses : ℕ → ℕ) (words : List ℕ) (text : 
         lighter = λ none. absurd (omega (arith, some, none));
       }
 
-      -- The step is made by an instruction and its delay slot.
+      -- A step is matched by the execution of a jump and its empty delay slot.
       by_jump : (count : ℕ) (c' : Configuration) (target : ℕ) (i : Instr) → IsAt words here i → IsAt words (here + 4) nothing
           → addresses (suc c.line) ≡ here + 4 * count → 2 ≤ count → c'.output ≡ c.output → c'.input ≡ c.input → length c'.stack ≤ 1048576
           → executes (world_at words c here (here + 4) false).machine i ≡ Does events.Ran (world_at words c' (here + 4) target true).machine
@@ -108,7 +109,7 @@ module _ (code : Labelled) (addresses : ℕ → ℕ) (words : List ℕ) (text : 
       lands true taken label next at first second = first
       lands false taken label next at first second = second
 
-      -- The address after a branch and its delay slot is that of the next line.
+      -- The address after a branch and its delay slot is the address of the next line.
       over_slot : addresses (suc c.line) ≡ here + 8 → add_of (here + 4) 4 ≡ addresses (c.line + 1)
       over_slot next =
           let inside = low in
@@ -116,11 +117,11 @@ module _ (code : Labelled) (addresses : ℕ → ℕ) (words : List ℕ) (text : 
           let sum : add_of (here + 4) 4 ≡ here + 8 = omega arith in
           sum ∙ sym next ∙ ap addresses (sym same)
 
-    -- A branch or jump with an empty slot is at its line's address.
+    -- A branch or jump with an empty delay slot is at the address of its line.
     stands_empty : (line : Line) → filling code.lines c.line ≡ None → StandsFilled (filling code.lines c.line) code words addresses c.line line → StandsFrom code words addresses c.line line nothing here
     stands_empty line empty stands = subst (λ o. StandsFilled o code words addresses c.line line) empty stands
 
-    -- The instruction that fills the slot after a line is that line's own.
+    -- If the delay slot of the next line is filled, it is filled by the instruction of this line.
     its_own : (i slotted : Instr) → slice_get code.lines c.line ≡ Some (lines.Ordinary i) → filling code.lines (suc c.line) ≡ Some slotted
         → (filling code.lines (suc c.line) ≡ Some i) × IsFilled code.lines (suc c.line) i
     its_own i slotted found some =
@@ -131,7 +132,8 @@ module _ (code : Labelled) (addresses : ℕ → ℕ) (words : List ℕ) (text : 
         let mine : filling code.lines (suc c.line) ≡ Some i = some ∙ ap (λ (x : Instr). Some x) one in
         (mine, filled code.lines (suc c.line) i mine)
 
-    -- The line after a branch, and its target, satisfy `IsMet`.
+    -- The line after a branch is reachable, and its delay slot is not filled; so is the branch's
+    -- target.
     next_met : (condition : Condition) (label : ℕ) → slice_get code.lines c.line ≡ Some (lines.Branch condition label) → IsMet code.lines (c.line + 1)
     next_met condition label found =
         subst (IsMet code.lines) (let e : suc c.line ≡ c.line + 1 = omega arith in e) (after_met code.lines c.line (lines.Branch condition label) found refl refl reached)
@@ -295,7 +297,8 @@ module _ (code : Labelled) (addresses : ℕ → ℕ) (words : List ℕ) (text : 
           by_one (above code addresses) world_machine (matching code addresses words) (labelled.Running c) (placed code addresses words c) (small, reached, at_empty code addresses words c _ empty refl) refl (in_own addresses c.line 1 0 here (omega (arith, next_line)) (omega arith) (omega arith))
           (goes_as after_it at is)
 
-      -- Before a filled slot, the machine executes the branch or jump while the labelled machine executes the instruction.
+      -- If the next line's delay slot is filled, the MIPS machine executes the branch or jump while the labelled machine
+      -- executes the instruction.
       module _ (filled_after : IsFilled code.lines (suc c.line) i) (some : filling code.lines (suc c.line) ≡ Some i) where
         may_move : is_movable i ≡ true
         may_move = (filled_moves i filled_after.line filled_after.moves).0
@@ -392,7 +395,8 @@ module _ (code : Labelled) (addresses : ℕ → ℕ) (words : List ℕ) (text : 
         aligned : here % 4 ≡ 0
         aligned = multiple line mid.found fine_here
 
-        -- The address to which the instruction in the slot leads.
+        -- After the instruction in the delay slot, the MIPS machine is at the target of the branch
+        -- or jump.
         after_slot : (u : World) → Goes w u → u ≡ world_at words (headed code addresses c.line line c) (leads code addresses c.line line c) (add_of (leads code addresses c.line line c) 4) false
         after_slot u goes =
             slot_goes code addresses words text (headed code addresses c.line line mid.before) few_before i may_move_here (headed_allowed code addresses c.line line mid.before i mid.moves mid.allowed) here (leads code addresses c.line line mid.before) slot_here aligned u
@@ -411,7 +415,8 @@ module _ (code : Labelled) (addresses : ℕ → ℕ) (words : List ℕ) (text : 
               (few, met.reached, at_empty code addresses words c' u met.empty (after_slot u goes ∙ same (leads code addresses c.line line c) ∙ ap (λ (n : ℕ). world_at words c' n (add_of n 4) false) is)),
             ))
 
-        -- A far branch that is taken: the jump that it otherwise skips is executed too.
+        -- If a far branch is taken, the MIPS machine also executes the jump that it skips
+        -- otherwise.
         round_slot : (condition : Condition) (label : ℕ) → line ≡ lines.Branch condition label → addresses (suc c.line) ≡ here + 12 → IsJumpAt words Plain nothing (from + 8) (addresses label)
             → headed code addresses c.line line c ≡ c → leads code addresses c.line line c ≡ here + 4 → May line (labelled.Running (record c { line = label })) → Stepped w
         round_slot condition label is_branch next jumps same goes_round may =
@@ -458,7 +463,8 @@ module _ (code : Labelled) (addresses : ℕ → ℕ) (words : List ℕ) (text : 
         (ap (λ b. labelled.Running (record c { line = cond b label (c.line + 1) })) (sym untaken)) small (goes_met false condition label mid.found)
         (ap (λ b. cond b (taken_to code addresses (is_near code.lines c.line label) c.line label) (addresses (suc c.line))) untaken ∙ ap addresses (sym same)) (λ n. refl)
 
-    -- A branch after its slot, by whether it is near and whether it is taken.
+    -- A branch whose delay slot was executed is matched, in each case of near or far and taken or
+    -- not.
     branch_slotted : (near taken : Bool) (condition : Condition) (label : ℕ) → is_near code.lines c.line label ≡ near → holds_of (word_in c) condition ≡ taken
         → (i : Instr) (some : filling code.lines c.line ≡ Some i) (w : World) (mid : Between code addresses words c i (lines.Branch condition label) w)
         (never : (next : labelled.State) → labelled.Step code addresses (labelled.Running c) next → labelled.status_of next ≡ Failed → ⊥)

@@ -1,4 +1,4 @@
--- Ranges of consecutive word addresses.
+-- Lists of consecutive word addresses (stretches of text).
 use Rattle.std.proofs.Common.{◌≡◌, ℕ, zero, suc, ◌+◌, ◌-◌, ◌*◌, ◌/◌, ◌≤◌, ◌<◌, List, ◌∷◌, ◌++◌, length, get_or, Bool, true, false, Option, Some, None, refl, sym, ap, subst, ◌∙◌, arith}
 use Rattle.std.specs.Prelude.{Contains}
 use Rattle.std.specs.List.{range_with_len, flat_map}
@@ -21,14 +21,15 @@ pub length-stretch : (from count : ℕ) → length (stretch from count) ≡ coun
 length-stretch from zero = refl
 length-stretch from (suc count) = ap suc (length-stretch (from + 4) count)
 
--- The addresses of a range.
+-- The address of each word in a range is in the list of the range's addresses.
 pub in_stretch : (from count k address : ℕ) → k < count → address ≡ from + 4 * k → Contains (stretch from count) address
 in_stretch from zero k address below is = absurd (omega arith)
 in_stretch from (suc count) zero address below is = (0, (omega arith), (omega arith))
 in_stretch from (suc count) (suc k) address below is =
     let (i, inside, at) = in_stretch (from + 4) count k address (omega arith) (omega arith) in (suc i, (omega (arith, inside)), at)
 
--- A line with this many words owns this range.
+-- If a line takes `count` words, its own words are at the `count` addresses from the line's address
+-- on.
 pub own-stretch : (addresses : ℕ → ℕ) (number count : ℕ) → addresses (suc number) ≡ addresses number + 4 * count → own addresses number ≡ stretch (addresses number) count
 own-stretch addresses number count next = ap (stretch (addresses number)) (let e : (addresses (suc number) - addresses number) / 4 ≡ count = omega arith in e)
 
@@ -44,7 +45,8 @@ stretch-append from (suc m) n =
     ∙ ap (λ (rest : List ℕ). from ∷ rest) (stretch-append (from + 4) m n)
     ∙ ap (λ (a : ℕ). from ∷ (stretch (from + 4) m ++ stretch a n)) (let e : from + 4 + 4 * m ≡ from + 4 * suc m = omega arith in e)
 
--- However the lines are partitioned, their own words together are all words of the text.
+-- If the lines are partitioned in any way, the words that belong to the parts are together all
+-- words of the text.
 pub own-parts : (code : Labelled) (addresses : ℕ → ℕ) (words : List ℕ) → IsTextOf code addresses words → (some others : List ℕ)
     → some ++ others ≡ range_with_len 0 (length code.lines)
     → length (flat_map (own addresses) some) + length (flat_map (own addresses) others) ≡ length words

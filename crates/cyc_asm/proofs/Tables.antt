@@ -1,4 +1,4 @@
--- The tables of the layout contain the values of their definitions.
+-- The layout tables that the code computes contain the values of their definitions.
 use Rattle.std.proofs.Common.{◌≡◌, ℕ, suc, ◌+◌, ◌≤◌, ◌<◌, List, [], ◌∷◌, ◌++◌, length, get_or, map, Bool, true, false, cond, ◌==◌, eq-eqb, ne_eqb, nat_le, None, Some, refl, sym, ap, subst, ◌∙◌, arith, inl, inr}
 use Rattle.std.specs.Prelude.{◌&&◌, All, slice_get}
 use Rattle.std.specs.List.{range_with_len}
@@ -41,7 +41,7 @@ position_up_to code positions number is within =
 pub position_at : (code : List Line) (positions : List ℕ) (number : ℕ) → positions ≡ position_of_each code → number < length code → get_or positions number 0 ≡ position code number
 position_at code positions number is below = position_up_to code positions number is (omega (arith, below))
 
--- All numbers in the tables fit the text range.
+-- All numbers in the layout tables are at most the number of words in the text range.
 
 pub most_before-low : (code : List Line) (number : ℕ) → Fits code → number ≤ length code → most_before code number ≤ TEXT_WORDS
 most_before-low code number fits within =
@@ -72,7 +72,8 @@ width_here code number d line below here = ap (width_in code number) (line_here 
 pub words_here : (code : List Line) (number : ℕ) (d line : Line) → number < length code → get_or code number d ≡ line → words_in code number (slice_get code number) ≡ words_of_line code number line
 words_here code number d line below here = ap (words_in code number) (line_here code number d line below here)
 
--- The table of maximum word counts, extended by one more line.
+-- Loop invariant: the table of maximum word counts stays correct when it is extended by one more
+-- line.
 pub most_of_more : (code : List Line) (number : ℕ) (most : List ℕ) (before words : ℕ) (d : Line) → number < length code
     → most ≡ map (most_before code) (range_with_len 0 number) → before ≡ most_before code number → words ≡ words_of (get_or code number d)
     → (most ++ before ∷ [] ≡ map (most_before code) (range_with_len 0 (number + 1))) × (before + words ≡ most_before code (number + 1))
@@ -114,7 +115,8 @@ width_some code number lines.Return = omega arith
 width_by : (code : List Line) (number : ℕ) (b : Bool) → is_unreached code number ≡ b → width_at code number ≡ cond b 0 (width_in code number (slice_get code number))
 width_by code number b is = ap (λ (x : Bool). cond x 0 (width_in code number (slice_get code number))) is
 
--- The number of words before the next line.
+-- The position of the next line is that of this line plus its width, or the same if this line is
+-- unreachable.
 position_by : (code : List Line) (number : ℕ) (b : Bool) → is_unreached code number ≡ b
     → position code (number + 1) ≡ position code number + cond b 0 (width_in code number (slice_get code number))
 position_by code number b is =
@@ -141,7 +143,7 @@ position_left_out code positions number is below = go (is_unreached code number)
         (λ same. omega (arith, same, here, next, position_by code number false reached, some))
         ∙ sym reached
 
--- The table tells correctly whether a branch is near.
+-- The comparison of table entries says correctly if a branch is near its label.
 pub near_here : (code : List Line) (most : List ℕ) (number label : ℕ) (near b : Bool) → most ≡ most_of_each code → number < length code → label < length code
     → near ≡ (nat_le (get_or most label 0) (get_or most number 0 + MAX_REACH) && nat_le (get_or most number 0) (get_or most label 0 + MAX_REACH)) → near ≡ b
     → is_near code number label ≡ b
@@ -157,7 +159,7 @@ pub width_of_branch : (code : List Line) (number : ℕ) (d : Line) (condition : 
 width_of_branch code number d condition label b below here near =
     width_here code number d (lines.Branch condition label) below here ∙ ap (λ b. head_width (filling code number) + tail_width b) near
 
--- The text contains the word of a line's branch or jump, and the words after it, at the position in the table.
+-- The branch or jump of a line found in a list is that of the line with this number.
 
 pub head_here : (code : List Line) (from number : ℕ) (d line : Line) → number < length code → get_or code number d ≡ line → head_in code from number (slice_get code number) ≡ head_of code from number line
 head_here code from number d line below here = ap (head_in code from number) (line_here code number d line below here)
@@ -177,7 +179,8 @@ pub tail_of_branch_here : (code : List Line) (number : ℕ) (d : Line) (conditio
 tail_of_branch_here code number d condition label b slot below here near =
     tail_here code number d (lines.Branch condition label) slot below here ∙ ap (λ b. slot ∷ round_words b code label) near
 
--- The text contains a near branch at the position in the table, and its label is within reach.
+-- If a branch is near, its position and the table's position of its label are within the reach of
+-- an offset.
 pub reach_here : (code : List Line) (positions : List ℕ) (number label from : ℕ) (d : Line) (condition : Condition) → Fits code → positions ≡ position_of_each code → number < length code → label < length code
     → get_or code number d ≡ lines.Branch condition label → is_near code number label ≡ true → IsHeadPosition code number from
     → (from ≤ get_or positions label 0 + MAX_REACH) × (get_or positions label 0 ≤ from + MAX_REACH)
@@ -189,7 +192,7 @@ reach_here code positions number label from d condition fits is below is_label h
       | inr down ↦ let r = reach.above down in (omega (arith, there, r), omega (arith, there, down))
     ]
 
--- The text contains a near branch at the position in the table.
+-- A near branch computed from the table has the offset that its definition requires.
 pub near_branch_here : (code : List Line) (positions : List ℕ) (number from : ℕ) (d : Line) (condition : Condition) (label offset : ℕ) → positions ≡ position_of_each code
     → number < length code → label < length code → get_or code number d ≡ lines.Branch condition label → is_near code number label ≡ true
     → offset ≡ offset_of from (get_or positions label 0)
@@ -198,12 +201,12 @@ near_branch_here code positions number from d condition label offset is below is
     ap (branch_of condition) (by_table ∙ ap (offset_of from) (position_at code positions label is is_label))
     ∙ sym (head_of_branch_here code from number d condition label true below here near)
 
--- The text contains a jump at the position in the table.
+-- A jump computed from the table has the target that its definition requires.
 pub jump_here : (code : List Line) (positions : List ℕ) (op : JumpOp) (label : ℕ) → positions ≡ position_of_each code → label < length code
     → word_of (Jump op (jump_index_of (FIRST_INDEX + get_or positions label 0))) ≡ word_of (Jump op (jump_index_of (FIRST_INDEX + position code label)))
 jump_here code positions op label is is_label = ap (λ (n : ℕ). word_of (Jump op (jump_index_of (FIRST_INDEX + n)))) (position_at code positions label is is_label)
 
--- The table contains the position of each line's branch or jump.
+-- The table's position of a line is a possible position of the line's branch or jump.
 
 pub head_at_line : (code : List Line) (positions : List ℕ) (number : ℕ) → positions ≡ position_of_each code → number < length code → IsHeadPosition code number (get_or positions number 0)
 head_at_line code positions number is below = let at = position_at code positions number is below in (omega (arith, at), omega (arith, at))
@@ -217,9 +220,10 @@ head_before_line code positions number d i is below here =
     let next = ap (position code) one in
     (omega (arith, at, up, next), omega (arith, at, wide, next))
 
--- The words that a line is translated to are consecutive in the text.
+-- The words to which a line is translated are consecutive in the text.
 
--- The words of an ordinary instruction's line, given the content of the slot after it.
+-- If the next line's delay slot is not filled, an ordinary instruction is translated to its own
+-- word.
 
 pub words_alone : (code : List Line) (number : ℕ) (i : Instr) → filling code (number + 1) ≡ None → word_of i ∷ [] ≡ words_ordinary (filling code (number + 1)) code number i
 words_alone code number i none = sym (ap (λ o. words_ordinary o code number i) none)
@@ -236,7 +240,8 @@ words_moved code number word from i slotted some place is =
 pub within_moved : (code : List Line) (number : ℕ) (slotted : Instr) → filling code (number + 1) ≡ Some slotted → number + 1 < length code
 within_moved code number slotted some = let f = filled code (number + 1) slotted some in slice_get_within code (number + 1) f.line f.at
 
--- The words of a branch or jump, given the content of its slot.
+-- If its delay slot is filled, a branch or jump is translated to its words with the filling
+-- instruction.
 
 pub words_after : (code : List Line) (number : ℕ) (d line : Line) (slotted : Instr) → number < length code → get_or code number d ≡ line → filling code number ≡ Some slotted
     → tail_in code number (slice_get code number) (word_of slotted) ≡ filled_in code number (slice_get code number)

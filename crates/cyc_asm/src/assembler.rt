@@ -15,7 +15,7 @@ use cyc_select::{Code, Line};
 use cyc_words::Fault;
 use std::alloc::{AllocError, Global};
 
-/// Returns the words of lines in this order.
+/// Returns the words of these lines, in their order.
 fn words_in_order(alloc: Global, lines: &[Line], named: &[bool]) -> Result<Vec<u32>, AllocError>
     requires formed { All (IsFormedLine (length lines.now)) lines.now }
     requires fits { Fits lines.now }
@@ -39,12 +39,12 @@ fn words_of(alloc: Global, lines: &[Line]) -> Result<Vec<u32>, AllocError>
 
 /// Returns the words of labelled code, from the start of the machine's text range on.
 ///
-/// The only error is lack of memory.
+/// The only error that `assemble` returns is lack of memory.
 pub fn assemble(alloc: Global, code: &Code) -> Result<Vec<u32>, Fault>
     // The words represent the code. The instruction of each reachable line occurs once, and each label is its line's address. Each delay
-    // slot contains one of the three instructions before its branch or jump, or is empty, and there is nothing else.
+    // slot contains one of the three instructions before its branch or jump, or is empty. The text contains nothing else.
     ensures means { IfOk result (λ words. IsTextOf code.now (addresses_of code.now) words.items) }
-    // The machine that runs these words behaves as the labelled machine.
+    // The MIPS machine that runs these words behaves as the labelled machine does.
     ensures runs { IfOk result (λ words. Runs code.now (addresses_of code.now) words.items) }
     ensures refused { IfErr result (λ e. e ≡ memory_fault) }
 {

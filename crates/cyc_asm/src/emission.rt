@@ -1,4 +1,4 @@
-//! Emits the words of each line.
+//! Emits the words of each line of labelled code.
 
 ghost use Rattle.std.specs.Prelude.{◌≡◌, ◌++◌, ◌+◌, ◌<◌, ◌≤◌, length, Some, slice_get, All, OnOk, IfOk};
 ghost use Rattle.cyc_isa.specs.Encoding.{word_of};
@@ -47,7 +47,7 @@ fn inverse(condition: Condition) -> Condition
     }
 }
 
-/// Returns the branch on a condition.
+/// Returns the branch instruction for a condition.
 fn branch(condition: Condition, offset: u16) -> Instr
     ensures { result ≡ branch_of condition offset }
 {
@@ -62,7 +62,8 @@ fn branch(condition: Condition, offset: u16) -> Instr
     }
 }
 
-/// Returns the offset of a near branch with `from` words before it to a line with `to` words before it, as 16-bit two's complement.
+/// Returns the offset of a near branch that has `from` words before it, to a line that has `to` words before it, as 16-bit two's
+/// complement.
 fn offset(from: u32, to: u32) -> u16
     requires { (from ≤ to + MAX_REACH) × (to ≤ from + MAX_REACH) }
     ensures { result ≡ offset_of from to }
@@ -74,7 +75,7 @@ fn offset(from: u32, to: u32) -> u16
     }
 }
 
-/// Returns the jump to the line with `to` words before it.
+/// Returns the jump to the line that has `to` words before it.
 fn jump(op: JumpOp, to: u32) -> Instr
     requires { to ≤ TEXT_WORDS }
     ensures { word_of result ≡ word_of (Jump op (jump_index_of (FIRST_INDEX + to))) }
@@ -85,7 +86,7 @@ fn jump(op: JumpOp, to: u32) -> Instr
     Instr::Jump { op, index }
 }
 
-/// Returns the branch or jump of line `number`, with `from` words before it.
+/// Returns the branch or jump of line `number`, which has `from` words before it.
 fn head(lines: &[Line], most: &[u32], positions: &[u32], from: u32, number: usize) -> Instr
     requires within { number < length lines.now }
     requires formed { All (IsFormedLine (length lines.now)) lines.now }
@@ -117,7 +118,8 @@ fn head(lines: &[Line], most: &[u32], positions: &[u32], from: u32, number: usiz
     }
 }
 
-/// Appends the words after the branch or jump of line `number`: its delay slot, and for a far branch the jump that it skips, with its slot.
+/// Appends the words after the branch or jump of line `number`: its delay slot, and for a far branch the jump that it skips, with the
+/// jump's slot.
 fn push_tail(
     words: &mut Vec<u32>,
     lines: &[Line],
@@ -148,7 +150,8 @@ fn push_tail(
     }
 }
 
-/// Appends the word of an ordinary instruction, or of the branch or jump after it if the instruction fills its slot.
+/// Appends the word of an ordinary instruction, or of the branch or jump after it if the instruction fills its delay
+/// slot.
 fn push_ordinary(
     words: &mut Vec<u32>,
     lines: &[Line],
@@ -179,7 +182,8 @@ fn push_ordinary(
     }
 }
 
-/// Appends the words of the branch or jump of line `number` with the instruction in its slot.
+/// Appends the words of the branch or jump of line `number`, with the instruction in its delay
+/// slot.
 fn push_jump(
     words: &mut Vec<u32>,
     lines: &[Line],
@@ -258,7 +262,8 @@ fn push_line(
     push_reached(words, lines, named, most, positions, number)
 }
 
-/// Returns true if line `number` is unreachable: then it takes no word. Every other line takes at least one.
+/// Returns true if line `number` is unreachable and takes no word. Every reachable line takes at least one
+/// word.
 fn is_left_out(lines: &[Line], positions: &[u32], number: usize) -> bool
     requires within { number < length lines.now }
     requires positions { positions.now ≡ position_of_each lines.now }
@@ -267,7 +272,7 @@ fn is_left_out(lines: &[Line], positions: &[u32], number: usize) -> bool
     positions[number] == positions[number + 1]
 }
 
-/// Returns the words of all lines.
+/// Returns the words of all lines of the code.
 pub(crate) fn words_of_all(
     alloc: Global,
     lines: &[Line],

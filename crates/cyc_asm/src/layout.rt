@@ -1,4 +1,4 @@
-//! The positions of lines: the number of words before each.
+//! Computes the position of each line: the number of words before it.
 
 ghost use Rattle.std.specs.Prelude.{◌≡◌, ◌+◌, ◌<◌, ◌≤◌, ◌&&◌, nat_le, length, slice_get, All, IfOk};
 ghost use Rattle.cyc_select.specs.inside.Labelled.{Fits, IsFormedLine, words_of};
@@ -22,7 +22,7 @@ fn max_width(line: &Line) -> u32
     }
 }
 
-/// Returns for each line the most words that the lines before it take.
+/// Returns, for each line, the most words that the lines before it can take.
 pub(crate) fn most_of_each(alloc: Global, lines: &[Line]) -> Result<Vec<u32>, AllocError>
     requires { Fits lines.now }
     ensures { IfOk result (λ most. most.items ≡ most_of_each lines.now) }
@@ -44,7 +44,8 @@ pub(crate) fn is_near(from: u32, to: u32) -> bool
     to <= from + MAX_REACH && from <= to + MAX_REACH
 }
 
-/// Returns the number of words of a line's branch or jump before its delay slot.
+/// Returns the number of words of a line's branch or jump at the line's own position: 0 if its
+/// delay slot is filled, otherwise 1.
 fn head_width(lines: &[Line], named: &[bool], number: usize) -> u32
     requires named { AreNamed lines.now (length lines.now) named.now }
     ensures { result ≡ head_width (filling lines.now number) }
@@ -55,7 +56,7 @@ fn head_width(lines: &[Line], named: &[bool], number: usize) -> u32
     }
 }
 
-/// Returns the number of words that line `number` takes if it is reachable.
+/// Returns the number of words that line `number` takes, provided that it is reachable.
 pub(crate) fn width_in(lines: &[Line], named: &[bool], most: &[u32], number: usize) -> u32
     requires within { number < length lines.now }
     requires formed { All (IsFormedLine (length lines.now)) lines.now }
@@ -79,7 +80,7 @@ pub(crate) fn width_in(lines: &[Line], named: &[bool], most: &[u32], number: usi
     }
 }
 
-/// Returns the number of words that line `number` takes: none if it is unreachable.
+/// Returns the number of words that line `number` takes; 0 if it is unreachable.
 fn width_at(lines: &[Line], named: &[bool], most: &[u32], unreached: bool, number: usize) -> u32
     requires within { number < length lines.now }
     requires formed { All (IsFormedLine (length lines.now)) lines.now }
@@ -96,7 +97,7 @@ fn width_at(lines: &[Line], named: &[bool], most: &[u32], unreached: bool, numbe
     }
 }
 
-/// Returns the number of words before each line, and of all words.
+/// Returns the number of words before each line, and the number of all words.
 pub(crate) fn position_of_each(
     alloc: Global,
     lines: &[Line],

@@ -1,4 +1,4 @@
-//! The order of instructions.
+//! Chooses the order of instructions in the text, to fill delay slots.
 
 ghost use Rattle.std.specs.Prelude.{◌≡◌, ◌+◌, ◌<◌, length, Some, IfOk};
 ghost use Rattle.std.specs.Option.{is_some};
@@ -17,7 +17,7 @@ fn is_apart(instruction: Instr, register: Register) -> bool
     !reads(instruction, register.number) && !writes(instruction, register.number)
 }
 
-/// Returns true if the first instruction may be moved past the second.
+/// Returns true if the first of two instructions may be moved past the second.
 fn passes(instruction: Instr, other: Instr) -> bool
     ensures { result ≡ passes instruction other }
 {
@@ -76,7 +76,7 @@ fn passes_line(line: &Line, following: &Line) -> bool
     }
 }
 
-/// Returns true if the instruction of line `from` may be moved past that of line `number`, at which no label stands.
+/// Returns true if the instruction of line `from` may be moved past that of line `number`, to which no line jumps.
 fn passes_at(lines: &[Line], named: &[bool], from: usize, number: usize) -> bool
     requires within { (from < length lines.now) × (number < length lines.now) }
     requires named { AreNamed lines.now (length lines.now) named.now }
@@ -85,7 +85,8 @@ fn passes_at(lines: &[Line], named: &[bool], from: usize, number: usize) -> bool
     !named[number] && passes_line(&lines[from], &lines[number])
 }
 
-/// Returns true if the instruction may be moved past the next `count` lines, at which no label stands.
+/// Returns true if the instruction of line `from` may be moved past the next `count` lines, to which
+/// no line jumps.
 fn passes_all(lines: &[Line], named: &[bool], from: usize, count: usize) -> bool
     requires within { from + count < length lines.now }
     requires named { AreNamed lines.now (length lines.now) named.now }
@@ -109,7 +110,8 @@ fn moves_after(line: &Line, following: &Line) -> bool
     }
 }
 
-/// Returns true if the instruction may be moved past the next `count` lines and fill the delay slot of the branch or jump after them.
+/// Returns true if the instruction of line `from` may be moved past the next `count` lines and fill the delay slot of the branch or
+/// jump after them.
 pub(crate) fn comes_down(lines: &[Line], named: &[bool], from: usize, count: usize) -> bool
     requires within { from + count + 1 < length lines.now }
     requires named { AreNamed lines.now (length lines.now) named.now }
@@ -121,7 +123,7 @@ pub(crate) fn comes_down(lines: &[Line], named: &[bool], from: usize, count: usi
         && moves_after(&lines[from], &lines[number])
 }
 
-/// Moves the instruction of this line past the next `count` lines.
+/// Moves the instruction of line `from` past the next `count` lines.
 fn sink(lines: &mut [Line], from: usize, count: usize)
     requires within { from + count < length lines.old }
     ensures { lines.new ≡ sunk lines.old from count }
@@ -131,7 +133,7 @@ fn sink(lines: &mut [Line], from: usize, count: usize)
     }
 }
 
-/// Returns true if the delay slot of this line is filled.
+/// Returns true if the delay slot of line `number` is filled by the instruction before it.
 fn is_filled(lines: &[Line], named: &[bool], number: usize) -> bool
     requires named { AreNamed lines.now (length lines.now) named.now }
     ensures { result ≡ is_some (filling lines.now number) }
@@ -139,7 +141,8 @@ fn is_filled(lines: &[Line], named: &[bool], number: usize) -> bool
     filling(lines, named, number).is_some()
 }
 
-/// Moves the instruction `count` lines further up down to the branch or jump at `number`, if it then fills the otherwise empty delay slot.
+/// Moves the instruction `count` lines further up down to the branch or jump at `number`, if it then fills the delay slot, which is empty
+/// otherwise.
 fn try_past(lines: &mut [Line], named: &[bool], number: usize, count: usize)
     requires within { number < length lines.old }
     requires named { AreNamed lines.old (length lines.old) named.now }
@@ -164,9 +167,8 @@ pub(crate) fn is_ordinary(line: &Line) -> bool
     }
 }
 
-/// Moves an instruction past one other, or else past two, down to the branch or jump at `number`, if it then fills the otherwise empty
-/// delay slot.
-/// Most lines have no slot or a filled one and are skipped at once.
+/// Moves an instruction past one or two lines down to the branch or jump at `number`, if it then fills the delay slot, which is empty
+/// otherwise. Most lines have no slot or a filled one and are skipped at once.
 pub(crate) fn settle(lines: &mut [Line], named: &[bool], number: usize)
     requires within { number < length lines.old }
     requires named { AreNamed lines.old (length lines.old) named.now }
@@ -182,7 +184,7 @@ pub(crate) fn settle(lines: &mut [Line], named: &[bool], number: usize)
     try_past(lines, named, number, 2);
 }
 
-/// Returns the lines in the order of their instructions in the text.
+/// Returns the lines in the order in which their instructions stand in the text.
 pub(crate) fn arranged(
     alloc: Global,
     lines: &[Line],

@@ -1,4 +1,4 @@
-//! The line from which each word is made.
+//! For each assembled word, finds the line of labelled code from which it is made.
 
 ghost use Rattle.std.specs.Prelude.{◌≡◌, ◌<◌, length, All};
 ghost use Rattle.cyc_select.specs.inside.Labelled.{Fits, IsFormedLine};
@@ -12,7 +12,8 @@ use cyc_select::{Code, Line};
 use cyc_words::Fault;
 use std::alloc::{AllocError, Global};
 
-/// Returns the number of instructions past which one is moved to fill the delay slot of line `number`; 0 if none is.
+/// Returns the number of lines past which an instruction is moved to fill the delay slot of line `number`, or 0 if
+/// none is moved.
 fn passed(lines: &[Line], named: &[bool], number: usize) -> usize
     requires within { number < length lines.now }
     requires named { AreNamed lines.now (length lines.now) named.now }
@@ -29,7 +30,8 @@ fn passed(lines: &[Line], named: &[bool], number: usize) -> usize
     0
 }
 
-/// Moves the number of an instruction past the next `count` numbers, to just before line `number`.
+/// Moves an instruction's number past the next `count` numbers in the list, to just before line
+/// `number`.
 fn sink_number(numbers: &mut [usize], number: usize, count: usize) {
     for left in 0..count {
         let following = number.saturating_sub(count - left);
@@ -39,7 +41,7 @@ fn sink_number(numbers: &mut [usize], number: usize, count: usize) {
     }
 }
 
-/// Returns for each line, in the order of the instructions in the text, its number in the code.
+/// Returns, for each line in the order of the text, its number in the labelled code.
 fn numbers_in_order(alloc: Global, lines: &[Line], named: &[bool]) -> Result<Vec<usize>, AllocError>
     requires { AreNamed lines.now (length lines.now) named.now }
 {
@@ -56,12 +58,13 @@ fn numbers_in_order(alloc: Global, lines: &[Line], named: &[bool]) -> Result<Vec
     Ok(numbers)
 }
 
-/// Returns the number in the code of a line of the new order.
+/// Returns the number in the labelled code of a line in the new order.
 fn number_at(numbers: &[usize], number: usize) -> usize {
     numbers.get(number).copied().unwrap_or(0)
 }
 
-/// Appends the source lines of the words of line `number` in the new order, which is reachable.
+/// Appends, for each word of line `number` in the new order, which is reachable, the number of its
+/// source line.
 fn push_sources(
     sources: &mut Vec<usize>,
     numbers: &[usize],
@@ -97,7 +100,7 @@ fn push_sources(
     Ok(())
 }
 
-/// Returns the source lines of all words, for lines in the new order.
+/// Returns the source lines of all words, for lines in the order of the text.
 fn sources_in_order(
     alloc: Global,
     numbers: &[usize],
@@ -130,10 +133,10 @@ fn sources_of(alloc: Global, lines: &[Line]) -> Result<Vec<usize>, AllocError>
     sources_in_order(alloc, &numbers, &arranged, &named)
 }
 
-/// Returns for each word that `assemble` makes the number of the line that it comes from. An empty slot, and the jump skipped by a far
-/// branch, come from the line of the branch or jump.
+/// Returns, for each word that `assemble` makes, the number of the line from which it comes. An empty delay slot, and the jump skipped
+/// by a far branch, come from the line of the branch or jump.
 ///
-/// The only error is lack of memory.
+/// The only error that `sources` returns is lack of memory.
 pub fn sources(alloc: Global, code: &Code) -> Result<Vec<usize>, Fault> {
     Ok(sources_of(alloc, code.lines())?)
 }

@@ -75,7 +75,7 @@ fn moves_into_slot(instruction: Instr, line: &Line) -> bool
     }
 }
 
-/// Returns the label that a line jumps to, if it has one.
+/// Returns the label to which a line jumps, if it has one.
 fn label_of(line: &Line) -> Option<usize>
     ensures { result ≡ label_of line.now }
 {
@@ -85,7 +85,7 @@ fn label_of(line: &Line) -> Option<usize>
     }
 }
 
-/// Returns for each line whether some line jumps to it.
+/// Returns, for each line, true if some line jumps to it.
 pub(crate) fn named_of_each(alloc: Global, lines: &[Line]) -> Result<Vec<bool>, AllocError>
     requires { All (IsFormedLine (length lines.now)) lines.now }
     ensures { IfOk result (λ named. AreNamed lines.now (length lines.now) named.items) }
@@ -118,7 +118,7 @@ fn fills_after(lines: &[Line], named: &[bool], number: usize) -> bool
     following < lines.len() && !named[following] && is_call(&lines[following])
 }
 
-/// Returns true if a line may be followed by the next one.
+/// Returns true if control may continue at the next line after this one.
 fn goes_on(line: &Line) -> bool
     ensures { result ≡ goes_on (Some line.now) }
 {
@@ -128,7 +128,8 @@ fn goes_on(line: &Line) -> bool
     }
 }
 
-/// Returns true if line `number` is unreachable, given whether the line before is.
+/// Returns true if line `number` is unreachable, computed from the reachability of the line before
+/// it.
 #[inline]
 pub(crate) fn is_unreached_after(
     unreached: bool,

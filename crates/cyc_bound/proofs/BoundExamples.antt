@@ -1,4 +1,4 @@
--- Examples of bounds of programs with several functions, and of the active calls in their runs. The expected results come from the
+-- Examples of bounds on active calls, for programs with several functions and their runs. The expected results come from the
 -- language's rules.
 use Rattle.std.proofs.Common.{◌≡◌, zero, [], ◌∷◌, Some, None, refl, arith}
 use Rattle.cyc_types.specs.declared.typed.Operator.TheVariants as operators
@@ -12,19 +12,22 @@ use Rattle.cyc_bound.proofs.WalkLemmas.{so_far_none, so_far_more, so_far_all}
 
 -- ---- callees of bodies
 
--- `f(g(1)) + h()`: arguments come first, and operands from left to right
+-- example `f(g(1)) + h()`: the arguments of a call come before its callee, and operands are in
+-- order from left to right
 operands_call : items_callees (items (return (two (call 1 (call 2 (Number 1 ∷ []) ∷ [])) operators.Add (call 3 [])) ∷ [])) ≡ 2 ∷ 1 ∷ 3 ∷ []
 operands_call = refl
 
--- `int a = f(); putchar(g());` and a loop: callees in initial values, in arguments of built-in functions, in conditions and in bodies
+-- example `int a = f(); putchar(g());` with a loop: callees in initial values, in arguments of built-in functions, in conditions and
+-- in bodies
 statements_call : items_callees (items (declare 0 (call 1 []) ∷ execute (print (call 2 [])) ∷ while (call 3 []) (Evaluate (call 4 [])) ∷ [])) ≡ 1 ∷ 2 ∷ 3 ∷ 4 ∷ []
 statements_call = refl
 
--- `try f(); catch { case A: g(); default: throw B(h()); }`
+-- example `try f(); catch { case A: g(); default: throw B(h()); }`: callees in the body and in the
+-- clauses
 clauses_call : items_callees (items (Execute (Try (Evaluate (call 1 [])) (Case 5 None 1 (items (execute (call 2 []) ∷ [])) (Default 2 (items (Execute (Throw 6 (Some (call 3 []))) ∷ []))))) ∷ [])) ≡ 1 ∷ 2 ∷ 3 ∷ []
 clauses_call = refl
 
--- the right operand of `&&` counts, evaluated or not
+-- example: a callee in the right operand of `&&` counts, even if the operand is not evaluated
 skipped_calls : items_callees (items (execute (both (Number 0) (call 1 [])) ∷ [])) ≡ 1 ∷ []
 skipped_calls = refl
 
@@ -42,7 +45,7 @@ middle_height = so_far_all chain 1 (2 ∷ []) 1 2 refl (omega arith) (so_far_mor
 chain_bound : IsBound chain 3
 chain_bound = so_far_all chain 0 (1 ∷ []) 1 3 refl (omega arith) (so_far_more chain 0 (1 ∷ []) 0 1 1 2 refl (so_far_none chain 0 (1 ∷ [])) (omega arith) refl middle_height (omega arith))
 
--- the run of the chain has as many active calls as the bound
+-- example: the run of the call chain has as many active calls as the bound states
 chain_reaches : depth (run chain [] 14) ≡ 3
 chain_reaches = refl
 
@@ -54,7 +57,7 @@ loop = program_with (function [] (return (call 1 []) ∷ []) ∷ []) (return (ca
 loop_cycle : IsCycle loop (1 ∷ [])
 loop_cycle = ((zero, omega arith, refl), (2, Before 0 1 1 1 (zero, omega arith, refl) (Alone 1)))
 
--- if the cycle is not reachable from `main`, there is a bound
+-- example: if a cycle of calls is not reachable from `main`, the active calls have a bound
 abbrev apart : Program
 apart = program_with (function [] (return (call 1 []) ∷ []) ∷ []) (return (Number 0) ∷ [])
 

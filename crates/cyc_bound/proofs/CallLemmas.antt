@@ -1,4 +1,4 @@
--- Chains of calls, and lists of callees.
+-- Lemmas about chains of calls and about lists of callees.
 use Rattle.std.proofs.Common.{◌≡◌, ℕ, suc, ◌≤◌, List, [], ◌∷◌, Option, Some, subst, sym, arith}
 use Rattle.std.specs.Prelude.{slice_get, Contains}
 use Rattle.cyc_words.proofs.Members.{all_from_members}
@@ -11,12 +11,13 @@ use Rattle.cyc_bound.specs.inside.UnderWay.{AreOf, Waits}
 -- ---- chains of calls
 
 module _ (program : Program) where
-  -- a chain can be extended by a callee of its last function
+  -- a chain of calls can be extended by a callee of its last function
   pub following : (first last next count : ℕ) → Row program first last count → Calls program last next → Row program first next (suc count)
   following first last next count (Alone function) call = Before function next next 1 call (Alone next)
   following first last next count (Before f g l n here row) call = Before f g next (suc n) here (following g l next n row call)
 
-  -- there are at most as many active calls as the chain from `main` to the newest call has functions
+  -- the number of active calls is at most the number of functions in a chain of calls from `main` to
+  -- the newest call
   pub row_of : (function : ℕ) (stack : List Entry) → Waits program function stack → (count : ℕ) × Row program program.main function count × (calls_in stack ≤ count)
   row_of function [] h = (1, subst (λ (f : ℕ). Row program program.main f 1) (sym h) (Alone program.main), omega arith)
   row_of function (Caller outer ∷ stack) (caller, call, h) =
@@ -37,7 +38,7 @@ module _ (program : Program) where
 
 -- ---- callees of a function
 
--- a function calls the callees in its body
+-- a function calls exactly the callees that its body mentions
 pub body_is_of : (program : Program) (function : ℕ) (h : Function) → slice_get program.functions function ≡ Some h → AreOf program function (items_callees h.body)
 body_is_of program function h there =
     all_from_members (λ (callee : ℕ). Calls program function callee) (items_callees h.body) (λ callee k. subst (λ (o : Option Function). Contains (callees_of o) callee) (sym there) k)

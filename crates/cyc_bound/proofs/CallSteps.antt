@@ -1,4 +1,5 @@
--- A step keeps the functions of the active calls a chain in which each calls the next.
+-- Invariant of steps: the functions of the active calls form a chain in which each function calls
+-- the next.
 use Rattle.std.proofs.Common.{◌≡◌, ℕ, suc, Bool, true, false, List, [], ◌∷◌, ◌++◌, length, reverse, Option, Some, None, refl}
 use Rattle.std.specs.Prelude.{◌==◌, ◌*◌, ◌&&◌, nat_le, if◌then◌else◌, slice_get}
 use Rattle.cyc_words.proofs.Members.{all_append_parts}
@@ -39,7 +40,7 @@ use Rattle.cyc_bound.specs.Bound.{Calls}
 use Rattle.cyc_bound.specs.inside.UnderWay.{awaiting_callees, focus_callees, AreOf, Waits, IsIn}
 use Rattle.cyc_bound.proofs.CallLemmas.{body_is_of}
 
--- in a running state, the newest call is of some function
+-- says that the newest active call of a running state is a call of some function
 abbrev pub IsInSome : Program → State → Type 0
 IsInSome program s = (function : ℕ) × IsIn program function s
 
@@ -506,7 +507,7 @@ module _ (program : Program) where
   abbrev S : State → Type 0
   S s = IsInSome program s
 
-  -- a called function begins with its body
+  -- a call starts at the body of the called function
   pub calls_function : (o : Option Function) (number : ℕ) (arguments : List Operand) (stack : List Entry) (w : World) → slice_get program.functions number ≡ o → Waits program number stack → IsIn program number (called o arguments stack w)
   calls_function (Some h) number arguments stack w there waits =
       either program number (length arguments == length h.parameters) _ _ (body_is_of program number h there, waits) tt

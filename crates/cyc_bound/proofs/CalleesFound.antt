@@ -1,5 +1,5 @@
--- The search for callees. The callees in the first elements of a list and in its remaining elements are those of the list. The fact about
--- the callees of lists is also proved for nodes with lists.
+-- The search for callees. The callees in the first elements of a list and those in its remaining elements are the callees of the list.
+-- The fact about the callees of lists is also proved for tree nodes with lists.
 use Rattle.std.proofs.Common.{◌≡◌, ℕ, List, [], ◌∷◌, ◌++◌, drop, Option, refl, sym, ap, ◌∙◌, append_assoc}
 use Rattle.std.specs.declared.vec.Vec.{Vec}
 use Rattle.std.specs.declared.boxed.Box.{Box}
@@ -25,7 +25,8 @@ use Rattle.cyc_bound.specs.Callees.{callee_of, expression_callees, initial_calle
 
 -- ---- lists
 
--- the list so far, followed by the callees of the elements from this index on, is the list for all elements
+-- says that the list found so far, followed by the callees of the arguments from index i on, is the list
+-- for all arguments
 abbrev pub ArgumentsLeft : List ConvertedCode → (i : ℕ) → (old found : List ℕ) → Type 0
 ArgumentsLeft cs i old found = found ++ arguments_callees (arguments_of (drop i cs)) ≡ old ++ arguments_callees (arguments_of cs)
 
@@ -64,7 +65,7 @@ pub block_calls : (value : Stmt) (r : ℕ) (v : Vec ItemCode Heap) → value ≡
 block_calls value r v is items same =
     ap (λ (x : Stmt). statement_callees (view_statement x)) is ∙ ap statement_callees (view_block r v) ∙ ap (λ (js : List ItemCode). items_callees (items_of js)) (sym same)
 
--- the default clause comes after the other clauses
+-- the callees of the default clause come after those of the other clauses
 clauses_with : (cs : List Clause) (default : Clauses) → clauses_callees (clauses_of cs default) ≡ clauses_callees (clauses_of cs NoClauses) ++ clauses_callees default
 clauses_with [] default = refl
 clauses_with (c ∷ cs) default =

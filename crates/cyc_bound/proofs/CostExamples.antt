@@ -1,4 +1,5 @@
--- The costs of small programs, computed by hand from the language's rules, and the steps of their runs.
+-- Examples: the costs of small programs, computed by hand from the language's rules, and the steps of
+-- their runs.
 use Rattle.std.proofs.Common.{◌≡◌, ℕ, max, List, [], ◌∷◌, true, false, refl}
 use Rattle.std.specs.Prelude.{map}
 use Rattle.cyc_types.specs.declared.typed.Operator.TheVariants as operators
@@ -15,14 +16,15 @@ use Rattle.cyc_bound.specs.AtOnce.{items_at_once}
 use Rattle.cyc_bound.specs.Pages.{most_pages}
 use Rattle.cyc_bound.specs.Steps.{IsOver}
 
--- the cost of a run after this many rounds
+-- the cost of a run of a program, after the function costs were computed in the given number of
+-- rounds
 abbrev cost_by : Program → (rounds : ℕ) → Measure → ℕ
 cost_by program rounds m = run_cost program m (costs_after program m rounds)
 
 -- ---- `return 7;`
 
--- The call costs 4 steps and its rest 1, the statement 2, and its value 3. The last stack entry is the end of `main`, which only an
--- exception pops by a step of its own.
+-- In this example the call costs 4 steps and the rest of its body 1, the statement 2, and its value 3. The last stack entry is the
+-- end of `main`, which only an exception pops by a step of its own.
 abbrev seven : Program
 seven = program (return (Number 7) ∷ [])
 
@@ -43,7 +45,7 @@ twice = program_with (function [] (return (Number 7) ∷ []) ∷ []) (return (tw
 twice_costs : cost_by twice 2 measures.Steps ≡ 38
 twice_costs = refl
 
--- another round changes no cost
+-- example: after two rounds, a further round changes no function's cost
 twice_settles : next_costs twice measures.Steps (costs_after twice measures.Steps 2) ≡ costs_after twice measures.Steps 2
 twice_settles = refl
 
@@ -52,7 +54,7 @@ twice_settles = refl
 abbrev again : Program
 again = program_with (function [] (return (call 1 []) ∷ []) ∷ []) (return (call 1 []) ∷ [])
 
--- the function allocates nothing, so its pages have a bound
+-- example: the function calls itself but allocates nothing, so its pages have a bound
 again_pages : most_pages false (cost_by again 1) ≡ 1
 again_pages = refl
 
@@ -64,20 +66,21 @@ again_settles = refl
 abbrev loop : Program
 loop = program (while (Number 1) (Evaluate (Number 2)) ∷ return (Number 0) ∷ [])
 
--- the function allocates nothing, so its pages have a bound
+-- example: the loop allocates nothing, so the pages of the program have a bound
 loop_pages : most_pages false (cost_by loop 1) ≡ 1
 loop_pages = refl
 
 -- ---- blocks
 
--- an array of 600 words, and another one: two pages plus one for the heap by the rule; the run needs two
+-- example: two arrays of 600 words each. By the rule, the program needs two pages plus one for
+-- the heap; the run needs two pages
 abbrev arrays : Program
 arrays = program (execute (array OnHeap fat (Number 600) (Number 0)) ∷ execute (array OnHeap fat (Number 600) (Number 0)) ∷ return (Number 0) ∷ [])
 
 arrays_pages : most_pages false (cost_by arrays 1) ≡ 3
 arrays_pages = refl
 
--- of two branches the costlier one counts
+-- example: the cost of two branches is that of the costlier branch
 abbrev branches : Program
 branches = program (Execute (If (Number 1) (Evaluate (new AsUnique at (Number 1))) (block [])) ∷ return (Number 0) ∷ [])
 
@@ -89,7 +92,8 @@ branches_ask = refl
 
 -- ---- lexical regions
 
--- The cost of the costliest outermost region of a program; `main` leads to each function in this example.
+-- The cost of a program's costliest outermost region; in this example, `main` calls each function
+-- directly or indirectly.
 abbrev greatest : List ℕ → ℕ
 greatest [] = 0
 greatest (n ∷ ns) = max n (greatest ns)
@@ -97,14 +101,14 @@ greatest (n ∷ ns) = max n (greatest ns)
 abbrev at_once_by : Program → (rounds : ℕ) → Measure → ℕ
 at_once_by program rounds m = greatest (map (λ (h : Function). items_at_once m (costs_after program m rounds) h.body) program.functions)
 
--- the cost by regions that are open simultaneously, after this many rounds
+-- the cost of regions that are open at the same time, after the given number of rounds
 abbrev back_by : Program → (rounds : ℕ) → Measure → ℕ
 back_by program rounds measures.Openings = at_once_by program rounds measures.Openings
 back_by program rounds measures.RegionBlocks = at_once_by program rounds measures.RegionBlocks
 back_by program rounds measures.RegionWords = at_once_by program rounds measures.RegionWords
 back_by program rounds m = cost_by program rounds m
 
--- rnew(h) 7, for the handle in this local
+-- the statement `rnew(h) 7`, where h is the handle in the local with this number
 abbrev made_by : ℕ → Item
 made_by number = execute (new (ByHandle (variable number (Handle Heap))) at (Number 7))
 
@@ -116,21 +120,23 @@ in_a_region = block (DeclareRegion 2 0 ∷ made_by 0 ∷ made_by 0 ∷ [])
 abbrev region_each_turn : Program
 region_each_turn = program (while (Number 1) in_a_region ∷ return (Number 0) ∷ [])
 
--- nothing outlasts the regions, and each iteration needs one page beside the heap's
+-- example: no allocation outlasts the regions, and each iteration needs one page besides the heap's
+-- page
 each_turn_gives_back : cost_by region_each_turn 1 measures.Lasting ≡ 0
 each_turn_gives_back = refl
 
 each_turn_pages : most_pages true (back_by region_each_turn 1) ≡ 2
 each_turn_pages = refl
 
--- if nothing is subtracted, its blocks have no bound
+-- example: if the blocks of closed regions are not subtracted, the program's blocks have no bound
 each_turn_blocks : cost_by region_each_turn 1 measures.Blocks ≡ too_many
 each_turn_blocks = refl
 
 each_turn_asks : demand (run region_each_turn [] 20) ≡ 2
 each_turn_asks = refl
 
--- the value `heap_region`, followed by the loop of the example above: this handle may reach any `rnew`
+-- example: the value `heap_region`, followed by the loop of the example above; the heap's handle may
+-- reach any `rnew`
 abbrev heap_handle : Program
 heap_handle = program (execute HeapRegion ∷ while (Number 1) in_a_region ∷ return (Number 0) ∷ [])
 
@@ -141,7 +147,7 @@ heap_handle_blocks : cost_by heap_handle 1 measures.Blocks ≡ too_many
 heap_handle_blocks = refl
 
 -- while (1) { region<`a> h; rnew(h) 7; { region<`b> k; rnew(k) 7; } } return 0;
--- The inner region's page and block are added to the outer one's.
+-- Example: the page and the block of an inner region are added to those of the outer region.
 abbrev nested : Program
 nested = program (while (Number 1) (block (DeclareRegion 2 0 ∷ made_by 0 ∷ Execute (block (DeclareRegion 3 1 ∷ made_by 1 ∷ [])) ∷ [])) ∷ return (Number 0) ∷ [])
 
@@ -154,14 +160,15 @@ nested_blocks = refl
 nested_pages : most_pages true (back_by nested 1) ≡ 3
 nested_pages = refl
 
--- a function that opens a region of its own, called in a loop
+-- example: a loop calls a function that opens a region of its own
 abbrev opened_by_callee : Program
 opened_by_callee = program_with (function [] (DeclareRegion 2 0 ∷ made_by 0 ∷ return (Number 7) ∷ []) ∷ []) (while (Number 1) (Evaluate (call 1 [])) ∷ return (Number 0) ∷ [])
 
 callee_pages : most_pages true (back_by opened_by_callee 2) ≡ 2
 callee_pages = refl
 
--- a function that is called inside a region and opens one, so that both are open simultaneously
+-- example: a function is called inside a region and opens another region, so both regions are open
+-- at the same time
 abbrev called_in_region : Program
 called_in_region = program_with (function [] (DeclareRegion 2 0 ∷ made_by 0 ∷ return (Number 7) ∷ []) ∷ []) (while (Number 1) (block (DeclareRegion 2 0 ∷ execute (call 1 []) ∷ made_by 0 ∷ [])) ∷ return (Number 0) ∷ [])
 
@@ -171,29 +178,30 @@ called_openings = refl
 called_blocks : at_once_by called_in_region 2 measures.RegionBlocks ≡ 2
 called_blocks = refl
 
--- of two regions that are never open simultaneously, the costlier one counts
+-- example: if two regions are never open at the same time, only the costlier one counts
 abbrev in_turn : Program
 in_turn = program (Execute in_a_region ∷ Execute (block (DeclareRegion 2 0 ∷ made_by 0 ∷ [])) ∷ return (Number 0) ∷ [])
 
 in_turn_blocks : at_once_by in_turn 1 measures.RegionBlocks ≡ 2
 in_turn_blocks = refl
 
--- a loop inside a region has no bound if its iterations allocate
+-- example: a loop inside a region has no bound if its iterations allocate in the region
 abbrev loop_in_region : Program
 loop_in_region = program (Execute (block (DeclareRegion 2 0 ∷ while (Number 1) (block (made_by 0 ∷ [])) ∷ [])) ∷ return (Number 0) ∷ [])
 
 loop_in_region_blocks : at_once_by loop_in_region 1 measures.RegionBlocks ≡ too_many
 loop_in_region_blocks = refl
 
--- a `try` inside a region: the allocations of its body remain when a clause allocates more
+-- example: a `try` inside a region; the blocks that its body allocated remain when a clause
+-- allocates further blocks
 abbrev try_in_region : Program
 try_in_region = program (Execute (block (DeclareRegion 2 0 ∷ try_to (block (made_by 0 ∷ [])) (otherwise (made_by 0 ∷ [])) ∷ [])) ∷ return (Number 0) ∷ [])
 
 try_in_region_blocks : at_once_by try_in_region 1 measures.RegionBlocks ≡ 2
 try_in_region_blocks = refl
 
--- A function that opens a region, and calls itself after the region's end. Only the greatest counted value suffices as the function's cost,
--- but its regions are never open simultaneously.
+-- Example: a function that opens a region, and calls itself after the region's end. The regions of this recursive function are never open
+-- at the same time, but only the greatest countable value is large enough as the function's cost.
 abbrev again_after : Program
 again_after = program_with (function [] (Execute in_a_region ∷ return (call 1 []) ∷ []) ∷ []) (return (call 1 []) ∷ [])
 

@@ -1,4 +1,5 @@
--- Lower bounds on the costs of the parts of a state, and costs of stacks compared by the known facts about the awaited value.
+-- Lemmas: lower bounds on the costs of a state's parts, and comparisons of stack costs by the facts known about the awaited
+-- value.
 use Rattle.std.proofs.Common.{◌≡◌, ℕ, zero, suc, ◌+◌, ◌*◌, ◌-◌, ◌^◌, ◌<◌, ◌≤◌, min, Bool, true, false, List, [], ◌∷◌, length, Option, Some, None, refl, sym, ap, ◌∙◌, arith, mul-le-mul_right}
 use Rattle.std.specs.Prelude.{◌==◌, nat_le, if◌then◌else◌}
 use Rattle.std.proofs.lemmas.Bool.{leb-true, le-leb, lt-leb, eqb-true}
@@ -58,7 +59,7 @@ kind_is a b same = sym (kind_by_number a) ∙ ap (λ (n : ℕ). kind_of_number n
 
 -- ---- array lengths
 
--- an array that fits has at most as many elements as its kind allows
+-- if an array fits the size limit, its number of elements is at most the maximum for their kind
 pub elements_fit : (kind : Kind) (count : ℕ) → words_for (count * bytes_of_kind kind) ≤ most_words → min count (most_elements kind) ≡ count
 elements_fit kinds.Int count fits = omega (arith, fits)
 elements_fit kinds.Char count fits = omega (arith, fits)
@@ -276,7 +277,7 @@ module _ (m : Measure) (costs : List ℕ) where
 
 -- ---- sites of allocation
 
--- an allocation on the heap costs at most as much as one by a handle
+-- says that an allocation on the heap costs at most as much as an allocation by a region handle
 abbrev pub IsNoMore : Measure → Type 0
 IsNoMore m = ((size : ℕ) → block_cost m sites.Heap size ≤ block_cost m sites.Region size) × (array_block_cost m sites.Heap ≤ array_block_cost m sites.Region)
 
@@ -294,7 +295,8 @@ module _ (m : Measure) (costs : List ℕ) (no_more : IsNoMore m) where
   initial_no_more (Fields fields) = fields_no_more 0 0 fields
   initial_no_more (Array place level count kind element) = omega (arith, array_no_more kind (expression_cost m costs element) (written_length count))
 
--- if the focus passes on a handle of the heap, an allocation by a handle costs at least as much as one on the heap
+-- says: if the value in focus is a handle of the heap, an allocation by a handle costs at least as much as one on
+-- the heap
 abbrev pub Fits : Measure → Focus → Type 0
 Fits m (Given v) = v.value ≡ Handle heap_number → IsNoMore m
 Fits m focus = Unit {0}
@@ -318,7 +320,7 @@ always_fits m no_more (Wrong output input) = tt
 -- ---- costs of stacks
 
 module _ (m : Measure) (costs : List ℕ) where
-  -- a stack costs least if no value is passed to it
+  -- the cost of a stack is lowest if no value is passed to the stack
   nothing_of_any : (stack : List Entry) → stack_cost m costs Anything stack < too_many → stack_cost m costs Nothing stack ≤ stack_cost m costs Anything stack
   nothing_of_any [] less = omega arith
   nothing_of_any (Needs (ConvertTo from to target) ∷ stack) less = omega arith
@@ -410,7 +412,8 @@ module _ (m : Measure) (costs : List ℕ) where
   nothing Anything stack less = nothing_of_any stack less
   nothing (OfKind k n) stack less = nothing_of_kind k n stack
 
-  -- a value with more known facts costs no more
+  -- the cost of a stack does not increase if more facts are known about the value passed to the
+  -- stack
   pub known : (k : Kind) (n : Option ℕ) (stack : List Entry) → stack_cost m costs Anything stack < too_many → stack_cost m costs (OfKind k n) stack ≤ stack_cost m costs Anything stack
   known k n [] less = omega arith
   known k n (Needs (ConvertTo from to target) ∷ stack) less = omega arith

@@ -1,4 +1,5 @@
--- The costs of whole runs: they are over after that many steps, and spend at most that cost.
+-- The costs of whole runs: a run ends after at most as many steps as its cost states, and uses at
+-- most the resources that its cost states.
 use Rattle.std.proofs.Common.{◌≡◌, ℕ, zero, suc, ◌+◌, ◌*◌, ◌-◌, ◌<◌, ◌≤◌, min, Bool, true, false, List, [], ◌∷◌, length, Option, Some, None, refl, sym, subst, arith, suc-mul}
 use Rattle.std.specs.Prelude.{◌==◌, if◌then◌else◌, slice_get, map}
 use Rattle.cyc_words.proofs.Items.{get_or-map}
@@ -18,7 +19,7 @@ use Rattle.cyc_bound.proofs.CostWorlds.{all_counts}
 use Rattle.cyc_bound.proofs.CostSteps.{step_costs}
 
 module _ (program : Program) (m : Measure) where
-  -- at the start only the heap is spent
+  -- at the start of a run, the globals have used no resources besides the heap
   globals_spent : (globals : List GlobalVariable) → objects_spent m (map global_object globals) ≡ 0
   globals_spent [] = refl
   globals_spent (g ∷ globals) = omega (arith, globals_spent globals)
@@ -45,7 +46,8 @@ module _ (program : Program) (m : Measure) where
     pub start_costs : (input : List ℕ) → CostsAtMost m costs (run_cost program m costs) (start program input)
     start_costs input = start_called input (slice_get program.functions program.main) refl
 
-    -- the bound for a measure other than steps, if each earlier state fits
+    -- a run uses at most its cost, by each measure other than steps, provided that each earlier
+    -- state satisfies `FitsIn`
     pub run_costs : (input : List ℕ) → step_cost m ≡ 0 → (n : ℕ) → ((i : ℕ) → i < n → FitsIn m (run program input i)) → CostsAtMost m costs (run_cost program m costs) (run program input n)
     run_costs input free zero fits = start_costs input
     run_costs input free (suc n) fits =
@@ -75,7 +77,7 @@ module _ (program : Program) where
   over_stays (suc n) (Dead output input) over = over_stays n (Dead output input) over
   over_stays (suc n) (Wrong output input) over = over_stays n (Wrong output input) over
 
-  -- a running state costs at least a step
+  -- a running state costs at least one step, so a state without remaining cost has ended
   spent_all : (costs : List ℕ) (s : State) → CostsAtMost measures.Steps costs 0 s → IsOver s
   spent_all costs (Running focus stack e w) h = absurd (omega (arith, h, focus_least measures.Steps costs focus (omega (arith, h))))
   spent_all costs (Ended ending output input) h = tt

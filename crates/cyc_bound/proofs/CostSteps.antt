@@ -1,5 +1,5 @@
--- A step does not raise the cost of a run. The sum of the costs of the focus, of the stack and of the past never increases. The sum
--- decreases at each step if steps are counted.
+-- A step does not raise the cost of a run. The cost of a run is the sum of the costs of the focus, of the stack and of the
+-- resources used so far; this sum never increases. If steps are counted, the sum decreases at each step.
 use Rattle.std.proofs.Common.{◌≡◌, ℕ, suc, ◌+◌, ◌*◌, ◌-◌, ◌%◌, ◌^◌, ◌<◌, ◌≤◌, min, List, [], ◌∷◌, ◌++◌, drop, length, reverse, Option, Some, None, refl, ap, arith, suc-mul}
 use Rattle.std.specs.Prelude.{◌==◌, unwrap_or, slice_get, get_or}
 use Rattle.cyc_words.proofs.Items.{get_or-map}
@@ -215,7 +215,7 @@ module _ (program : Program) (m : Measure) (costs : List ℕ) (closed : IsClosed
   abbrev R : Delivery → List Entry → World → ℕ
   R d stack w = stack_cost m costs d stack + counted w
 
-  -- a called function begins with its body, for which its cost suffices
+  -- a call continues with the function's body; the function's cost is at least the body's cost
   begins_call : (number : ℕ) (arguments : List Operand) (outer : Environment) (stack : List Entry) (w : World) (o : Option Function) → slice_get program.functions number ≡ o
       → step_cost m + get_or costs number 0 + R Anything stack w ≤ k → D (called o arguments (Caller outer ∷ stack) w)
   begins_call number arguments outer stack w None there h = tt

@@ -1,5 +1,5 @@
--- The steps of places and values do not raise the cost of a run. The sum of the costs of the focus, of the stack and of the past never
--- increases. The sum decreases at each step if steps are counted.
+-- The steps that evaluate lvalues and values do not raise the cost of a run. The cost of a run is the sum of the costs of the focus,
+-- of the stack and of the resources used so far; this sum never increases. If steps are counted, the sum decreases at each step.
 use Rattle.std.proofs.Common.{◌≡◌, ℕ, zero, suc, ◌+◌, ◌*◌, ◌-◌, ◌<◌, ◌≤◌, min, Bool, true, false, List, [], ◌∷◌, length, reverse, Option, Some, None, refl, ap, arith, suc-mul}
 use Rattle.std.specs.Prelude.{◌==◌, ◌&&◌, nat_le, if◌then◌else◌, slice_get}
 use Rattle.std.proofs.lemmas.Bool.{leb-true, eqb-false}
@@ -61,7 +61,8 @@ module _ (program : Program) (m : Measure) (costs : List ℕ) (counted : World �
   either true s u first second = first
   either false s u first second = second
 
-  -- a conditional result, in which each case may use the outcome of the test
+  -- if each branch of a conditional satisfies the cost bound, the conditional does; each branch may
+  -- use the outcome of the test
   either_by : (b : Bool) (s u : State) → (b ≡ true → B s) → (b ≡ false → B u) → B (if b then s else u)
   either_by true s u first second = first refl
   either_by false s u first second = second refl
@@ -75,7 +76,7 @@ module _ (program : Program) (m : Measure) (costs : List ℕ) (counted : World �
   pub returns_now : (o : Option Operand) (stack : List Entry) (e : Environment) (w : World) → t + A stack w ≤ k → B (Running (Returning o) stack e w)
   returns_now o stack e w h = omega (arith, h, few, nothing m costs Anything stack (omega (arith, h, few)))
 
-  -- the computed value has this kind
+  -- if the cost bound holds for any value of a kind, it holds for a computed value of this kind
   computes_as : (kind : Kind) (r : Result) (stack : List Entry) (e : Environment) (w : World) → t + (S (OfKind kind None) stack + counted w) ≤ k → B (computed kind r stack e w)
   computes_as kind (Gives value) stack e w h = omega (arith, h, kept m costs kind (number_of value) stack)
   computes_as kind (Raises tag) stack e w h = omega (arith, h, few, nothing m costs (OfKind kind None) stack (omega (arith, h, few)))
@@ -112,7 +113,7 @@ module _ (program : Program) (m : Measure) (costs : List ℕ) (counted : World �
   stores_at (Handle region) v focus stack e w h = tt
   stores_at (Key region) v focus stack e w h = tt
 
-  -- a stored value is passed on
+  -- the cost bound holds after a value is stored and passed on
   stores_given : (place : Value) (v : Operand) (stack : List Entry) (e : Environment) (w : World) → t + A stack w ≤ k → B (stored_at place v (Given v) stack e w)
   stores_given place v stack e w h = stores_at place v (Given v) stack e w (gives_value v stack e w h)
 
@@ -467,7 +468,7 @@ module _ (program : Program) (m : Measure) (costs : List ℕ) (counted : World �
   choosing (Some false) first second stack e w one other = omega (arith, one)
   choosing None first second stack e w one other = tt
 
-  -- the cost of a loop, which is bounded only if all of its parts cost nothing
+  -- the cost of a loop; the cost has a bound only if all parts of the loop cost nothing
   abbrev pub L : Expression → Statement → ℕ
   L condition body = loop_cost (t + (expression_cost m costs condition + statement_cost m costs body))
 

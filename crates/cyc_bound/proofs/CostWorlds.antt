@@ -1,4 +1,5 @@
--- The effect of changes of the world on the spent costs: allocating and opening add their costs, and nothing else does.
+-- Lemmas about the resources used by a world: allocating an object and opening a region add their costs, and no other
+-- change adds a cost.
 use Rattle.std.proofs.Common.{◌≡◌, ℕ, zero, suc, ◌+◌, ◌≤◌, true, false, List, [], ◌∷◌, ◌++◌, set, reverse, Option, Some, None, refl, sym, ap, ◌∙◌, arith}
 use Rattle.std.specs.Prelude.{slice_get, ◌*◌}
 use Rattle.std.proofs.lemmas.Grind.{reverse_onto}
@@ -27,7 +28,7 @@ kinds_joined : (before : List Operand) (v : Operand) → kinds_of (blanks_of (be
 kinds_joined [] v = refl
 kinds_joined (x ∷ before) v = ap (λ (ks : List Kind). x.kind ∷ ks) (kinds_joined before v)
 
--- the bytes of fields, whose values are listed newest first
+-- the number of bytes of a struct's fields, computed from the field values listed newest first
 bytes_of_fields : (before : List Operand) → bytes_from 0 (kinds_of (blanks_of (reverse before))) ≡ bytes_before before
 bytes_of_fields [] = refl
 bytes_of_fields (v ∷ before) =
@@ -75,7 +76,7 @@ elements_size count kind = ap (λ (bytes : ℕ). size_of_bytes bytes) (bytes_of_
 
 -- ---- spent costs
 
--- the site of the region of this number, if the first region is at this site
+-- the allocation site of region n, if the first region has the given site
 abbrev pub site_at : Site → ℕ → Site
 site_at site zero = site
 site_at site (suc n) = sites.Region
@@ -85,7 +86,7 @@ module _ (m : Measure) where
   blocks_more site [] size = omega arith
   blocks_more site (x ∷ sizes) size = omega (arith, blocks_more site sizes size)
 
-  -- appending a region without blocks
+  -- appending a region without blocks adds only the cost of opening the region
   pub regions_more : (site : Site) (regions : List Region) (sort : Sort) → regions_spent m site (regions ++ new_region sort ∷ []) ≡ regions_spent m site regions + sort_spent m sort
   regions_more site [] sort = omega arith
   regions_more site (x ∷ regions) sort = omega (arith, regions_more sites.Region regions sort)
@@ -142,7 +143,7 @@ module _ (m : Measure) where
   pub spent_unique : (w : World) (cells : List Cell) → spent m (made_unique w cells) ≡ spent m w + block_cost m sites.Unique (block_size cells)
   spent_unique w cells = omega (arith, objects_more w.objects (record { owner = Unique true; cells = cells }))
 
-  -- a new object costs its block
+  -- creating an object adds the cost of its block
   spent_created : (w new : World) (owner : Owner) (cells : List Cell) → created w owner cells ≡ Found new → spent m new ≡ spent m w + block_cost m (site_of_owner owner) (block_size cells)
   spent_created w new (InRegion region) cells is = go (region_at w region) refl is
     where
@@ -176,7 +177,7 @@ module _ (m : Measure) where
 
 -- ---- counting functions
 
--- A function that counts the spent cost of a world: each change adds at most its cost.
+-- Says that a function counts the resources used by a world: each change adds at most its cost.
 pub record Counts (m : Measure) (counted : World → ℕ) : Type 0 where
   pub opened : (sort : Sort) (w : World) → counted (opened_as sort w) ≤ counted w + sort_spent m sort
   pub closed : (w : World) (n : ℕ) (r : Region) → region_at w n ≡ Found r → counted (closed w n r) ≤ counted w

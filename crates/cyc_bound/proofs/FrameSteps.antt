@@ -1,4 +1,4 @@
--- A step depends only on the newest stack entry: the entries below it are unchanged.
+-- A step depends only on the newest stack entry; the older entries do not change.
 use Rattle.std.proofs.Common.{◌≡◌, ℕ, suc, List, [], ◌∷◌, ◌++◌, length, reverse, Option, Some, None, refl}
 use Rattle.std.specs.Prelude.{◌==◌, slice_get}
 use Rattle.cyc_types.specs.declared.typed.Kind.TheVariants as kinds

@@ -1,4 +1,5 @@
--- The steps of places and values depend only on the newest stack entry: the entries below it are unchanged.
+-- A step that evaluates an lvalue or a value depends only on the newest stack entry; the older entries do
+-- not change.
 use Rattle.std.proofs.Common.{◌≡◌, ℕ, suc, Bool, true, false, List, [], ◌∷◌, ◌++◌, length, reverse, Option, Some, None, refl}
 use Rattle.std.specs.Prelude.{◌==◌, ◌*◌, ◌&&◌, nat_le, if◌then◌else◌, slice_get}
 use Rattle.cyc_types.specs.declared.typed.Kind.{Kind}
@@ -27,7 +28,7 @@ use Rattle.cyc_meaning.specs.Regions.{is_dynamic, opened_by, opens_with, closes_
 use Rattle.cyc_meaning.specs.Step.{passes, assigned, addressed, counts, step_evaluating, decided, tested, awaits_right, chained, tells, applies_pointer, chosen, looped, supplied, step_given}
 
 module _ (program : Program) (below : List Entry) where
-  -- a state with further entries below its stack
+  -- a state whose stack is extended by further, older entries
   abbrev pub under : State → State
   under (Running focus stack e w) = Running focus (stack ++ below) e w
   under (Ended ending output input) = Ended ending output input

@@ -1,4 +1,4 @@
--- The parts of a step create no handle of the heap and no key, and leave no outermost region that costs more than before.
+-- The parts of a step create no handle of the heap and no key, and open no outermost region with a cost above the bound.
 use Rattle.std.proofs.Common.{◌≡◌, ℕ, suc, Bool, true, false, List, [], ◌∷◌, ◌++◌, length, reverse, Option, Some, None, refl, zero, ◌+◌, ◌<◌, ◌≤◌, set, sym, ap, subst, ◌∙◌, arith}
 use Rattle.std.specs.Prelude.{if◌then◌else◌, slice_get, nat_lt}
 use Rattle.std.specs.List.{AllByRecursion}
@@ -75,7 +75,7 @@ sorted_set (heap ∷ regions) (suc n) r s there same h =
 pub own_closed : (w : World) (n : ℕ) (r : Region) → region_at w n ≡ Found r → IsOwnWorld w → IsOwnWorld (closed w n r)
 own_closed w n r found o = (sorted_set w.regions n r (record r { is_open = false }) (region_found w n r found) refl o.0, o.1)
 
--- the handle of the next region is not that of the heap
+-- the handle of a newly opened region is not the handle of the heap
 pub handle_own : (regions : List Region) → AreSorted regions → IsOwn (Handle (length regions))
 handle_own [] h = absurd h
 handle_own (heap ∷ regions) h = tt
@@ -197,7 +197,7 @@ pointer_own operator first second = tt
 
 -- ---- costs
 
--- the total cost of regions open simultaneously is at most their cost in sequence
+-- the total cost of regions open at the same time is at most their cost in sequence
 module _ (m : Measure) (costs : List ℕ) where
   mutual
     statement_within : (s : Statement) → statement_cost m costs s < too_many → statement_at_once m costs s ≤ statement_cost m costs s

@@ -1,4 +1,4 @@
--- If functions cost more, no caller costs less.
+-- If the costs of functions increase, the cost of no caller decreases.
 use Rattle.std.proofs.Common.{ℕ, zero, suc, ◌+◌, ◌≤◌, min, List, [], ◌∷◌, Option, Some, None, arith, mul-le-mul_left}
 use Rattle.std.specs.Prelude.{map}
 use Rattle.cyc_types.specs.declared.typed.Kind.{Kind}

@@ -1,5 +1,5 @@
--- The cost since the opening of the present outermost region, if lexical regions free their content. The spent and remaining costs of the
--- open regions are at most the cost of that region.
+-- The cost since the opening of the present outermost region, if lexical regions free their blocks at their end. The used and remaining
+-- costs of the open regions are at most the cost of that outermost region.
 use Rattle.std.proofs.Common.{◌≡◌, ℕ, zero, suc, ◌+◌, ◌*◌, ◌-◌, ◌<◌, ◌≤◌, ◌⊎◌, Bool, true, false, List, [], ◌∷◌, ◌++◌, drop, set, length, Option, Some, None, refl, sym, ap, subst, ◌∙◌, inl, inr, arith, length-append}
 use Rattle.std.specs.Prelude.{◌==◌, if◌then◌else◌, slice_get, map}
 use Rattle.std.specs.List.{list_any}
@@ -39,7 +39,7 @@ use Rattle.cyc_bound.proofs.KeptSteps.{CalleeFits, CalleeFitsIn, MayOpen, step_k
 
 -- ---- costs counted since the opening of a region
 
--- the cost of everything allocated in the regions from this number on
+-- the cost of all allocations in the regions from number `from` on
 abbrev pub since : Measure → (from : ℕ) → World → ℕ
 since m from w = regions_spent m sites.Region (drop from w.regions)
 
@@ -73,7 +73,7 @@ module _ (m : Measure) where
   made_since (suc from) zero (x ∷ regions) r size there = omega arith
   made_since (suc from) (suc n) (x ∷ regions) r size there = made_since from n regions r size there
 
-  -- nothing is counted of the heap
+  -- the cost since a region does not count allocations in the heap
   heap_since : (from : ℕ) (regions : List Region) (r : Region) → S (suc from) (set regions 0 r) ≡ S (suc from) regions
   heap_since from [] r = refl
   heap_since from (x ∷ regions) r = refl
@@ -111,14 +111,14 @@ module _ (m : Measure) where
     read = λ w input. omega arith;
   }
 
-  -- appending the region that was opened last
+  -- appending a newly opened region adds the cost of opening the region
   last_since : (regions : List Region) (sort : Sort) → S (length regions) (regions ++ new_region sort ∷ []) ≡ sort_spent m sort
   last_since [] sort = omega arith
   last_since (r ∷ regions) sort = last_since regions sort
 
 -- ---- open lexical regions
 
--- all open lexical regions have numbers from this one on
+-- says that all open lexical regions have numbers from `from` on
 abbrev pub IsFrom : (from : ℕ) → List Region → Type 0
 IsFrom from regions = ((n : ℕ) → is_open_scope (slice_get regions n) ≡ true → from ≤ n) × (from ≤ length regions)
 
@@ -180,14 +180,14 @@ from_after from w printed count (Wrong output input) change h = tt
 
 -- ---- states
 
--- the measures of lexical regions that are open simultaneously
+-- says that a measure counts lexical regions that are open at the same time
 abbrev pub IsRegional : Measure → Type 0
 IsRegional measures.Openings = Unit {0}
 IsRegional measures.RegionBlocks = Unit {0}
 IsRegional measures.RegionWords = Unit {0}
 IsRegional m = ⊥
 
--- the facts about a measure, given the costs of functions and of outermost regions
+-- the facts about a measure that follow from the costs of functions and of outermost regions
 pub record Facts (program : Program) (m : Measure) (costs : List ℕ) (most : ℕ) : Type 0 where
   pub closed : IsClosed program m costs
   pub few : most < too_many
@@ -199,9 +199,9 @@ module _ (program : Program) (lasting : List ℕ) (tables : Measure → List ℕ
   abbrev AreOutside : List Entry → Type 0
   AreOutside stack = (m : Measure) → IsRegional m → AreKept false m (tables m) (cost m) stack
 
-  -- Either no lexical region is open, or the open ones have numbers from some number on. If some are open, the entries above some point of
-  -- the stack belong to the open lexical regions. The spent and remaining costs of these entries are at most the cost of the outermost
-  -- region.
+  -- Either no lexical region is open, or all open lexical regions have numbers from some number on. If some are open, the stack entries
+  -- above some point belong to the open lexical regions. The used and remaining costs of these entries are at most the cost of the
+  -- outermost region.
   pub data Split (focus : Focus) (w : World) : List Entry → Type 0 where
     Outside : (stack : List Entry) → AreOutside stack → Split focus w stack
     Inside : (from : ℕ) (entry : Entry) (rest below : List Entry) → AreOutside below → IsFrom (suc from) w.regions
@@ -243,7 +243,7 @@ module _ (program : Program) (lasting : List ℕ) (tables : Measure → List ℕ
             step_costs program m (tables m) f.closed (since m (suc from)) (since_counts m from) (cost m) (omega (arith, f.few, f.free)) (Running focus (entry ∷ rest) e w)
             (always_fits m f.no_more (Running focus (entry ∷ rest) e w)) (omega (arith, less))
 
-    -- if the invariant allows no open lexical region, none is open
+    -- if the invariant allows no open lexical region, the stack contains none
     no_lexicals : (m : Measure) (stack : List Entry) → AreKept false m (tables m) (cost m) stack → lexicals_of stack ≡ []
     no_lexicals m [] h = refl
     no_lexicals m (CloseLexical region ∷ stack) h = absurd (let e : false ≡ true = h.0.0 in cc)
@@ -256,7 +256,7 @@ module _ (program : Program) (lasting : List ℕ) (tables : Measure → List ℕ
     some_region [] h = absurd h
     some_region (heap ∷ regions) h = omega arith
 
-    -- opening an outermost region
+    -- opening an outermost region keeps the invariant of nested regions
     opening : (region number : ℕ) (items : Items) (stack : List Entry) (e : Environment) (w : World) → IsNested (Rest (MoreItems (DeclareRegion region number) items) ∷ stack) e w
         → ((m : Measure) → IsRegional m → IsKept false m (tables m) (cost m) (Running Proceeding (Rest (MoreItems (DeclareRegion region number) items) ∷ stack) e w))
         → IsSplit (stepped program Proceeding (Rest (MoreItems (DeclareRegion region number) items) ∷ stack) e w)

@@ -1,4 +1,4 @@
--- No run demands more pages than its costs state.
+-- No run of a program requests more pages than the program's costs state.
 use Rattle.std.proofs.Common.{◌≡◌, ℕ, zero, suc, ◌+◌, ◌-◌, ◌*◌, ◌/◌, ◌<◌, ◌≤◌, max, Bool, true, false, List, [], ◌∷◌, drop, set, length, get_or, Option, Some, None, refl, sym, ap, subst, ◌∙◌, inl, inr, arith}
 use Rattle.std.specs.Prelude.{◌==◌, ◌&&◌, nat_le, if◌then◌else◌, slice_get}
 use Rattle.std.specs.List.{AllByRecursion}
@@ -36,12 +36,14 @@ use Rattle.cyc_bound.proofs.OutermostRuns.{since, IsRegional, Facts, Split, Outs
 
 -- ---- regions
 
--- one measure counts the blocks at a site, the other their words
+-- says that the measure `ones` counts the blocks at a site, and that `sums` counts the words of
+-- these blocks
 pub record AreBlocks (ones sums : Measure) (site : Site) : Type 0 where
   pub one : (size : ℕ) → block_cost ones site size ≡ 1
   pub all : (size : ℕ) → block_cost sums site size ≡ size
 
--- blocks placed in order need at most as many pages as blocks, and two consecutive pages contain more words than one page
+-- says that blocks placed in order need at most as many pages as there are blocks, and that two consecutive pages contain
+-- more words than one page
 abbrev Grows : (ones sums : Measure) → Site → (pages filled : ℕ) → (sizes : List ℕ) → (after : ℕ) → Type 0
 Grows ones sums site pages filled sizes after =
     (after ≤ pages + blocks_spent ones site sizes) × ((suc page_words * after ≤ suc page_words * pages + filled + 2 * blocks_spent sums site sizes) × (pages ≤ after))
@@ -59,7 +61,8 @@ pages_grow ones sums site are pages filled (size ∷ sizes) =
         let more = leb-false (filled + size) page_words is in
         (omega (arith, past.0, are.one size), (omega (arith, past.1.0, more, are.all size), omega (arith, past.1.1)))
 
--- the regions need one page each, plus the further pages for the blocks and words of these measures
+-- says that the regions need one page each, plus at most the further pages for the blocks and words
+-- that the two measures count
 pub record RegionsAsk (ones sums : Measure) (site : Site) (regions : List Region) (pages : ℕ) : Type 0 where
   pub further : ℕ
   pub all : pages ≤ regions_spent measures.Openings site regions + further
@@ -107,14 +110,14 @@ demand_split (sizes ∷ regions) classes = omega (arith, demand_split regions cl
 
 -- ---- runs that are over
 
--- a full run stays full, whatever its limits
+-- a run that ended because the heap was full stays ended, whatever its limits
 over : (program : Program) (pages more limit count : ℕ) (output input : List ℕ)
     → limited_steps program pages limit count (Ended Full output input) ≡ limited_steps program more limit count (Ended Full output input)
 over program pages more limit count output input =
     limited_over_stays program pages limit count (Ended Full output input) (λ going. let e : HasEnded Full ≡ GoesOn = going in cc)
     ∙ sym (limited_over_stays program more limit count (Ended Full output input) (λ going. let e : HasEnded Full ≡ GoesOn = going in cc))
 
--- the regions of a state need at most this many pages
+-- says that the regions of a state need at most `most` pages
 abbrev RegionsWithin : ℕ → State → Type 0
 RegionsWithin most (Running focus stack e w) = pages_of w.regions ≤ most
 RegionsWithin most (Ended ending output input) = Unit {0}
@@ -148,7 +151,7 @@ module _ (program : Program) (cost : Measure → ℕ) where
   abbrev P : ℕ → ℕ
   P class = pages_for class (cost (measures.Uniques class))
 
-  -- each class has at most the pages that its blocks need
+  -- says that each size class has at most the pages that its unique blocks need
   pub record AreFew (classes : List ℕ) : Type 0 where
     pub all : length classes ≡ suc greatest_class
     pub few : (class : ℕ) → class ≤ greatest_class → get_or classes class 0 ≤ P class
@@ -241,7 +244,7 @@ module _ (program : Program) (cost : Measure → ℕ) where
   IsSpent (Dead output input) = Unit {0}
   IsSpent (Wrong output input) = Unit {0}
 
-  -- no state has spent more than the cost of a run
+  -- the resources used by any state of a run are at most the cost of the run
   spent_most : (m : Measure) (most : ℕ) (input : List ℕ) (n : ℕ) → step_cost m ≡ 0 → ((i : ℕ) → FitsIn m (run program input i)) → IsRunCost program m most × (most < too_many) → spent_in m (run program input n) ≤ most
   spent_most m most input n free fits ((costs, are, is), less) =
       within (run program input n) (run_costs program m costs are.0 (omega (arith, is, less)) input free n (λ i below. fits i))
@@ -252,7 +255,7 @@ module _ (program : Program) (cost : Measure → ℕ) where
       within (Dead output input) h = omega arith
       within (Wrong output input) h = omega arith
 
-  -- the number of unique blocks is bounded by the costs
+  -- says that the costs bound the number of unique blocks of each size class
   abbrev pub UniquesCost : Type 0
   UniquesCost = (class : ℕ) → class ≤ greatest_class → IsRunCost program (measures.Uniques class) (cost (measures.Uniques class)) × (cost (measures.Uniques class) < too_many)
 
@@ -312,7 +315,8 @@ module _ (program : Program) (cost : Measure → ℕ) where
         let spends = are_spent (run program input (suc n)) (uniques_spent (suc n)) in
         subst IsFew (sym last) (few_next (run program input n) (subst IsSpent last spends) (few_all n))
 
-    -- the total demand, given the pages of regions
+    -- the pages that a state requests are at most the pages of its regions plus those of the unique
+    -- blocks
     within_pages : (s : State) (regions : ℕ) → IsFew s → RegionsWithin regions s → demand s ≤ regions + unique_pages cost (suc greatest_class)
     within_pages (Running focus stack e w) regions h less = omega (arith, demand_split (counted w.regions) w.classes, less, total_few w.classes h)
     within_pages (Ended ending output input) regions h less = omega arith
@@ -340,7 +344,7 @@ further_within further blocks words by_blocks by_words =
     let less : further ≤ 2 * words / suc page_words = le-div further (2 * words) (suc page_words) (omega arith) (omega (arith, by_words)) in
     omega (arith, by_blocks, less)
 
--- more blocks and words need at least as many pages
+-- the number of further pages increases with the number of blocks and the number of words
 further_more : (further blocks words most all : ℕ) → further ≤ blocks → suc page_words * further ≤ 2 * words → blocks ≤ most → words ≤ all → further ≤ further_pages most all
 further_more further blocks words most all by_blocks by_words less few = further_within further most all (omega (arith, by_blocks, less)) (omega (arith, by_words, few))
 
@@ -397,7 +401,7 @@ module _ (program : Program) (cost : Measure → ℕ) (input : List ℕ) where
     abbrev lasting : List ℕ
     lasting = are.0.0
 
-    -- nothing that may outlast regions is created
+    -- a run creates nothing that may outlast regions, if the cost of lasting things is 0
     free : (n : ℕ) → CostsAtMost measures.Lasting lasting 0 (run program input n)
     free n =
         let none : run_cost program measures.Lasting lasting ≡ 0 = sym are.0.2 in
@@ -407,7 +411,7 @@ module _ (program : Program) (cost : Measure → ℕ) (input : List ℕ) where
     kept : (n : ℕ) → IsKept true measures.Openings (tables measures.Openings) (cost measures.Openings) (run program input n)
     kept n = run_kept program lasting tables cost facts input free measures.Openings (facts measures.Openings tt) n
 
-    -- no handle of the heap is passed on
+    -- no step of the run passes on a handle of the heap
     own_fits : (m : Measure) (s : State) → IsKept true measures.Openings (tables measures.Openings) (cost measures.Openings) s → FitsIn m s
     own_fits m (Running focus stack e w) h = go focus h.0.0
       where
@@ -447,7 +451,7 @@ module _ (program : Program) (cost : Measure → ℕ) (input : List ℕ) where
         go true has rest = absurd (let e : true ≡ false = sym has ∙ (left_pages r.sort r.is_open left.0 ∙ h 0) in cc)
         go false has rest = rest
 
-    -- the pages of lexical regions that are open simultaneously
+    -- the number of pages of the lexical regions that are open at the same time
     abbrev AtOnce : ℕ
     AtOnce = cost measures.Openings + further_pages (cost measures.RegionBlocks) (cost measures.RegionWords)
 
@@ -507,7 +511,7 @@ module _ (program : Program) (input : List ℕ) (most : ℕ) (least : (n : ℕ) 
   pub pages_within : (pages limit n : ℕ) → most ≤ pages → is_within pages limit (run program input n) ≡ nat_le (depth (run program input n)) limit
   pages_within pages limit n enough = ap (λ (b : Bool). b && nat_le (depth (run program input n)) limit) (le-leb (demand (run program input n)) pages (omega (arith, least n, enough)))
 
-  -- a step under both limits has the same result as a step under one
+  -- if two page limits are both at least the bound, a run has the same steps under both limits
   alike : (pages more limit : ℕ) → most ≤ pages → most ≤ more → (count n : ℕ)
       → limited_steps program pages limit count (run program input n) ≡ limited_steps program more limit count (run program input n)
   alike pages more limit enough also zero n = refl

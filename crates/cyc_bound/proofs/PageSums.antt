@@ -1,4 +1,4 @@
--- The pages of regions by either rule, and all pages together.
+-- Lemmas: the pages of regions by either rule, and all pages together.
 use Rattle.std.proofs.Common.{◌≡◌, ℕ, zero, suc, ◌+◌, ◌-◌, ◌<◌, ◌≤◌, ◌⊎◌, Bool, true, false, Option, Some, None, refl, sym, subst, inl, inr, arith}
 use Rattle.std.specs.Prelude.{◌==◌}
 use Rattle.std.proofs.lemmas.Bool.{cases_eq, eq-eqb, ne_eqb}
@@ -16,7 +16,7 @@ use Rattle.cyc_bound.specs.inside.RegionCosts.{IsAtOnceFound, AreRegionsCounted,
 use Rattle.cyc_bound.specs.inside.Rounds.{IsFound}
 
 module _ (program : Program) where
-  -- a cost that was found is the cost of a run
+  -- if the search returns a cost, this is the cost of a run
   pub found : (m : Measure) (o : Option ℕ) (cost : ℕ) → o ≡ Some cost → IsFound program m o → IsRunCost program m cost
   found m o cost is h = subst (λ (n : Option ℕ). IsFound program m n) is h
 
@@ -27,7 +27,7 @@ module _ (program : Program) where
   not_found_at_once m None other h = h
   not_found_at_once m (Some cost) other h = absurd (other cost refl)
 
-  -- the cost of lasting things decides whether regions free their content
+  -- the cost of things that may outlast regions decides if lexical regions free their contents
   pub gives_by : (cost : ℕ) (o : Option ℕ) → o ≡ Some cost → IsFound program measures.Lasting o → GivesBack program (cost == 0)
   gives_by cost o is h = go (cases_eq cost 0)
     where
@@ -37,7 +37,7 @@ module _ (program : Program) where
           let more : cost ≡ suc (cost - 1) = omega (arith, some) in
           subst (λ (b : Bool). GivesBack program b) (sym (ne_eqb cost 0 some)) (inl (cost - 1, subst (λ (n : ℕ). IsRunCost program measures.Lasting n) more (found measures.Lasting o cost is h)))
 
-  -- all costs above the greatest counted value count as that value
+  -- every cost above the greatest counted value counts as the greatest counted value
   pub too_many_at_once : (m : Measure) (cost : ℕ) → IsAtOnce program m cost → too_many ≤ cost → IsAtOnce program m too_many
   too_many_at_once m cost h many = subst (λ (n : ℕ). IsAtOnce program m n) (capped h) h
     where

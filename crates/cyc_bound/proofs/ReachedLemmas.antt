@@ -1,4 +1,5 @@
--- The walk over the functions reachable from `main`: each function found is reachable, and the callees of each visited function are found.
+-- The search for the functions reachable from `main`: each function found is reachable, and the callees of each visited function are
+-- found.
 use Rattle.std.proofs.Common.{◌≡◌, ℕ, suc, ◌+◌, ◌<◌, ◌≤◌, ◌⊎◌, Bool, List, [], ◌∷◌, ◌++◌, length, get_or, sym, ap, subst, ◌∙◌, inl, inr, arith}
 use Rattle.std.specs.Prelude.{slice_get, Contains}
 use Rattle.std.proofs.lemmas.Bool.{cases_lt}
@@ -12,7 +13,8 @@ use Rattle.cyc_bound.proofs.CallLemmas.{following}
 use Rattle.cyc_bound.proofs.WalkLemmas.{calls_at}
 
 module _ (program : Program) where
-  -- the facts when the walk has visited the functions before this position
+  -- says that the search has visited the functions found before position `place`, with their
+  -- callees found
   pub record IsWalked (marks : List Bool) (found : List ℕ) (place : ℕ) : Type 0 where
     pub marked : AreMarked marks found
     pub first : Contains found program.main
@@ -31,7 +33,7 @@ module _ (program : Program) where
     | inr more ↦ ap (λ (l : List ℕ). get_or l k 0) more ∙ get_or_before before f k less
   ]
 
-  -- no other function is new
+  -- noting a function adds no other function to those found
   new_one : (before : List ℕ) (f : ℕ) (marks : List Bool) (after : List ℕ) → IsNoted before f marks after → (g : ℕ) → Contains after g → Contains before g ⊎ (f ≡ g)
   new_one before f marks after h g is = elim h.alike [
     | inl same ↦ inl (subst (λ (l : List ℕ). Contains l g) same is)
@@ -63,7 +65,7 @@ module _ (program : Program) where
         kept found f marked after h callee (w.closed k below callee before);
   }
 
-  -- the facts while the walk visits a function, after the callees before this index
+  -- says that the search is visiting a function and has noted its callees before index i
   pub record IsAtPlace (function : ℕ) (callees : List ℕ) (i : ℕ) (marks : List Bool) (found : List ℕ) (place : ℕ) : Type 0 where
     pub walked : IsWalked marks found place
     pub less : place < length found
@@ -108,7 +110,8 @@ module _ (program : Program) where
     ];
   }
 
-  -- the walk has visited all functions
+  -- if the search has visited all functions found, the functions found are exactly the reachable
+  -- ones
   pub walk_ends : (marks : List Bool) (found : List ℕ) (place : ℕ) → IsWalked marks found place → length found ≤ place → AreReached program found
   walk_ends marks found place w whole = (λ f count row. from program.main f count row w.first, w.led)
     where

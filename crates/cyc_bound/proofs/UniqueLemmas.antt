@@ -1,4 +1,4 @@
--- The classes of unique blocks, one after the other.
+-- Lemmas about the size classes of unique blocks, which are visited one after the other.
 use Rattle.std.proofs.Common.{◌≡◌, ℕ, zero, suc, ◌+◌, ◌-◌, ◌^◌, ◌<◌, ◌≤◌, ◌⊎◌, Bool, Option, Some, None, refl, sym, ap, subst, inl, inr, arith, div-le_self}
 use Rattle.std.specs.Prelude.{◌==◌, if◌then◌else◌}
 use Rattle.std.proofs.lemmas.Bool.{cases_eq, eq-eqb, ne_eqb}
@@ -25,7 +25,8 @@ blocks_some (suc (suc (suc (suc (suc (suc (suc (suc (suc zero))))))))) below = o
 blocks_some (suc (suc (suc (suc (suc (suc (suc (suc (suc (suc zero)))))))))) below = omega arith
 blocks_some (suc (suc (suc (suc (suc (suc (suc (suc (suc (suc (suc class))))))))))) below = absurd (omega (arith, below))
 
--- the pages of a class are fewer than the blocks plus the blocks in a page
+-- the number of pages of a size class is small, if its number of blocks is below the greatest
+-- counted value
 few_pages : (class blocks : ℕ) → class ≤ greatest_class → blocks < too_many → pages_for class blocks ≤ 2 ^ 51
 few_pages class blocks below few =
     let in_page : blocks_in_page class ≤ 1024 = div-le_self 1024 (2 ^ class) in
@@ -46,7 +47,7 @@ module _ (program : Program) where
   pub so_far_none : UniquesSoFar program 0 0
   so_far_none = (λ m. 0, (refl, (omega arith, λ other less. absurd (omega (arith, less)))))
 
-  -- the cost function, changed for one class
+  -- a function from measures to costs, changed for one size class of unique blocks
   abbrev with_class : (class blocks : ℕ) → (Measure → ℕ) → Measure → ℕ
   with_class class blocks cost (measures.Uniques other) = if other == class then blocks else cost (measures.Uniques other)
   with_class class blocks cost m = cost m

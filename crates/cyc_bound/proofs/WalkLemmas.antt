@@ -1,4 +1,5 @@
--- Lemmas for the walk over calls: paths and cycles, rows that are joined, and heights.
+-- Lemmas for the search over calls: paths and cycles, chains of calls that are joined, and heights
+-- of functions.
 use Rattle.std.proofs.Common.{◌≡◌, ℕ, zero, suc, ◌+◌, ◌<◌, ◌≤◌, max, List, [], ◌∷◌, ◌++◌, length, get_or, set, drop, subst, sym, ap, ◌∙◌, inl, inr, arith}
 use Rattle.std.specs.Prelude.{slice_get, Contains}
 use Rattle.std.proofs.lemmas.Bool.{cases_eq, cases_lt}
@@ -17,7 +18,7 @@ module _ (program : Program) where
   lead_more (x ∷ []) f g h call = (h, call)
   lead_more (x ∷ y ∷ path) f g h call = (h.0, lead_more (y ∷ path) f g h.1 call)
 
-  -- a path that returns to one of its functions contains a cycle
+  -- a path of calls that returns to one of its functions contains a cycle
   pub cycle_from : (path : List ℕ) (n f count : ℕ) → LeadTo program path f → n < length path → get_or path n 0 ≡ f → Row program program.main f count → IsCycle program (drop n path)
   cycle_from [] n f count h less at row = absurd (omega (arith, less))
   cycle_from (x ∷ path) zero f count h less at row =
@@ -33,7 +34,7 @@ module _ (program : Program) where
   pub row_after : (first last next count : ℕ) → Row program first last count → Calls program last next → Row program first next (count + 1)
   row_after first last next count row call = row_counts first next (suc count) (count + 1) (omega arith) (following program first last next count row call)
 
-  -- joining two chains, the second of which begins with the last function of the first
+  -- two chains of calls can be joined if the second begins with the last function of the first
   pub rows_joined : (f g l m n : ℕ) → Row program f g m → Row program g l (suc n) → Row program f l (m + n)
   rows_joined f g l m n (Alone h) later = row_counts h l (suc n) (1 + n) (omega arith) later
   rows_joined f g l m n (Before a next b k call row) later =
@@ -41,7 +42,7 @@ module _ (program : Program) where
 
   -- ---- heights of functions
 
-  -- the height of a function, computed from the first callees up to this number
+  -- says that `height` is the height of a function computed from its first i callees
   pub record IsSoFar (f : ℕ) (callees : List ℕ) (i height : ℕ) : Type 0 where
     pub some : 1 ≤ height
     pub few : height ≤ most_calls
@@ -88,7 +89,7 @@ module _ (program : Program) where
           let same : next ≡ get_or callees k 0 = sym at ∙ get_or_default callees k next 0 less in
           omega (arith, h.above k (omega (arith, less, whole)) l n (subst (λ (g : ℕ). Row program g l n) same row))
 
-  -- the table after storing another height
+  -- storing the height of a function keeps the table of heights correct
   pub heights_more : (heights : List ℕ) (f height : ℕ) → AreHeights program heights → IsHeight program f height → height ≤ most_calls → AreHeights program (set heights f height)
   heights_more heights f height are is few g above = elim (cases_eq g f) [
     | inl same ↦ elim (cases_lt f (length heights)) [
@@ -102,7 +103,8 @@ module _ (program : Program) where
         subst (λ (n : ℕ). 0 < n → IsHeight program g n × (n ≤ most_calls)) there (are g) above
   ]
 
-  -- a call of a function with the greatest reported height gives a longer chain
+  -- if a callee has a chain of calls longer than the limit allows, so does the function that calls
+  -- it
   pub deep_through : (f : ℕ) (callees : List ℕ) (i callee count before : ℕ) → callees ≡ callees_of (slice_get program.functions f) → i < length callees → callee ≡ get_or callees i callee
       → Row program program.main f before → 1 ≤ before → IsHeight program callee count → most_calls ≤ count → (last n : ℕ) × Row program program.main last n × (most_calls < n)
   deep_through f callees i callee count before are less at row some is many =
@@ -118,7 +120,7 @@ module _ (program : Program) where
   round f [] g h = Before f g g 1 h (Alone g)
   round f (next ∷ functions) g h = Before f next g (suc (suc (length functions))) h.0 (round next functions g h.1)
 
-  -- chains that go round a cycle as often as wanted
+  -- chains of calls can go round a cycle any number of times, so they have no greatest length
   grows : (f count : ℕ) (functions : List ℕ) → LeadTo program (f ∷ functions) f → Row program program.main f count → (times : ℕ) → (n : ℕ) × Row program program.main f n × (times ≤ n)
   grows f count functions h row zero = (count, row, omega arith)
   grows f count functions h row (suc times) =

@@ -1,8 +1,9 @@
--- The cost of lexical regions that are open simultaneously. The cost is counted for each outermost region, from its declaration to the end
--- of its block. A region is outermost if it is declared while no other one is open. Everything opened and allocated in it adds up, also in
--- the functions called there. Nothing is subtracted before its end. The end frees all of it. The end of an outermost region frees all of
--- its contents, hence of two outermost regions only the costlier one counts, and a loop costs as much as one iteration. This way to count
--- the cost of open regions is this project's own choice.
+-- The cost of lexical regions that are open at the same time. The cost is counted for each outermost region, from its declaration to the
+-- end of its block. A region is outermost if it is declared while no other region is open. The costs of everything opened and allocated in
+-- an outermost region add up, also in the functions called there. No cost is subtracted before the region's end. The end of an outermost
+-- region frees all of its contents. Of two outermost regions only the costlier one counts, and a loop costs as much as one iteration,
+-- because an outermost region's end frees all of its contents. The way in which the cost of open regions is counted is this project's own
+-- choice.
 use Rattle.std.specs.Prelude.{◌≡◌, ◌≤◌, ◌⊎◌, ℕ, min, max, List, Option, Some, None, slice_get}
 use Rattle.cyc_types.specs.TypedTrees.{Statement, Block, If, While, Try, Items, NoItems, MoreItems, Execute, DeclareRegion, Clauses, NoClauses, Default, Case, Function, Program}
 use Rattle.cyc_bound.specs.declared.costs.Measure.{Measure}
@@ -10,7 +11,7 @@ use Rattle.cyc_bound.specs.Bound.{Row}
 use Rattle.cyc_bound.specs.Costs.{too_many, items_cost, Below, IsClosed, StillGrow}
 
 abbrev mutual
-  -- the cost of the costliest outermost region that a statement declares
+  -- the cost of the costliest outermost region among those that a statement declares
   pub statement_at_once : Measure → (costs : List ℕ) → Statement → ℕ
   statement_at_once m costs (Block r js) = items_at_once m costs js
   statement_at_once m costs (If a s t) = max (statement_at_once m costs s) (statement_at_once m costs t)
@@ -18,7 +19,8 @@ abbrev mutual
   statement_at_once m costs (Try s cs) = max (statement_at_once m costs s) (clauses_at_once m costs cs)
   statement_at_once m costs s = 0
 
-  -- a region is open to the end of its block, so the rest of the block counts
+  -- the cost of the costliest outermost region of a block's items; a region is open to the end of
+  -- its block, so the rest of the block counts
   pub items_at_once : Measure → (costs : List ℕ) → Items → ℕ
   items_at_once m costs NoItems = 0
   items_at_once m costs (MoreItems (Execute s) js) = max (statement_at_once m costs s) (items_at_once m costs js)
@@ -34,13 +36,14 @@ abbrev pub at_once_of : Measure → (costs : List ℕ) → Option Function → �
 at_once_of m costs None = 0
 at_once_of m costs (Some h) = items_at_once m costs h.body
 
--- The costs of functions that are called in regions. The costs of functions are the least ones that suffice for all functions, or any
--- sufficient ones if they still grow after all rounds. A function that calls itself inside a region has no bound, but one that calls itself
--- after the region's end may have one.
+-- Says that the costs of functions called in regions are sufficient. The costs of functions are the least costs that suffice for all
+-- functions, or any sufficient costs if the least ones still grow after all rounds. A function that calls itself inside a region has no
+-- bound, but a function that calls itself after the region's end may have one.
 abbrev pub AreEnough : Program → Measure → (costs : List ℕ) → Type 0
 AreEnough program m costs = IsClosed program m costs × (((others : List ℕ) → IsClosed program m others → Below costs others) ⊎ StillGrow program m)
 
--- no outermost region of a function reachable from `main` costs more than this, and some region costs exactly this, if any exists
+-- says that no outermost region of a function reachable from `main` costs more than `cost`, and that some region costs exactly
+-- `cost`, if any region exists
 abbrev pub IsAtOnce : Program → Measure → ℕ → Type 0
 IsAtOnce program m cost =
     (costs : List ℕ) × AreEnough program m costs

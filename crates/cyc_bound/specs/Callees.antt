@@ -1,5 +1,6 @@
--- The functions that a typed tree calls, by their numbers: each call in the text, in order; a function comes after its arguments. `putchar`
--- and `getchar` do not count. A call counts even if no run reaches it. The order of the listed callees is this project's own choice.
+-- The functions that a typed tree calls, by their numbers. The list has an entry for each call in the text, in order; a function comes
+-- after the functions called in its arguments. Calls of `putchar` and `getchar` do not count. A call counts even if no run reaches it. The
+-- order of the listed callees is this project's own choice.
 use Rattle.std.specs.Prelude.{ℕ, List, [], ◌∷◌, ◌++◌, Option, None, Some}
 use Rattle.cyc_types.specs.declared.typed.Callee.{Callee}
 use Rattle.cyc_types.specs.declared.typed.Callee.TheVariants as callees
@@ -7,7 +8,7 @@ use Rattle.cyc_types.specs.TypedTrees.{Expression, Load, AddressOfCell, NumberOf
 use Rattle.cyc_types.specs.TypedTrees.{ByHandle, Initial, Plain, Fields, Array, Converted, Convert, Arguments, NoArguments, MoreArguments, Operations, NoOperations, ThenCompute, ThenTest, ThenPointer, ThenPointerPeek}
 use Rattle.cyc_types.specs.TypedTrees.{Side, VariableSide, CellSide, Statement, Block, Evaluate, Swap, If, While, Return, Throw, Try, Items, NoItems, MoreItems, Execute, Declare, Clauses, NoClauses, Default, Case}
 
--- the callee of a call; built-in functions do not count
+-- the callee of a call as a list; the list is empty for a built-in function
 abbrev pub callee_of : Callee → List ℕ
 callee_of (callees.Function number) = number ∷ []
 callee_of service = []
@@ -56,7 +57,7 @@ abbrev mutual
   operations_callees (ThenPointer o a os) = expression_callees a ++ operations_callees os
   operations_callees (ThenPointerPeek n o a os) = expression_callees a ++ operations_callees os
 
--- the callees of an optional value
+-- the functions that an optional value calls
 abbrev pub value_callees : Option Converted → List ℕ
 value_callees None = []
 value_callees (Some c) = converted_callees c

@@ -1,6 +1,7 @@
--- Upper bounds on the costs of a run, computed from a typed tree: its steps, or its regions or blocks of one kind. The costs of consecutive
--- parts are added, of two alternatives the greater one counts, and an array's element counts for each possible evaluation. A loop that
--- costs anything has no bound; its cost is the greatest counted value. The definition of these costs is this project's own choice.
+-- Upper bounds on the costs of a run, computed from a typed tree. A cost is the number of steps, or of regions or blocks of one kind. The
+-- costs of consecutive parts are added. Of two alternatives the greater cost counts, and an array's element counts once for each possible
+-- evaluation. A loop that costs anything has no bound; its cost is the greatest counted value. The definition of these costs is this
+-- project's own choice.
 use Rattle.std.specs.Prelude.{◌≡◌, ◌<◌, ◌≤◌, ℕ, zero, suc, ◌+◌, ◌*◌, ◌^◌, ◌==◌, if◌then◌else◌, min, max, List, [], map, length, Option, None, Some, get_or}
 use Rattle.cyc_words.specs.Demand.{class_of}
 use Rattle.cyc_types.specs.declared.typed.Kind.{Kind}
@@ -19,28 +20,29 @@ use Rattle.cyc_bound.specs.declared.costs.Site.TheVariants as sites
 use Rattle.cyc_bound.specs.declared.steps.StepBound.{StepBound}
 use Rattle.cyc_bound.specs.declared.steps.StepBound.TheVariants as bounds
 
--- the greatest counted value; all greater costs count as this value
+-- the greatest counted value of a cost; all greater costs count as this value
 abbrev pub too_many : ℕ
 too_many = 2 ^ 50
 
 -- ---- unit costs
 
--- the cost of a step
+-- the cost of one step of a run
 abbrev pub step_cost : Measure → ℕ
 step_cost measures.Steps = 1
 step_cost m = 0
 
--- the cost of opening a region with pages: the heap, or one that a program declares
+-- the cost of opening a region that has pages: the heap, or a region that a program declares
 abbrev pub opening_cost : Measure → ℕ
 opening_cost measures.Openings = 1
 opening_cost m = 0
 
--- the cost of something that may outlast every lexical region: a handle of the heap used as a value, or a dynamic region
+-- the cost of a thing that may outlast every lexical region: a handle of the heap used as a value, or a dynamic region
 abbrev pub lasting_cost : Measure → ℕ
 lasting_cost measures.Lasting = 1
 lasting_cost m = 0
 
--- the cost of a block of this many words, by its site: on the heap, by a handle, or unique
+-- the cost of a block of `size` words, by its allocation site: on the heap, by a handle, or as a
+-- unique object
 abbrev pub block_cost : Measure → Site → (size : ℕ) → ℕ
 block_cost measures.Blocks sites.Heap size = 1
 block_cost measures.Blocks sites.Region size = 1
@@ -53,7 +55,7 @@ block_cost measures.RegionWords sites.Region size = size
 block_cost (measures.Uniques class) sites.Unique size = if class_of size == class then 1 else 0
 block_cost m site size = 0
 
--- the cost of a block for an array of unknown length
+-- the cost of the block of an array with unknown length
 abbrev pub array_block_cost : Measure → Site → ℕ
 array_block_cost measures.Blocks sites.Heap = 1
 array_block_cost measures.Blocks sites.Region = 1
@@ -68,36 +70,37 @@ array_block_cost m site = 0
 
 -- ---- new objects
 
--- the number of words of an object with this many bytes
+-- the number of words of an object with the given number of bytes
 abbrev pub size_of_bytes : ℕ → ℕ
 size_of_bytes bytes = max 1 (words_for bytes)
 
--- the largest number of elements of this kind in an array
+-- the largest number of elements of the given kind in an array
 abbrev pub most_elements : Kind → ℕ
 most_elements kinds.Char = 4000
 most_elements kinds.Fat = 333
 most_elements kind = 1000
 
--- the length of an array, if it is written as a number
+-- the length of an array, if the program writes the length as a number
 abbrev pub written_length : Expression → Option ℕ
 written_length (Number n) = Some n
 written_length a = None
 
--- the site of an object with this placement
+-- the allocation site of an object, from the object's placement
 abbrev pub site_of : Placement → Site
 site_of OnHeap = sites.Heap
 site_of AsUnique = sites.Unique
 site_of (ByHandle a) = sites.Region
 
--- The cost of a new cell: its block, one step for the allocation, one for the write, and two to pass on the pointer.
+-- The cost of allocating a memory cell: the cost of its block, plus three steps for the allocation, the first write
+-- and passing on the pointer.
 abbrev pub plain_cost : Measure → Site → Kind → ℕ
 plain_cost m site kind = 3 * step_cost m + block_cost m site (size_of_bytes (following kind 0))
 
--- the cost of allocating and writing this many fields, which have this many bytes
+-- the cost of allocating a struct and writing its fields, from the number of fields and of bytes
 abbrev pub fields_made_cost : Measure → Site → (count bytes : ℕ) → ℕ
 fields_made_cost m site count bytes = count * step_cost m + (2 * step_cost m + block_cost m site (size_of_bytes bytes))
 
--- the cost of evaluating this many elements, each of this cost
+-- the cost of evaluating `count` array elements, each of which costs `element`
 abbrev pub elements_cost : Measure → (element count : ℕ) → ℕ
 elements_cost m element count = count * (step_cost m + element) + 3 * step_cost m
 
@@ -108,7 +111,7 @@ array_cost m site kind element (Some n) =
 
 -- ---- expressions
 
--- the cost of a call after the evaluation of its arguments, given the costs of functions
+-- the cost of a call after its arguments are evaluated, from the costs of functions
 abbrev pub callee_cost : Measure → (costs : List ℕ) → Callee → ℕ
 callee_cost m costs (callees.Function number) = 2 * step_cost m + get_or costs number 0
 callee_cost m costs service = 2 * step_cost m
@@ -134,7 +137,7 @@ abbrev mutual
   place_cost m costs (Member k a s f t) = 2 * step_cost m + expression_cost m costs a
   place_cost m costs (Element a i t) = 3 * step_cost m + (expression_cost m costs a + expression_cost m costs i)
 
-  -- the cost of evaluating a handle, and of dropping it after the allocation
+  -- the cost of evaluating the handle of `rnew`, and of dropping the handle after the allocation
   pub placement_cost : Measure → (costs : List ℕ) → Placement → ℕ
   placement_cost m costs OnHeap = 0
   placement_cost m costs AsUnique = 0
@@ -146,7 +149,8 @@ abbrev mutual
   initial_cost m costs site (Array p l n k a) =
       expression_cost m costs n + array_cost m site k (expression_cost m costs a) (written_length n)
 
-  -- the cost of the further fields, after this many fields of this many bytes
+  -- the cost of the remaining fields of a struct, after `count` fields with the given number of
+  -- bytes
   pub fields_cost : Measure → (costs : List ℕ) → Site → (count bytes : ℕ) → Arguments → ℕ
   fields_cost m costs site count bytes NoArguments = fields_made_cost m site count bytes
   fields_cost m costs site count bytes (MoreArguments (Convert from to a) cs) =
@@ -182,12 +186,12 @@ abbrev pub side_cost : Measure → (costs : List ℕ) → Side → ℕ
 side_cost m costs (VariableSide l t) = 0
 side_cost m costs (CellSide d) = place_cost m costs d
 
--- the cost of any number of iterations, each of this cost
+-- the cost of any number of iterations of a loop, from the cost of one iteration
 abbrev pub loop_cost : ℕ → ℕ
 loop_cost zero = 0
 loop_cost (suc turn) = too_many
 
--- the cost of the items of a clause, with the local that receives the exception's int
+-- the cost of the items of a catch clause, with the local that receives the exception's int
 abbrev pub caught_cost : Measure → Option ℕ → (items : ℕ) → ℕ
 caught_cost m None items = 2 * step_cost m + items
 caught_cost m (Some number) items = 3 * step_cost m + items
@@ -217,7 +221,7 @@ abbrev mutual
   items_cost m costs NoItems = step_cost m
   items_cost m costs (MoreItems j js) = item_cost m costs j + items_cost m costs js
 
-  -- the cost of clauses, which are tried one by one
+  -- the cost of the clauses of a catch, which are tried one after another
   pub clauses_cost : Measure → (costs : List ℕ) → Clauses → ℕ
   clauses_cost m costs NoClauses = 2 * step_cost m
   clauses_cost m costs (Default r js) = caught_cost m None (step_cost m + items_cost m costs js)
@@ -225,29 +229,29 @@ abbrev mutual
 
 -- ---- functions
 
--- the cost of a call of a function, from the opening of its region on
+-- the cost of a call of a function, from the opening of the function's region on
 abbrev pub function_cost : Measure → (costs : List ℕ) → Function → ℕ
 function_cost m costs h = length h.parameters * step_cost m + (4 * step_cost m + items_cost m costs h.body)
 
--- the costs of functions computed from their bodies, given the costs of their callees
+-- the costs of functions computed from their bodies and from the costs of their callees
 abbrev pub next_costs : Program → Measure → (costs : List ℕ) → List ℕ
 next_costs program m costs = map (λ (h : Function). min too_many (function_cost m costs h)) program.functions
 
--- each cost in the first list is at most that in the second
+-- says that the cost of each function in the first list is at most its cost in the second list
 abbrev pub Below : List ℕ → List ℕ → Type 0
 Below costs others = (f : ℕ) → get_or costs f 0 ≤ get_or others f 0
 
--- the cost of each function suffices for its body
+-- says that the cost of each function is at least the cost of its body
 abbrev pub IsClosed : Program → Measure → (costs : List ℕ) → Type 0
 IsClosed program m costs = Below (next_costs program m costs) costs
 
--- The costs of functions: the least that suffice for all of them, so they are unique. If functions call each other in a cycle and nothing
--- is counted on the way, the cycle adds nothing.
+-- Says that costs are the costs of functions: the least costs that suffice for all function bodies, so they are unique. If functions call
+-- each other in a cycle and nothing on the cycle is counted, the cycle adds no cost.
 abbrev pub AreCosts : Program → Measure → (costs : List ℕ) → Type 0
 AreCosts program m costs = IsClosed program m costs × ((others : List ℕ) → IsClosed program m others → Below costs others)
 
--- The cost of a run, given the costs of functions. The cost of a run includes the heap, which exists from the start, and the end of the
--- call of `main`.
+-- The cost of a run, computed from the costs of functions. The cost of a run includes the heap, which exists from the start, and the
+-- end of the call of `main`.
 abbrev pub run_cost : Program → Measure → (costs : List ℕ) → ℕ
 run_cost program m costs = min too_many (step_cost m + (opening_cost m + get_or costs program.main 0))
 
@@ -256,23 +260,24 @@ IsRunCost program m cost = (costs : List ℕ) × AreCosts program m costs × (co
 
 -- ---- costs without a bound
 
--- the costs after this many rounds, in which the innermost calls cost nothing
+-- the costs of functions after the given number of rounds; calls nested more deeply than that
+-- number cost nothing
 abbrev pub costs_after : Program → Measure → (rounds : ℕ) → List ℕ
 costs_after program m zero = []
 costs_after program m (suc rounds) = next_costs program m (costs_after program m rounds)
 
--- the number of rounds after which the search for costs stops
+-- the number of rounds after which the search for the costs of functions stops
 abbrev pub most_rounds : ℕ
 most_rounds = 16
 
--- the costs still grow after the last round
+-- says that the costs of functions still grow after the last round
 abbrev pub StillGrow : Program → Measure → Type 0
 StillGrow program m = IsClosed program m (costs_after program m most_rounds) → ⊥
 
 -- ---- the result for steps
 
--- a number of steps after which every run is over; or no such number of steps below `too_many` follows from the costs; or the costs still
--- grow
+-- says that the result is a number of steps after which every run has ended, or that the costs give no such number, or that the costs
+-- still grow
 abbrev pub IsStepAnswer : Program → StepBound → Type 0
 IsStepAnswer program (bounds.Steps count) = IsRunCost program measures.Steps count × (count < too_many)
 IsStepAnswer program bounds.TooMany = IsRunCost program measures.Steps too_many

@@ -1,7 +1,7 @@
--- the functions that a program calls, and a bound on the active calls
+-- the functions that a program calls, and a bound on the number of active calls
 pub mod Callees
 pub mod Bound
--- runs that are over, and upper bounds on their costs
+-- states in which a run has ended, and upper bounds on the costs of runs
 pub mod Steps
 pub mod Costs
 pub mod AtOnce

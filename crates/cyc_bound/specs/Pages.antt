@@ -1,9 +1,9 @@
 -- An upper bound on the pages of a program, computed from the costs of its runs. The counted costs are the number and the words of the
--- blocks in regions, and the number of unique blocks of each class.
+-- blocks in regions, and the number of unique blocks of each size class.
 --
 -- If only objects made by `new` can outlast every lexical region, the end of an outermost region frees everything that was opened and
--- allocated in it. If other objects may outlast every lexical region, nothing is subtracted when regions close. Freeing a unique block by
--- `ufree` subtracts nothing from the bound. The bound on pages is this project's own choice.
+-- allocated in the region. If other objects may outlast every lexical region, no cost is subtracted when regions close. Freeing a unique
+-- block by `ufree` subtracts no cost from the bound. The bound on pages is this project's own choice.
 use Rattle.std.specs.Prelude.{◌≡◌, ◌<◌, ◌≤◌, ◌⊎◌, ℕ, zero, suc, ◌+◌, ◌*◌, ◌/◌, Bool, true, false, min}
 use Rattle.cyc_words.specs.Demand.{page_words, greatest_class, pages_for}
 use Rattle.cyc_types.specs.TypedTrees.{Program}
@@ -16,13 +16,14 @@ use Rattle.cyc_bound.specs.AtOnce.{IsAtOnce}
 
 -- ---- two ways to count
 
--- True if lexical regions free everything allocated by a handle: a run uses no handle of the heap as a value, and no dynamic region. In
--- such a program, each object allocated by a handle is in a lexical region.
+-- Says that lexical regions free everything allocated by a handle: a run uses no handle of the heap as a value, and no dynamic region.
+-- In such a program, each object allocated by a handle is in a lexical region.
 abbrev pub GivesBack : Program → (gives_back : Bool) → Type 0
 GivesBack program true = IsRunCost program measures.Lasting 0
 GivesBack program false = ((cost : ℕ) × IsRunCost program measures.Lasting (suc cost)) ⊎ StillGrow program measures.Lasting
 
--- The measures that determine the pages. If lexical regions free what is allocated by a handle, the heap is counted separately.
+-- Says that a measure is one of those that determine the number of pages. If lexical regions free everything allocated by a
+-- handle, the heap is counted separately.
 abbrev pub IsForPages : (gives_back : Bool) → Measure → Type 0
 IsForPages gives_back (measures.Uniques class) = class ≤ greatest_class
 IsForPages gives_back measures.Openings = Unit {0}
@@ -34,32 +35,34 @@ IsForPages false measures.Blocks = Unit {0}
 IsForPages false measures.Words = Unit {0}
 IsForPages gives_back m = ⊥
 
--- the cost for one measure: that of regions open simultaneously if regions free their content, otherwise that of a run
+-- says that `cost` is the cost for a measure: the cost of regions open at the same time if regions free their
+-- contents, otherwise the cost of a run
 abbrev pub IsCost : Program → (gives_back : Bool) → Measure → ℕ → Type 0
 IsCost program true measures.Openings cost = IsAtOnce program measures.Openings cost
 IsCost program true measures.RegionBlocks cost = IsAtOnce program measures.RegionBlocks cost
 IsCost program true measures.RegionWords cost = IsAtOnce program measures.RegionWords cost
 IsCost program gives_back m cost = IsRunCost program m cost
 
--- the cost for each measure, provided that all are less than the greatest counted value
+-- says that `cost` gives the cost for each measure, and that all these costs are below the greatest
+-- counted value
 abbrev pub AreCounted : Program → (gives_back : Bool) → (cost : Measure → ℕ) → Type 0
 AreCounted program gives_back cost =
     GivesBack program gives_back × ((m : Measure) → IsForPages gives_back m → IsCost program gives_back m (cost m) × (cost m < too_many))
 
 -- ---- pages
 
--- The number of pages after the first ones of regions, given the total blocks and words. Each further page begins with a block, and two
--- consecutive pages of a region contain more words than one page.
+-- The number of pages of regions besides the first page of each, from the total numbers of blocks and words. Each further page begins
+-- with a block, and two consecutive pages of a region contain more words than one page.
 abbrev pub further_pages : (blocks words : ℕ) → ℕ
 further_pages blocks words = min blocks (2 * words / suc page_words)
 
--- the pages of the first classes of unique blocks
+-- the number of pages for the unique blocks of the first size classes
 abbrev pub unique_pages : (cost : Measure → ℕ) → (classes : ℕ) → ℕ
 unique_pages cost zero = 0
 unique_pages cost (suc class) = unique_pages cost class + pages_for class (cost (measures.Uniques class))
 
--- The pages of all regions: one for each, and the further ones. If lexical regions free their content, the pages of the heap and those of
--- the regions open simultaneously are added.
+-- The number of pages of all regions: one first page for each region, and the further pages. If lexical regions free their contents, the
+-- pages of the heap and those of the regions open at the same time are added.
 abbrev pub most_region_pages : (gives_back : Bool) → (cost : Measure → ℕ) → ℕ
 most_region_pages true cost =
     1 + further_pages (cost measures.HeapBlocks) (cost measures.HeapWords)
@@ -71,8 +74,8 @@ most_pages gives_back cost = most_region_pages gives_back cost + unique_pages co
 
 -- ---- the result for pages
 
--- The result for pages: a number that no run exceeds. The result has no number if one of the counts has no bound below `too_many` by the
--- costs. The result also has no number if one of the counts still grows.
+-- Says that the result for pages is a number that no run exceeds, or no number. The result has no number if the costs give one of the
+-- counts no bound below `too_many`. The result also has no number if one of the counts still grows.
 abbrev pub IsPageAnswer : Program → PageBound → Type 0
 IsPageAnswer program (bounds.Pages count) = (gives_back : Bool) × (cost : Measure → ℕ) × AreCounted program gives_back cost × (count ≡ most_pages gives_back cost)
 IsPageAnswer program bounds.TooMany = (gives_back : Bool) × GivesBack program gives_back × (m : Measure) × IsForPages gives_back m × IsCost program gives_back m too_many

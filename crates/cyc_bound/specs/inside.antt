@@ -1,17 +1,17 @@
--- an invariant on the active calls of a state
+-- an invariant about the active calls of a state
 pub mod UnderWay
--- parts of lists, and the contract of the walk over calls
+-- the callees of parts of lists, and the contract of the search over calls
 pub mod Parts
 pub mod Walk
--- the remaining cost of each state of a run
+-- the remaining cost of a run in each of its states
 pub mod Remaining
 -- the costs of parts of lists
 pub mod ItemCosts
--- an invariant for programs whose lexical regions free their content
+-- an invariant of programs whose lexical regions free their contents
 pub mod Outermost
--- the rounds in which the costs of functions are found
+-- the rounds that compute the costs of functions
 pub mod Rounds
 -- the functions reachable from `main`
 pub mod Reached
--- regions that are open simultaneously
+-- the costs of regions that are open at the same time
 pub mod RegionCosts

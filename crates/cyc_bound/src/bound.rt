@@ -1,6 +1,8 @@
-//! The bound on calls: a walk from `main` over the reachable functions, each visited once.
+//! Computes the bound on calls by a search from `main` over the reachable functions; each function
+//! is visited once.
 //!
-//! The walk recurses for each call on the way to a function, so its depth is at most the greatest reported bound.
+//! The search recurses for each call on the path to a function, so its depth is at most the greatest reported
+//! bound.
 ghost use Rattle.std.specs.Prelude.{◌≡◌, ◌+◌, ◌<◌, ◌≤◌, get_or, set, length, vec_len, slice_get, IfOk, IfSome};
 ghost use Rattle.cyc_types.specs.TypedTreeView.{view_program};
 ghost use Rattle.cyc_bound.specs.Bound.{Row, LeadTo, most_calls, IsAnswer};
@@ -10,21 +12,21 @@ use crate::callees::callees_of;
 use cyc_types::typed::TypedTree;
 use std::alloc::{AllocError, Global};
 
-/// The greatest bound that is reported; limits allow at most one call more.
+/// The greatest bound that is reported; the limit of a run allows at most one call more.
 pub const MOST_CALLS: usize = 4095;
 
 /// The bound on the active calls of a program.
 #[derive(Drop)]
 pub enum CallBound {
-    /// At most this many calls are active, including that of `main`. No smaller number is a bound by the text of the program.
+    /// At most `count` calls are active, including the call of `main`. The program text implies no smaller bound.
     Calls { count: usize },
-    /// No bound exists, because each of these functions calls the next one, and the last one calls the first.
+    /// No bound exists, because each of these functions calls the next, and the last one calls the first.
     Cycle { functions: Vec<usize> },
     /// No bound is given, because a chain of calls has more than `MOST_CALLS` functions.
     Deep,
 }
 
-/// Returns the known height of a function, or 0.
+/// Returns the known height of a function, or 0 if it is not known yet.
 fn known_height(heights: &[usize], function: usize) -> usize
     ensures { result ≡ get_or heights.now function 0 }
 {
@@ -34,7 +36,7 @@ fn known_height(heights: &[usize], function: usize) -> usize
     }
 }
 
-/// Stores the height of a function.
+/// Stores the height of a function in the table.
 fn note_height(heights: &mut Vec<usize>, function: usize, height: usize)
     ensures { heights.new.items ≡ set heights.old.items function height }
 {
@@ -43,7 +45,7 @@ fn note_height(heights: &mut Vec<usize>, function: usize, height: usize)
     }
 }
 
-/// Returns the position of a function on a path.
+/// Returns the position of a function on a path, if the path contains it.
 fn place_on(path: &[usize], function: usize) -> Option<usize>
     ensures { IfSome result (λ place. (place < length path.now) × (get_or path.now place 0 ≡ function)) }
 {
@@ -55,8 +57,8 @@ fn place_on(path: &[usize], function: usize) -> Option<usize>
     None
 }
 
-/// Returns the length of the longest chain of calls from a function; the functions on the path lead to it from `main`. The path is restored
-/// if the walk continues.
+/// Returns the length of the longest chain of calls from a function; `path` is a chain of calls from `main` to the function. The path is
+/// restored if a height was found.
 fn bound_from(
     alloc: Global,
     tree: &TypedTree,
@@ -102,7 +104,8 @@ fn bound_from(
     Ok(CallBound::Calls { count: height })
 }
 
-/// Returns a bound on the active calls in any run of a program, for all inputs. Only functions reachable from `main` count.
+/// Returns a bound on the active calls in any run of a program, for all inputs. Only the functions that are reachable from
+/// `main` count.
 pub fn bound_of_calls(alloc: Global, tree: &TypedTree) -> Result<CallBound, AllocError>
     ensures { IfOk result (λ bound. IsAnswer (view_program tree.now) tree.now.main bound) }
 {

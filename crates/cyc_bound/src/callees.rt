@@ -1,4 +1,5 @@
-//! The functions that a typed tree calls: a walk that adds them to a list, in the order of the text.
+//! Finds the functions that a typed tree calls, by a traversal that adds the callees to a list in
+//! the order of the text.
 ghost use Rattle.std.specs.Prelude.{◌≡◌, ◌++◌, option_map, slice_get, OnOk, IfOk};
 ghost use Rattle.cyc_types.specs.TypedTrees.{NoClauses};
 ghost use Rattle.cyc_types.specs.TypedTreeView.{view_expression, view_dereference, view_placement, view_initial, view_converted, view_side};
@@ -15,7 +16,7 @@ use cyc_types::typed::{
 };
 use std::alloc::{AllocError, Global};
 
-/// Adds the function that a call calls.
+/// Adds the function that a call calls to the list, unless it is a built-in function.
 fn add_callee(callee: Callee, found: &mut Vec<usize>) -> Result<(), AllocError>
     ensures { OnOk result (found.new.items ≡ found.old.items ++ callee_of callee) }
 {
@@ -262,7 +263,7 @@ fn add_default(default: &Option<Body>, found: &mut Vec<usize>) -> Result<(), All
     }
 }
 
-/// Returns the callees of the function of this number, once for each written call.
+/// Returns the callees of a function, with one entry for each call in the text.
 pub(crate) fn callees_of(
     alloc: Global,
     tree: &TypedTree,

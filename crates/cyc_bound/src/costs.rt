@@ -1,4 +1,4 @@
-//! Kinds of costs, saturating sums, and the costs of steps, regions and blocks.
+//! The measures of costs, saturating sums, and the costs of steps, regions and blocks.
 ghost use Rattle.std.specs.Prelude.{◌≡◌, ◌+◌, ◌*◌, ◌^◌, ◌≤◌, min, max, get_or};
 ghost use Rattle.cyc_words.specs.Demand.{class_of};
 ghost use Rattle.cyc_meaning.specs.Values.{bytes_of_kind, following};
@@ -7,41 +7,43 @@ ghost use Rattle.cyc_bound.specs.Costs.{plain_cost, fields_made_cost, elements_c
 
 use cyc_types::typed::Kind;
 
-/// The kind of cost that is counted.
+/// The kind of cost that is counted: steps, regions or blocks of one kind.
 #[derive(Clone, Copy)]
 pub enum Measure {
-    /// The steps of a run.
+    /// Counts the steps of a run.
     Steps,
-    /// The regions that a program opens.
+    /// Counts the regions that a program opens.
     Openings,
-    /// The blocks allocated in regions, including the heap.
+    /// Counts the blocks allocated in regions, including the heap.
     Blocks,
-    /// The words of the blocks counted by the measure above.
+    /// Counts the words of the blocks allocated in regions, including the heap.
     Words,
-    /// The blocks that `new` allocates on the heap, and their words.
+    /// Two measures count the blocks that `new` allocates on the heap, and the words of these
+    /// blocks.
     HeapBlocks,
     HeapWords,
-    /// The blocks allocated by handles, and their words.
+    /// Two measures count the blocks allocated by handles, and the words of these blocks.
     RegionBlocks,
     RegionWords,
-    /// The unique blocks of this class.
+    /// Counts the unique blocks of this size class.
     Uniques { class: u32 },
-    /// Things that may outlast every lexical region: handles of the heap used as values, and dynamic regions.
+    /// Counts the things that may outlast every lexical region: handles of the heap used as values, and
+    /// dynamic regions.
     Lasting,
 }
 
-/// The site of an allocation.
+/// The site of an allocation: the heap, the region of a handle, or no region.
 #[derive(Clone, Copy)]
 pub enum Site {
     /// On the heap.
     Heap,
-    /// In the region of a handle.
+    /// The object is allocated in the region of a handle.
     Region,
-    /// In no region, because the object is unique.
+    /// The object is allocated in no region, because it is unique.
     Unique,
 }
 
-/// The greatest counted value; all greater costs count as this value.
+/// The greatest counted value of a cost; all greater costs count as this value.
 pub const TOO_MANY: u64 = 1 << 50;
 
 // ---- saturating sums
@@ -66,7 +68,7 @@ pub(crate) fn greater(first: u64, second: u64) -> u64
 
 // ---- steps and regions
 
-/// Returns the cost of a step.
+/// Returns the cost of one step of a run.
 pub(crate) fn step_cost(measure: Measure) -> u64
     ensures { result ≡ step_cost measure }
 {
@@ -96,21 +98,21 @@ pub(crate) fn lasting_cost(measure: Measure) -> u64
     }
 }
 
-/// Returns a cost plus this many steps.
+/// Returns a cost plus the cost of `count` steps.
 pub(crate) fn with_steps(measure: Measure, count: u64, cost: u64) -> u64
     ensures { result ≡ min too_many (count * step_cost measure + cost) }
 {
     plus(times(count, step_cost(measure)), cost)
 }
 
-/// Returns the cost of any number of iterations, each of this cost.
+/// Returns the cost of any number of iterations of a loop, from the cost of one iteration.
 pub(crate) fn loop_cost(turn: u64) -> u64
     ensures { result ≡ loop_cost turn }
 {
     if turn == 0 { 0 } else { TOO_MANY }
 }
 
-/// Returns the cost of the function of this number, or 0.
+/// Returns the known cost of a function, or 0 if the function does not exist.
 pub(crate) fn known_cost(costs: &[u64], function: usize) -> u64
     ensures { result ≡ get_or costs.now function 0 }
 {
@@ -120,7 +122,8 @@ pub(crate) fn known_cost(costs: &[u64], function: usize) -> u64
     }
 }
 
-/// Returns the cost of the items of a clause, with the local that receives the exception's int.
+/// Returns the cost of the items of a catch clause, with the local that receives the exception's
+/// int.
 pub(crate) fn caught_cost(measure: Measure, number: Option<usize>, items: u64) -> u64
     ensures { result ≡ min too_many (caught_cost measure number items) }
 {
@@ -132,7 +135,7 @@ pub(crate) fn caught_cost(measure: Measure, number: Option<usize>, items: u64) -
 
 // ---- blocks
 
-/// Returns the number of words of the blocks of a class.
+/// Returns the number of words of the blocks of a size class.
 fn size_of(class: u32) -> u128
     requires { class ≤ 10 }
     ensures { result ≡ 2 ^ class }
@@ -140,7 +143,8 @@ fn size_of(class: u32) -> u128
     1 << class
 }
 
-/// Returns the class of a block: the exponent of the least power of two that holds it.
+/// Returns the size class of a block: the exponent of the least power of two that is at least the
+/// block's size in words.
 fn class_of(size: u128) -> u32
     ensures { result ≡ class_of size }
 {
@@ -152,7 +156,7 @@ fn class_of(size: u128) -> u32
     10
 }
 
-/// Returns the cost of a block of this many words.
+/// Returns the cost of a block of `size` words.
 pub(crate) fn block_cost(measure: Measure, site: Site, size: u128) -> u64
     ensures { result ≡ min too_many (block_cost measure site size) }
 {
@@ -168,7 +172,7 @@ pub(crate) fn block_cost(measure: Measure, site: Site, size: u128) -> u64
     }
 }
 
-/// Returns the cost of a block for an array of unknown length.
+/// Returns the cost of the block of an array with unknown length.
 pub(crate) fn array_block_cost(measure: Measure, site: Site) -> u64
     ensures { result ≡ array_block_cost measure site }
 {
@@ -194,7 +198,7 @@ fn bytes_of_kind(kind: Kind) -> u128
     }
 }
 
-/// Returns the offset of the end of a cell of this kind after this many bytes.
+/// Returns the offset just after a field of the given kind that follows `bytes` bytes.
 pub(crate) fn bytes_after(kind: Kind, bytes: u128) -> u128
     requires { bytes ≤ 2 ^ 100 }
     ensures { result ≡ following kind bytes }
@@ -206,7 +210,7 @@ pub(crate) fn bytes_after(kind: Kind, bytes: u128) -> u128
     }
 }
 
-/// Returns the number of words of an object with this many bytes.
+/// Returns the number of words of an object with the given number of bytes.
 fn size_of_bytes(bytes: u128) -> u128
     requires { bytes ≤ 2 ^ 101 }
     ensures { result ≡ size_of_bytes bytes }
@@ -215,7 +219,7 @@ fn size_of_bytes(bytes: u128) -> u128
     if words == 0 { 1 } else { words }
 }
 
-/// Returns the largest number of elements of a kind in an array.
+/// Returns the largest number of elements of the given kind in an array.
 fn most_elements(kind: Kind) -> u64
     ensures { result ≡ most_elements kind }
 {
@@ -226,7 +230,7 @@ fn most_elements(kind: Kind) -> u64
     }
 }
 
-/// Returns the cost of a new cell with its first write.
+/// Returns the cost of a new memory cell, including its first write.
 pub(crate) fn plain_cost(measure: Measure, site: Site, kind: Kind) -> u64
     ensures { result ≡ min too_many (plain_cost measure site kind) }
 {
@@ -234,7 +238,7 @@ pub(crate) fn plain_cost(measure: Measure, site: Site, kind: Kind) -> u64
     with_steps(measure, 3, block_cost(measure, site, size))
 }
 
-/// Returns the cost of an object with this many fields and bytes.
+/// Returns the cost of an object with the given numbers of fields and bytes.
 pub(crate) fn fields_made_cost(measure: Measure, site: Site, count: usize, bytes: u128) -> u64
     requires { bytes ≤ 2 ^ 101 }
     ensures { result ≡ min too_many (fields_made_cost measure site count bytes) }
@@ -243,7 +247,7 @@ pub(crate) fn fields_made_cost(measure: Measure, site: Site, count: usize, bytes
     with_steps(measure, count as u64, made)
 }
 
-/// Returns the cost of this many array elements, each of this cost.
+/// Returns the cost of `count` array elements, each of which costs `element`.
 fn elements_cost(measure: Measure, element: u64, count: u64) -> u64
     ensures { result ≡ min too_many (elements_cost measure element count) }
 {
@@ -251,7 +255,7 @@ fn elements_cost(measure: Measure, element: u64, count: u64) -> u64
     with_steps(measure, 3, turns)
 }
 
-/// Returns the cost of an array, whose length may be written as a number.
+/// Returns the cost of an array; the program may write the array's length as a number.
 pub(crate) fn array_cost(
     measure: Measure,
     site: Site,

@@ -1,7 +1,8 @@
-//! The costs of a program's functions: the least that suffice for their bodies, found in rounds.
+//! Computes the costs of a program's functions: the least costs that suffice for the function
+//! bodies, found in rounds.
 //!
-//! A round visits functions after their callees, so one round suffices if there is no cycle of calls. If there is one and something is
-//! counted on it, each round raises the costs; the search ends after a few rounds.
+//! A round visits functions after their callees, so one round suffices if the program has no cycle of calls. If something is counted
+//! on a cycle of calls, each round raises the costs; the search ends after a few rounds.
 ghost use Rattle.std.specs.Prelude.{◌≡◌, true, false, max, get_or, set, vec_len, IfOk};
 ghost use Rattle.cyc_types.specs.TypedTreeView.{view_program};
 ghost use Rattle.cyc_bound.specs.Costs.{next_costs, IsClosed};
@@ -13,13 +14,13 @@ use crate::tree_costs::function_cost;
 use cyc_types::typed::TypedTree;
 use std::alloc::{AllocError, Global};
 
-/// The largest number of rounds.
+/// The maximum number of rounds in the search for costs.
 const MOST_ROUNDS: usize = 16;
 
-/// The largest depth of the walk.
+/// The maximum depth of the search over calls.
 const MOST_DEEP: usize = 4095;
 
-/// Appends a function after its callees, unless the walk has already visited it.
+/// Appends a function after its callees, unless the search has already visited the function.
 fn add_in_order(
     alloc: Global,
     tree: &TypedTree,
@@ -42,7 +43,8 @@ fn add_in_order(
 
 /// Returns the functions of a program, most of them after their callees.
 ///
-/// The order determines how fast the costs settle, but not their values, so it has no contract.
+/// The order of the functions determines how fast the costs settle, but not their values, so
+/// `order_of` has no contract.
 pub(crate) fn order_of(alloc: Global, tree: &TypedTree) -> Result<Vec<usize>, AllocError> {
     let mut was_there = Vec::new(alloc);
     was_there.resize(tree.functions.len(), false)?;
@@ -53,7 +55,7 @@ pub(crate) fn order_of(alloc: Global, tree: &TypedTree) -> Result<Vec<usize>, Al
     Ok(order)
 }
 
-/// Returns the cost of the body of the function of this number, or 0.
+/// Returns the cost of a function's body, or 0 if the function does not exist.
 fn next_cost(tree: &TypedTree, measure: Measure, costs: &[u64], function: usize) -> u64
     ensures { result ≡ get_or (next_costs (view_program tree.now) measure costs.now) function 0 }
 {
@@ -63,7 +65,7 @@ fn next_cost(tree: &TypedTree, measure: Measure, costs: &[u64], function: usize)
     }
 }
 
-/// Raises the cost of a function until it suffices for its body.
+/// Raises the cost of a function to the cost of its body, if that is greater.
 fn raise(tree: &TypedTree, measure: Measure, costs: &mut Vec<u64>, function: usize)
     ensures { costs.new.items ≡ raised (view_program tree.now) measure costs.old.items function }
 {
@@ -73,7 +75,8 @@ fn raise(tree: &TypedTree, measure: Measure, costs: &mut Vec<u64>, function: usi
     }
 }
 
-/// Raises the costs of all functions once, by the costs before: first in this order, and then by number.
+/// Raises the cost of each function once: first in the given order, and then in the order of the
+/// functions' numbers.
 fn raise_all(tree: &TypedTree, measure: Measure, order: &[usize], costs: &mut Vec<u64>)
     requires { vec_len costs.old ≡ vec_len tree.now.functions }
     ensures { AreRaised (view_program tree.now) measure costs.old.items costs.new.items }
@@ -86,7 +89,7 @@ fn raise_all(tree: &TypedTree, measure: Measure, order: &[usize], costs: &mut Ve
     }
 }
 
-/// Returns true if the cost of each function suffices for its body.
+/// Returns true if the cost of each function is at least the cost of its body.
 fn is_closed(tree: &TypedTree, measure: Measure, costs: &[u64]) -> bool
     ensures yes { result ≡ true → IsClosed (view_program tree.now) measure costs.now }
     ensures no { result ≡ false → IsClosed (view_program tree.now) measure costs.now → ⊥ }
@@ -119,7 +122,8 @@ pub(crate) fn costs_of(
     Ok(None)
 }
 
-/// Sets the cost of each function to the greatest counted value if it does not suffice for the body.
+/// Sets the cost of each function whose cost is below that of its body to the greatest counted
+/// value.
 fn give_up_all(tree: &TypedTree, measure: Measure, costs: &mut Vec<u64>) {
     for function in 0..tree.functions.len() {
         let next = next_cost(tree, measure, costs, function);
@@ -129,8 +133,8 @@ fn give_up_all(tree: &TypedTree, measure: Measure, costs: &mut Vec<u64>) {
     }
 }
 
-/// Returns sufficient costs for the functions of a program. The costs are the least ones, or the greatest counted value for functions whose
-/// costs still grow after the last round, and for their callers.
+/// Returns sufficient costs for the functions of a program. The costs are the least sufficient ones. If the costs of functions still grow
+/// after the last round, these functions and their callers get the greatest counted value.
 pub(crate) fn enough_costs(
     alloc: Global,
     tree: &TypedTree,

@@ -1,4 +1,5 @@
-//! Laws of the bounds. Each function of this file does nothing, and its contract states one law, which is proved with the crate.
+//! Laws of the bounds. Each function in this file has an empty body, and its contract states one law, which is proved with the
+//! crate.
 
 ghost use Rattle.std.specs.Prelude.{◌≡◌, ℕ, ◌<◌, ◌≤◌, Bool, List, nat_le};
 ghost use Rattle.cyc_types.specs.TypedTrees.{Program};
@@ -11,8 +12,8 @@ ghost use Rattle.cyc_bound.specs.Costs.{too_many, IsRunCost};
 ghost use Rattle.cyc_bound.specs.Pages.{most_pages, AreCounted};
 ghost use Rattle.cyc_bound.specs.Steps.{IsOver};
 
-/// In no state of any run are more calls active than the longest chain of calls from `main` has functions. A limit of as many calls as the
-/// longest chain of calls from `main` is never exceeded, and no run under it is full because of calls.
+/// In no state of any run are more calls active than the longest chain of calls from `main` has functions. If the call limit is at least
+/// the length of the longest chain of calls from `main`, it is never exceeded. No run under such a limit ends as full because of calls.
 pub fn calls_stay_within()
     ensures depth { (program : Program) (bound : ℕ) (input : List ℕ) (count : ℕ) → IsAtMost program program.main bound
         → depth (run program input count) ≤ bound }
@@ -23,20 +24,20 @@ pub fn calls_stay_within()
         → limited_run program pages calls input count ≡ limited_run program pages more input count }
 {}
 
-/// If there is a cycle of calls that is reachable from `main`, no number is a bound.
+/// If a cycle of calls is reachable from `main`, no number is a bound on the active calls.
 pub fn cycles_have_no_bound()
     ensures { (program : Program) (functions : List ℕ) (bound : ℕ) → IsCycle program functions → IsAtMost program program.main bound → ⊥ }
 {}
 
-/// Each run is over after as many steps as a run costs, if that is less than the greatest counted value. A run that is over stays as it is,
-/// so no run takes more steps.
+/// Each run has ended after as many steps as its cost states, if that cost is less than the greatest counted value. A run that has ended
+/// does not change, so no run takes more steps.
 pub fn steps_end()
     ensures { (program : Program) (cost : ℕ) (input : List ℕ) (count : ℕ) → IsRunCost program measures.Steps cost → cost < too_many → cost ≤ count
         → IsOver (run program input count) }
 {}
 
-/// No state of any run demands more pages than its costs state. A limit of as many pages as the costs state is never exceeded, and no run
-/// under it is full because of pages.
+/// No state of any run requests more pages than the program's costs state. If the page limit is at least the number that the costs state,
+/// it is never exceeded. No run under such a limit ends as full because of pages.
 pub fn pages_stay_within()
     ensures demand { (program : Program) (gives_back : Bool) (cost : Measure → ℕ) (input : List ℕ) (count : ℕ) → AreCounted program gives_back cost
         → demand (run program input count) ≤ most_pages gives_back cost }

@@ -1,6 +1,6 @@
-//! Finds the loop that prevents a bound, for the diagnostic: a loop whose iterations cost something. Lexical regions may free what is
-//! allocated in them. If lexical regions free their contents, the loop is one inside a region, or one that allocates on the heap or a
-//! unique object. The search for the loop is unverified.
+//! Finds a loop that prevents a bound, for the diagnostic: a loop whose iterations cost something. If lexical regions free their
+//! contents, the loop is one inside a region, or one that allocates on the heap or allocates a unique object. The search for the loop
+//! is not verified.
 use crate::at_once::opens;
 use crate::callees::add_items;
 use crate::costs::{Measure, TOO_MANY, known_cost};
@@ -12,7 +12,7 @@ use cyc_types::typed::{Body, Clause, Item, Stmt, TypedTree};
 use cyc_words::Span;
 use std::alloc::{AllocError, Global};
 
-/// The number of classes of unique blocks.
+/// The number of size classes of unique blocks.
 const CLASSES: u32 = 11;
 
 // ---- loops
@@ -75,7 +75,7 @@ fn default_loop(measure: Measure, costs: &[u64], default: &Option<Body>) -> Opti
     }
 }
 
-/// Returns the first function that the items call whose cost reaches the greatest counted value.
+/// Returns the first function called by the items whose cost reaches the greatest counted value.
 fn costly_callee(
     alloc: Global,
     costs: &[u64],
@@ -91,7 +91,7 @@ fn costly_callee(
     Ok(None)
 }
 
-/// Returns the first loop that costs something: one of this function, or else one of its callees, and so on.
+/// Returns the first loop that costs something in a function, or else in one of its callees, and so on.
 fn loop_from(
     alloc: Global,
     tree: &TypedTree,
@@ -115,7 +115,7 @@ fn loop_from(
     Ok(None)
 }
 
-/// Returns the first loop that costs something by this measure, starting at `main`.
+/// Returns the first loop that costs something by the given measure, searching from `main`.
 fn first_loop(
     alloc: Global,
     tree: &TypedTree,
@@ -131,7 +131,7 @@ fn first_loop(
 // ---- loops inside regions
 
 /// Returns the first loop inside an outermost region whose cost reaches the greatest counted value. The loop is in the statement, or in a
-/// function that it calls, and so on.
+/// function that the statement calls, directly or indirectly.
 #[cycle(inside)]
 fn statement_inside(
     alloc: Global,
@@ -166,7 +166,8 @@ fn statement_inside(
     }
 }
 
-/// Returns the first loop of these items that costs something; a region is open to the end of its block.
+/// Returns the first loop that costs something among the items of a block; a region is open to the end
+/// of its block.
 fn loop_to_end(
     alloc: Global,
     tree: &TypedTree,
@@ -251,7 +252,8 @@ fn default_inside(
     }
 }
 
-/// Returns the first loop inside a region that costs something by this measure, in the functions reachable from `main`.
+/// Returns the first loop inside a region that costs something by the given measure, in the functions reachable from
+/// `main`.
 fn first_loop_inside(
     alloc: Global,
     tree: &TypedTree,
@@ -275,13 +277,14 @@ fn first_loop_inside(
 
 // ---- the reported loops
 
-/// Returns the place of a loop that prevents a bound on steps, if there is one.
+/// Returns the source position of a loop that prevents a bound on steps, if there is one.
 pub fn loop_of_steps(alloc: Global, tree: &TypedTree) -> Result<Option<Span>, AllocError> {
     let order = order_of(alloc, tree)?;
     first_loop(alloc, tree, &order, Measure::Steps)
 }
 
-/// Returns the place of a loop that prevents a bound on the pages of regions, if there is one.
+/// Returns the source position of a loop that prevents a bound on the pages of regions, if there is
+/// one.
 fn loop_of_regions(
     alloc: Global,
     tree: &TypedTree,
@@ -299,8 +302,8 @@ fn loop_of_regions(
     Ok(opening.or(first_loop(alloc, tree, order, Measure::Blocks)?))
 }
 
-/// Returns the place of a loop that prevents a bound on pages, if there is one. Each iteration opens or allocates something that is not
-/// freed at its end.
+/// Returns the source position of a loop that prevents a bound on pages, if there is one. Each iteration of such a loop opens or
+/// allocates something that is not freed at the iteration's end.
 pub fn loop_of_pages(alloc: Global, tree: &TypedTree) -> Result<Option<Span>, AllocError> {
     let order = order_of(alloc, tree)?;
     if let Some(span) = loop_of_regions(alloc, tree, &order)? {

@@ -1,5 +1,6 @@
-//! The bound on pages, from the costs of runs. The counted costs are the number and words of the blocks in regions, and the number of
-//! unique blocks of each class. If lexical regions free what is allocated in them, only regions open simultaneously count.
+//! Computes the bound on pages from the costs of runs. The counted costs are the number and words of the blocks in regions, and the
+//! number of unique blocks of each size class. If lexical regions free everything allocated in them, only regions open at the same
+//! time count.
 ghost use Rattle.std.specs.Prelude.{◌≡◌, ◌<◌, ◌≤◌, true, false, IfOk};
 ghost use Rattle.cyc_words.specs.Demand.{blocks_in_page, pages_for};
 ghost use Rattle.cyc_types.specs.TypedTreeView.{view_program};
@@ -15,24 +16,25 @@ use crate::steps::run_cost;
 use cyc_types::typed::TypedTree;
 use std::alloc::{AllocError, Global};
 
-/// The number of words in a page of the store.
+/// The number of words in a page of the heap.
 const PAGE_WORDS: u64 = 1024;
 
-/// The bound on the pages of the store that a run of a program demands.
+/// The bound on the heap pages that a run of a program requests.
 #[derive(Drop)]
 pub enum PageBound {
-    /// A run needs at most this many pages.
+    /// A run requests at most `count` pages.
     Pages { count: u64 },
-    /// The opened regions or allocated blocks have no bound below `TOO_MANY` by the costs.
+    /// The costs give the opened regions or the allocated blocks no bound below `TOO_MANY`.
     TooMany,
     /// The costs of functions still grow after the last round, for instance because a cycle of calls allocates each time.
     Cycle,
 }
 
-/// The number of classes of unique blocks.
+/// The number of size classes of unique blocks.
 const CLASSES: u32 = 11;
 
-/// Returns the number of pages after the first ones of regions, given the total blocks and words.
+/// Returns the number of pages of regions besides the first page of each, from the total numbers of
+/// blocks and words.
 fn further_pages(blocks: u64, words: u64) -> u64
     requires { words < too_many }
     ensures { result ≡ further_pages blocks words }
@@ -41,7 +43,7 @@ fn further_pages(blocks: u64, words: u64) -> u64
     if blocks < by_words { blocks } else { by_words }
 }
 
-/// Returns the number of blocks of a class that fit into one page.
+/// Returns the number of blocks of a size class that fit into one page.
 fn blocks_in_page(class: u32) -> u64
     requires { class ≤ 10 }
     ensures is { result ≡ blocks_in_page class }
@@ -50,7 +52,7 @@ fn blocks_in_page(class: u32) -> u64
     PAGE_WORDS >> class
 }
 
-/// Returns the number of pages for this many unique blocks of a class.
+/// Returns the number of pages for the given number of unique blocks of a size class.
 fn pages_for(class: u32, blocks: u64) -> u64
     requires class { class ≤ 10 }
     requires blocks { blocks < too_many }
@@ -60,7 +62,7 @@ fn pages_for(class: u32, blocks: u64) -> u64
     (blocks + (in_page - 1)) / in_page
 }
 
-/// Returns the pages for all unique blocks, or the reason why there is no bound.
+/// Returns the number of pages for all unique blocks, or the reason why there is no bound.
 fn unique_pages(alloc: Global, tree: &TypedTree, order: &[usize]) -> Result<PageBound, AllocError>
     ensures { IfOk result (λ bound. IsUniqueAnswer (view_program tree.now) bound) }
 {
@@ -77,7 +79,8 @@ fn unique_pages(alloc: Global, tree: &TypedTree, order: &[usize]) -> Result<Page
     Ok(PageBound::Pages { count: pages })
 }
 
-/// Returns true if lexical regions free what is opened and allocated in them: then only objects made by `new` can outlast them.
+/// Returns true if lexical regions free everything that is opened and allocated in them, so that only objects made by `new` can
+/// outlast the regions.
 pub(crate) fn gives_back(
     alloc: Global,
     tree: &TypedTree,
@@ -91,7 +94,8 @@ pub(crate) fn gives_back(
     }
 }
 
-/// Returns the pages of regions if nothing is freed, or the reason why there is no bound.
+/// Returns the number of pages of regions if no region is freed, or the reason why there is no
+/// bound.
 fn pages_of_all(alloc: Global, tree: &TypedTree, order: &[usize]) -> Result<PageBound, AllocError>
     ensures { IfOk result (λ bound. IsRegionAnswer (view_program tree.now) false bound) }
 {
@@ -111,7 +115,8 @@ fn pages_of_all(alloc: Global, tree: &TypedTree, order: &[usize]) -> Result<Page
     Ok(PageBound::Pages { count })
 }
 
-/// Returns the pages of the heap and of the lexical regions open simultaneously, or the reason why no bound exists.
+/// Returns the number of pages of the heap and of the lexical regions open at the same time, or the reason why no
+/// bound exists.
 fn pages_at_once(alloc: Global, tree: &TypedTree, order: &[usize]) -> Result<PageBound, AllocError>
     ensures { IfOk result (λ bound. IsRegionAnswer (view_program tree.now) true bound) }
 {
@@ -143,7 +148,8 @@ fn pages_at_once(alloc: Global, tree: &TypedTree, order: &[usize]) -> Result<Pag
     Ok(PageBound::Pages { count })
 }
 
-/// Returns the pages of all regions, including the heap, or the reason why there is no bound.
+/// Returns the number of pages of all regions, including the heap, or the reason why there is no
+/// bound.
 fn region_pages(
     alloc: Global,
     tree: &TypedTree,
@@ -159,10 +165,10 @@ fn region_pages(
     }
 }
 
-/// Returns a bound on the pages that any run of a program demands, for all inputs.
+/// Returns a bound on the heap pages that any run of a program requests, for all inputs.
 ///
-/// Loops and cycles of calls in which nothing is opened or allocated do not matter. If lexical regions free their content, loops that open
-/// and close a region do not matter either. Any growth may fail for lack of memory.
+/// A loop or cycle of calls in which nothing is opened or allocated does not prevent a bound. If lexical regions free their contents, a
+/// loop that opens and closes a region does not prevent a bound either. If memory runs out, `pages_of` returns an error.
 pub fn pages_of(alloc: Global, tree: &TypedTree) -> Result<PageBound, AllocError>
     ensures { IfOk result (λ bound. IsPageAnswer (view_program tree.now) bound) }
 {

@@ -1,4 +1,4 @@
-//! The functions reachable from `main` by calls, `main` first.
+//! Finds the functions reachable from `main` by calls; `main` is the first.
 ghost use Rattle.std.specs.Prelude.{◌≡◌, true, false, get_or, set, IfOk, OnOk};
 ghost use Rattle.cyc_types.specs.TypedTreeView.{view_program};
 ghost use Rattle.cyc_bound.specs.inside.Reached.{AreMarked, IsNoted, AreReached};
@@ -7,7 +7,7 @@ use crate::callees::callees_of;
 use cyc_types::typed::TypedTree;
 use std::alloc::{AllocError, Global};
 
-/// Returns true if a function is marked.
+/// Returns true if a function is marked as found.
 fn is_marked(marks: &[bool], function: usize) -> bool
     ensures { result ≡ get_or marks.now function false }
 {
@@ -26,7 +26,7 @@ fn mark(marks: &mut Vec<bool>, function: usize)
     }
 }
 
-/// Adds a function to those found, unless it is already marked.
+/// Adds a function to the list of those found, unless it is already marked.
 fn note(function: usize, marks: &mut Vec<bool>, found: &mut Vec<usize>) -> Result<(), AllocError>
     requires { AreMarked marks.old.items found.old.items }
     ensures { OnOk result (IsNoted found.old.items function marks.new.items found.new.items) }

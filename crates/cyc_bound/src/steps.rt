@@ -1,4 +1,4 @@
-//! The bound on steps: the number of steps that a run costs.
+//! Computes the bound on steps: the number of steps that a run costs.
 ghost use Rattle.std.specs.Prelude.{IfOk};
 ghost use Rattle.cyc_types.specs.TypedTreeView.{view_program};
 ghost use Rattle.cyc_bound.specs.Costs.{IsStepAnswer};
@@ -12,15 +12,17 @@ use std::alloc::{AllocError, Global};
 /// The bound on the steps of a run of a program.
 #[derive(Drop)]
 pub enum StepBound {
-    /// Each run is over after this many steps.
+    /// Each run has ended after `count` steps.
     Steps { count: u64 },
-    /// No number below `TOO_MANY` is a bound by the costs.
+    /// The costs give no bound below `TOO_MANY`.
     TooMany,
-    /// The costs of functions still grow after the last round, as they do for a cycle of calls, since each call costs steps.
+    /// The costs of functions still grow after the last round. Each cycle of calls makes the costs grow without end, because
+    /// each call costs steps.
     Cycle,
 }
 
-/// Returns the cost of a run, unless it still grows after the last round.
+/// Returns the cost of a run by the given measure, or `None` if the cost still grows after the last
+/// round.
 pub(crate) fn run_cost(
     alloc: Global,
     tree: &TypedTree,
@@ -38,7 +40,8 @@ pub(crate) fn run_cost(
 
 /// Returns a bound on the steps of any run of a program, for all inputs.
 ///
-/// Each loop and each cycle of calls costs something. Any growth may fail for lack of memory.
+/// Each loop and each cycle of calls costs something, and so prevents a bound on steps. If memory
+/// runs out, `steps_of` returns an error.
 pub fn steps_of(alloc: Global, tree: &TypedTree) -> Result<StepBound, AllocError>
     ensures { IfOk result (λ bound. IsStepAnswer (view_program tree.now) bound) }
 {

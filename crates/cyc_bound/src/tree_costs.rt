@@ -1,4 +1,5 @@
-//! The cost of a typed tree: a walk that adds up the costs of its parts, given the costs of functions.
+//! Computes the cost of a typed tree: a traversal adds up the costs of its parts, from the costs of
+//! functions.
 ghost use Rattle.std.specs.Prelude.{◌≡◌, ◌≤◌, min, option_map};
 ghost use Rattle.cyc_types.specs.TypedTreeView.{view_expression, view_dereference, view_placement, view_initial, view_converted, view_side};
 ghost use Rattle.cyc_types.specs.TypedTreeView.{view_statement, view_item, view_function, arguments_of, operations_of, items_of, default_of};
@@ -27,7 +28,7 @@ fn callee_cost(measure: Measure, costs: &[u64], callee: Callee) -> u64
     }
 }
 
-/// Returns the length of an array, if it is written as a number.
+/// Returns the length of an array, if the program writes the length as a number.
 fn written_length(length: &Expr) -> Option<u64>
     ensures { result ≡ written_length (view_expression length.now) }
 {
@@ -102,7 +103,7 @@ fn expression_cost(measure: Measure, costs: &[u64], value: &Expr) -> u64
     }
 }
 
-/// Returns the site of an object with this placement.
+/// Returns the allocation site of an object, from the object's placement.
 fn site_of(placement: &Placement) -> Site
     ensures { result ≡ site_of (view_placement placement.now) }
 {
@@ -332,8 +333,8 @@ pub(crate) fn items_cost(measure: Measure, costs: &[u64], items: &[Item]) -> u64
     with_steps(measure, 1, total)
 }
 
-/// Returns the cost of clauses. Clauses are tried in order; then one clause is executed, or the part after all clauses. The costliest of
-/// these ways counts.
+/// Returns the cost of the clauses of a catch. Clauses are tried in order; then one clause is executed, or the part after all clauses.
+/// The cost is that of the costliest of these executions.
 #[cycle(statements)]
 fn clauses_cost(measure: Measure, costs: &[u64], clauses: &[Clause], last: u64) -> u64
     ensures { result ≡ min too_many (clauses_then measure costs.now clauses.now last) }
@@ -361,7 +362,8 @@ fn default_cost(measure: Measure, costs: &[u64], default: &Option<Body>) -> u64
     }
 }
 
-/// Returns the cost of a call of a function, from the opening of its region on, given the costs of its callees.
+/// Returns the cost of a call of a function, from the opening of the function's region on. The costs of its
+/// callees are given.
 pub(crate) fn function_cost(measure: Measure, costs: &[u64], function: &Function) -> u64
     ensures { result ≡ min too_many (function_cost measure costs.now (view_function function.now)) }
 {

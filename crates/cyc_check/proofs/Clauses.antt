@@ -1,4 +1,4 @@
--- How the code checks the clauses of a catch.
+-- How the code checks the clauses of a `catch`.
 use Rattle.std.proofs.Common.{◌≡◌, ℕ, suc, ◌+◌, List, [], ◌∷◌, ◌++◌, Option, Some, None, Ok, Err, option_map, refl, sym, ap, subst, ◌∙◌, arith}
 use Rattle.std.proofs.lemmas.List.{append_assoc, append-nil}
 use Rattle.cyc_syntax.specs.declared.tree.Clause.{Clause}
@@ -24,12 +24,13 @@ use Rattle.cyc_check.proofs.Inside.{inside_itself, inside_through, inside_local,
 
 -- ---- one clause followed by others
 
--- the clauses after the last one
+-- Returns the first clause followed by the given clauses.
 abbrev put_after : typed.Clauses → typed.Clauses → typed.Clauses
 put_after (typed.Case n v r js cs) ds = typed.Case n v r js ds
 put_after cs ds = ds
 
--- the result for a clause from its parts and the following clauses
+-- Returns the result for a list of clauses from the parts of the first clause and the result for
+-- the following clauses.
 abbrev assembled : Checked ℕ → Checked typed.Items → Option ℕ → ℕ → Checked typed.Clauses → Checked typed.Clauses
 assembled a b v r rest = and_then a (λ n. and_then b (λ js. and_then rest (λ ds. Ok (typed.Case n v r js ds))))
 
@@ -48,7 +49,7 @@ stopped_before_rest (Err g) b v r rest (stops.Refused f) h = h
 
 -- ---- all clauses
 
--- the clauses so far, followed by the result for the remaining clauses
+-- Returns the clauses checked so far, followed by the result for the remaining clauses.
 abbrev pub after_made : List ClauseCode → Checked typed.Clauses → Checked typed.Clauses
 after_made made checked = and_then checked (λ ds. Ok (view.clauses_of made ds))
 
@@ -60,7 +61,8 @@ regrouped_clauses : (made : List ClauseCode) (c : ClauseCode) (checked : Checked
 regrouped_clauses made c (Ok ds) = ap Ok (sym (clauses-append made c ds))
 regrouped_clauses made c (Err f) = refl
 
--- the current scope; a clause leaves only used numbers and names
+-- `CaughtSoFar` relates the clauses checked so far and the current scope to the typing rules. A
+-- clause changes only the used numbers and names of the scope.
 pub record CaughtSoFar (start now : Scope) (before : List ℕ) (made : List ClauseCode) (rest whole : Clauses) : Type 0 where
   pub gives : after_made made (run (rule_clauses now before rest)) ≡ run (rule_clauses start [] whole)
   pub same : now ≡ numbered_as start now
@@ -68,7 +70,7 @@ pub record CaughtSoFar (start now : Scope) (before : List ℕ) (made : List Clau
   pub regions : now.next_region + clause_regions rest ≡ start.next_region + clause_regions whole
   pub taken : clause_names rest ++ now.taken ≡ clause_names whole ++ start.taken
 
--- the scope after one clause
+-- Returns the scope after one clause of a `catch`.
 abbrev pub after_one : Scope → Option Named → Items → Scope
 after_one g v is = after_clause g (counted v) is
 
@@ -110,7 +112,7 @@ made_then_default : (made : List ClauseCode) (d : typed.Clauses) → then_defaul
 made_then_default [] d = refl
 made_then_default (c ∷ cs) d = ap (typed.Case c.tag c.number c.region (view.items_of c.items.items)) (made_then_default cs d)
 
--- the clauses, followed by the items of the default clause, whose region has this number
+-- Returns the clauses followed by the items of the default clause, whose region has the number `q`.
 abbrev defaulted : Checked typed.Clauses → Checked typed.Items → ℕ → Checked typed.Clauses
 defaulted o items q = and_then o (λ ds. and_then items (λ ks. Ok (then_default ds (typed.Default q ks))))
 
@@ -136,11 +138,11 @@ first_after g x v is cs =
     ∙ ap (λ (k : ℕ). record (after_clauses (after_one g v is) cs) { next_local = g.next_local + (counted v + item_locals is + clause_locals cs); next_region = k }) r
     ∙ ap (λ (ns : List ℕ). record (after_clauses g (Case x v is cs)) { taken = ns }) (sym (append_assoc (clause_names cs) (item_names is) g.taken))
 
--- the items of a default clause, as its rule checks them
+-- Returns the items of a default clause, as the typing rule checks them.
 abbrev pub default_items : Scope → List Clause → Items → Checked typed.Items
 default_items g cs is = run (rule_items (in_block (after_clauses g (clauses_of cs NoClauses))) is)
 
--- the parts of a first clause
+-- Returns the number of the exception that a clause catches, or its fault.
 abbrev number_caught : Scope → List ℕ → Clause → Checked ℕ
 number_caught g before c = run (caught g (exception_among g.exceptions c.exception.name.number) before (view_name c.exception) (option_map view_name c.variable))
 
@@ -164,7 +166,7 @@ with_default g before (c ∷ cs) is =
     ∙ assembled_after (number_caught g before c) (items_caught g c) (option_map (λ (y : Named). g.next_local) (option_map view_name c.variable)) g.next_region
     (run (rule_clauses (after_first g c) (c.exception.name.number ∷ before) (clauses_of cs NoClauses))) (default_items g (c ∷ cs) is) (after_clauses g (clauses_of (c ∷ cs) NoClauses)).next_region
 
--- the clauses of a catch whose default clause is checked after its other clauses
+-- The result for a `catch` whose default clause is checked after its other clauses.
 pub default_gives : (g : Scope) (cs : List Clause) (made : List ClauseCode) (is : Items) (d : typed.Clauses) → run (rule_clauses g [] (clauses_of cs NoClauses)) ≡ Ok (view.clauses_of made typed.NoClauses)
     → and_then (default_items g cs is) (λ js. Ok (typed.Default (after_clauses g (clauses_of cs NoClauses)).next_region js)) ≡ Ok d → run (rule_clauses g [] (clauses_of cs (Default is))) ≡ Ok (view.clauses_of made d)
 default_gives g cs made is d h k =

@@ -1,4 +1,4 @@
--- The walk of the code over the declarations of a program, of which only the functions have bodies.
+-- The traversal of the declarations of a program, of which only functions have bodies.
 use Rattle.std.proofs.Common.{◌≡◌, List, [], ◌∷◌, ◌++◌, Option, map, Ok, refl, sym, ap, ◌∙◌}
 use Rattle.cyc_syntax.specs.Symbols.{Place}
 use Rattle.cyc_syntax.specs.Trees.{Named, WrittenType, Member, Items, Braces, Body, Parameters, Declaration, StructType, Exceptions, Global, Function}
@@ -17,7 +17,7 @@ use Rattle.cyc_scope.specs.declared.stop.Stop.TheVariants as stops
 use Rattle.cyc_scope.specs.inside.Code.{Stops}
 use Rattle.cyc_expressions.proofs.Loops.{onto, with_front, regroup}
 
--- the functions so far, followed by the remaining ones
+-- Returns the functions checked so far, followed by the result for the remaining ones.
 abbrev pub with_functions : List FunctionCode → Checked (List typed.Function) → Checked (List typed.Function)
 with_functions front o = with_front view_function (λ f fs. f ∷ fs) front o
 
@@ -34,7 +34,7 @@ passes_declaration front p (Exceptions cs) zs tree whole is u so_far = sym (ap (
 passes_declaration front p (Global w x v) zs tree whole is u so_far = sym (ap (λ us. with_functions front (run (rule_functions p us))) is) ∙ so_far
 passes_declaration front p (Function r x ps b) zs tree whole is u so_far = absurd u
 
--- the function of this declaration
+-- Returns the result of the typing rules for the function that this declaration defines.
 abbrev pub one_function : Program → Option WrittenType → Named → Parameters → Body → Checked typed.Function
 one_function p r x ps b = run (rule_function p (signature_of p.known r ps) x ps b)
 

@@ -1,4 +1,5 @@
--- A scope inside another: its declarations come before the outer ones, so leaving it removes them.
+-- If a scope is inside another one, its declarations come before the outer ones, so leaving it
+-- removes them.
 use Rattle.std.proofs.Common.{◌≡◌, ◌-◌, ◌≤◌, List, [], ◌∷◌, ◌++◌, length, drop, refl, sym, ap, subst, ◌∙◌, arith}
 use Rattle.std.proofs.lemmas.List.{append_assoc}
 use Rattle.cyc_words.proofs.Lists.{drop_to_last}
@@ -63,7 +64,7 @@ inside_after g s = record { locals = []; names = []; opened = []; same = refl }
 
 -- ---- leaving
 
--- the state after a function: the used numbers and the names of regions
+-- Returns the scope `g` with the used numbers and the names of regions of the scope `n`.
 abbrev pub numbered_as : Scope → Scope → Scope
 numbered_as g n = record g { taken = n.taken; next_local = n.next_local; next_region = n.next_region }
 
@@ -74,6 +75,6 @@ left_numbered g n i =
     ∙ ap (λ (ns : List RegionName). record (numbered_as g n) { names = ns; regions = record g.regions { opened = drop (length (i.opened ++ g.regions.opened) - length g.regions.opened) (i.opened ++ g.regions.opened) } }) (drop_to_last i.names g.names)
     ∙ ap (λ (os : List Opened). record (numbered_as g n) { regions = record g.regions { opened = os } }) (drop_to_last i.opened g.regions.opened)
 
--- regions remain in order
+-- Leaving a scope keeps the regions in the order of their numbers.
 pub order_left : (g n : Scope) → IsInOrder g → Inside g n → g.next_region ≤ n.next_region → IsInOrder (left_to (mark_of g) n)
 order_left g n o i le = subst IsInOrder (sym (left_numbered g n i)) (record { locals = o.locals; inside = omega (arith, o.inside, le) })

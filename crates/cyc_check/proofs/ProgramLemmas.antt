@@ -1,4 +1,5 @@
--- The result for a program is that for its declarations, followed by that for its bodies.
+-- The result for a program is the result for its declarations, followed by the result for the
+-- bodies of its functions.
 use Rattle.std.proofs.Common.{◌≡◌, ℕ, List, Ok, ap, ◌∙◌}
 use Rattle.cyc_syntax.specs.Trees.{Declaration}
 use Rattle.cyc_types.specs.TypedTrees as typed

@@ -1,4 +1,5 @@
-//! The facts at the fault of a rejected program, for the explanation of the fault.
+//! Computes the scope and types at the fault of a rejected program, for the explanation of the
+//! fault.
 ghost use Rattle.std.specs.Prelude.{◌≡◌, ◌⊎◌, map, IfSome};
 ghost use Rattle.cyc_words.specs.Fault.{memory_fault};
 ghost use Rattle.cyc_syntax.specs.inside.TreeView.{view_declaration};
@@ -16,9 +17,9 @@ use cyc_types::typed::ValueType;
 use cyc_words::Fault;
 use std::alloc::Global;
 
-/// Returns the fault with which `check` rejects a tree.
+/// Returns the fault with which `check` rejects a syntax tree, or `None` if it accepts the tree.
 pub fn refusal(alloc: Global, tree: &Tree) -> Option<Fault>
-    // Only a rejected program has a fault, unless memory ran out.
+    // `refusal` returns a fault only if the program is rejected or memory ran out.
     ensures { IfSome result (λ f. (f ≡ memory_fault) ⊎ IsRefusedProgram tree.now.names (map view_declaration tree.now.declarations.items) f) }
 {
     match check(alloc, tree) {
@@ -27,7 +28,7 @@ pub fn refusal(alloc: Global, tree: &Tree) -> Option<Fault>
     }
 }
 
-/// Returns the scope at the beginning of a body.
+/// Returns the scope at the beginning of a function's body.
 fn scope_of<'p>(
     alloc: Global,
     program: &'p Program,
@@ -48,12 +49,12 @@ fn scope_of<'p>(
     )
 }
 
-/// Returns the scope at the first fault of the body of a function; a rejected part is not left again. For a body without a fault, returns
-/// the scope at its end.
+/// Returns the scope at the first fault in the body of a function, including the scopes of the blocks around the fault. For a body
+/// without a fault, returns the scope at its end.
 ///
 /// # Errors
 ///
-/// Memory ran out before the body began.
+/// Returns an error if memory ran out before the body began.
 pub fn scope_at_fault<'p>(
     alloc: Global,
     program: &'p Program,
@@ -80,7 +81,8 @@ fn kept(given: Given<'_>) -> Option<ValueType> {
     }
 }
 
-/// Returns the type of an expression, as a used value or as a peek; none if it is rejected.
+/// Returns the type of an expression, as a used value or as a peek, or `None` if the expression is
+/// rejected.
 pub fn value_type(
     scope: &mut Scope<'_>,
     expression: &Expr,
@@ -97,7 +99,8 @@ pub fn value_type(
     }
 }
 
-/// Returns the type of the content of a place; none if it is rejected.
+/// Returns the type of the content of an assignable expression, or `None` if the expression is
+/// rejected.
 pub fn place_type(scope: &mut Scope<'_>, expression: &Expr) -> Option<Ty> {
     match check_place(scope, expression, span_of(expression)) {
         Ok(found) => type_of_side(&found.side).share().ok(),

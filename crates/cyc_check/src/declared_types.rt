@@ -1,4 +1,4 @@
-//! The types of the declarations of a body, collected from its typed tree.
+//! Collects the types of the locals that a body declares, from its typed tree.
 ghost use Rattle.std.specs.Prelude.{◌≡◌, ◌++◌, map, [], ◌∷◌, OnOk};
 ghost use Rattle.cyc_types.specs.TypeView.{view_ty};
 ghost use Rattle.cyc_types.specs.TypedTrees.{NoItems, MoreItems, NoClauses};
@@ -9,7 +9,7 @@ use cyc_types::typed::{Clause, Item, Stmt};
 use cyc_types::{Region, Ty};
 use std::alloc::AllocError;
 
-/// Adds the types of the locals that a statement declares to those so far.
+/// Appends the types of the locals that a statement declares to the list of types.
 #[cycle(declared)]
 fn add_statement_types(statement: &Stmt, types: &mut Vec<Ty>) -> Result<(), AllocError>
     ensures { OnOk result (map view_ty types.new.items ≡ map view_ty types.old.items ++ declared_types (view_statement statement.now)) }
@@ -42,7 +42,7 @@ fn add_statement_types(statement: &Stmt, types: &mut Vec<Ty>) -> Result<(), Allo
     }
 }
 
-/// Adds the types of the locals that the items of a block declare to those so far.
+/// Appends the types of the locals that the items of a block declare to the list of types.
 #[cycle(declared)]
 pub(crate) fn add_item_types(items: &[Item], types: &mut Vec<Ty>) -> Result<(), AllocError>
     ensures { OnOk result (map view_ty types.new.items ≡ map view_ty types.old.items ++ item_types (items_of items.now)) }
@@ -53,7 +53,7 @@ pub(crate) fn add_item_types(items: &[Item], types: &mut Vec<Ty>) -> Result<(), 
     Ok(())
 }
 
-/// Adds the types of the locals that one item declares to those so far.
+/// Appends the types of the locals that one item declares to the list of types.
 #[cycle(declared)]
 fn add_one_item_types(item: &Item, types: &mut Vec<Ty>) -> Result<(), AllocError>
     ensures { OnOk result (map view_ty types.new.items ≡ map view_ty types.old.items ++ item_types (MoreItems (view_item item.now) NoItems)) }
@@ -72,7 +72,7 @@ fn add_one_item_types(item: &Item, types: &mut Vec<Ty>) -> Result<(), AllocError
     }
 }
 
-/// Adds the types of the locals that the clauses of a catch declare to those so far.
+/// Appends the types of the locals that the clauses of a `catch` declare to the list of types.
 #[cycle(declared)]
 fn add_clause_types(clauses: &[Clause], types: &mut Vec<Ty>) -> Result<(), AllocError>
     ensures { OnOk result (map view_ty types.new.items ≡ map view_ty types.old.items ++ clause_types (clauses_of clauses.now NoClauses)) }

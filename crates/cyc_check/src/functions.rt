@@ -1,4 +1,4 @@
-//! The bodies of functions.
+//! Checks the bodies of functions.
 ghost use Rattle.std.specs.Prelude.{◌≡◌, map, option_map, IfOk};
 ghost use Rattle.cyc_syntax.specs.inside.TreeView.{place_of_span, view_name, view_type, view_parameters, view_block, view_declaration};
 ghost use Rattle.cyc_types.specs.inside.SignatureView.{view_signature};
@@ -18,7 +18,8 @@ use cyc_types::{Signature, typed};
 use cyc_words::Span;
 use std::alloc::{AllocError, Global};
 
-/// Returns the function with this signature, these items and this number of regions, whose body ends at this place.
+/// Returns the typed function with this signature, these items and this number of regions, whose body ends at this
+/// source position.
 fn function_with(
     alloc: Global,
     signature: Signature,
@@ -48,7 +49,7 @@ fn function_with(
     })
 }
 
-/// A function, and the tables for the next one.
+/// A checked function, and the tables for checking the next one.
 #[derive(Drop)]
 struct Checked {
     function: typed::Function,
@@ -87,7 +88,7 @@ fn check_function(
     })
 }
 
-/// Returns the functions of a program.
+/// Returns the typed functions of a program, or the first fault in their bodies.
 pub(crate) fn functions_of(
     alloc: Global,
     program: &Program,

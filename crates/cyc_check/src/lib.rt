@@ -1,4 +1,4 @@
-//! The checker: it returns the typed tree of an abstract syntax tree, exactly if the typing rules derive one.
+//! The checker returns the typed tree of an abstract syntax tree, exactly if the typing rules derive one.
 #![tactic(auto)]
 
 pub use at_fault::{place_type, refusal, scope_at_fault, value_type};

@@ -1,5 +1,5 @@
-//! Statements and items that contain only expressions: their expressions are checked, and then the statement's own demands
-//! (`cyc_statements`).
+//! Checks statements and items that contain only expressions: first their expressions, and then the requirements of the
+//! statement itself (`cyc_statements`).
 ghost use Rattle.std.specs.Prelude.{◌≡◌, OnOk, IfOk, option_map};
 ghost use Rattle.cyc_syntax.specs.inside.TreeView.{place_of_span, view_name, view_type, view_expression};
 ghost use Rattle.cyc_syntax.specs.Trees.{Return, Swap, Throw, Evaluate};
@@ -48,7 +48,7 @@ pub(crate) fn check_evaluation(
     evaluation(scope.alloc(), span_of(expression), value)
 }
 
-/// Returns the typed statement of a swap of the contents of two places.
+/// Returns the typed statement of a swap of the contents of two assignable expressions.
 pub(crate) fn check_swap(
     scope: &mut Scope<'_>,
     left: &Expr,
@@ -84,7 +84,7 @@ fn check_returned(
     }
 }
 
-/// Returns the typed `return`, with a value exactly if the function has a result.
+/// Returns the typed `return` statement, which has a value exactly if the function has a result.
 pub(crate) fn check_return(
     scope: &mut Scope<'_>,
     span: Span,
@@ -97,7 +97,7 @@ pub(crate) fn check_return(
     return_of(scope.alloc(), span, value)
 }
 
-/// Checks the int of a thrown exception, if one is written.
+/// Checks the int argument of a thrown exception, if one is written.
 fn check_thrown(
     scope: &mut Scope<'_>,
     value: &Option<Expr>,
@@ -115,7 +115,8 @@ fn check_thrown(
     }
 }
 
-/// Returns the typed `throw` of an exception of the program, with a value exactly if it has an int.
+/// Returns the typed `throw` of an exception that the program declares, with a value exactly if the
+/// exception has an int.
 pub(crate) fn check_throw(
     scope: &mut Scope<'_>,
     span: Span,
@@ -151,7 +152,7 @@ fn check_initial(
     }
 }
 
-/// Returns the typed item of a local, which is in scope after it.
+/// Returns the typed item of a local's declaration; the local is in scope after it.
 pub(crate) fn check_local(
     scope: &mut Scope<'_>,
     written: &WrittenType,

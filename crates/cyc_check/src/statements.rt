@@ -1,4 +1,4 @@
-//! The walk over statements, the items of blocks and the clauses of a catch.
+//! Checks statements, the items of blocks and the clauses of a `catch` by traversing them.
 ghost use Rattle.std.specs.Prelude.{◌≡◌, [], ◌∷◌, Ok, OnOk, IfOk};
 ghost use Rattle.cyc_syntax.specs.inside.TreeView.{view_name, view_statement, view_item, items_of, clauses_of};
 ghost use Rattle.cyc_syntax.specs.Trees.{NoClauses};
@@ -108,7 +108,7 @@ fn check_body(scope: &mut Scope<'_>, statement: &Stmt) -> Result<Box<typed::Stmt
     Ok(body)
 }
 
-/// Checks the block of these items.
+/// Checks a block with these items.
 #[cycle(statement)]
 fn check_block(scope: &mut Scope<'_>, items: &[Item]) -> Result<Box<typed::Stmt>, Stop>
     ensures gives { Gives view_boxed_statement result (and_then (run (rule_items (in_block scope.old) (items_of items.now)))
@@ -123,7 +123,7 @@ fn check_block(scope: &mut Scope<'_>, items: &[Item]) -> Result<Box<typed::Stmt>
     block_of(scope.alloc(), region, items)
 }
 
-/// Checks the block of these items with a label.
+/// Checks a labelled block with these items.
 #[cycle(statement)]
 fn check_labelled(
     scope: &mut Scope<'_>,
@@ -144,7 +144,7 @@ fn check_labelled(
     block_of(scope.alloc(), region, items)
 }
 
-/// Checks the items of a block, which stays open.
+/// Checks the items of a block. The scope of the block stays open.
 #[cycle(statement)]
 pub(crate) fn check_items(scope: &mut Scope<'_>, items: &[Item]) -> Result<Vec<typed::Item>, Stop>
     ensures gives { Gives (λ v. typed_view.items_of v.items) result (run (rule_items scope.old (items_of items.now))) }
@@ -193,7 +193,7 @@ fn check_item(scope: &mut Scope<'_>, item: &Item) -> Result<typed::Item, Stop>
     }
 }
 
-/// Checks the clauses of a catch except a default one.
+/// Checks the clauses of a `catch`, without a default clause.
 #[cycle(statement)]
 fn check_clauses(scope: &mut Scope<'_>, clauses: &[Clause]) -> Result<Vec<typed::Clause>, Stop>
     ensures gives { Gives (λ v. typed_view.clauses_of v.items nodes.NoClauses) result (run (rule_clauses scope.old [] (clauses_of clauses.now NoClauses))) }
@@ -208,7 +208,8 @@ fn check_clauses(scope: &mut Scope<'_>, clauses: &[Clause]) -> Result<Vec<typed:
     Ok(all)
 }
 
-/// Checks a clause after those for exceptions with these names, and adds its name.
+/// Checks a clause that follows clauses for the exceptions with these names, and adds the name of
+/// its exception.
 #[cycle(statement)]
 fn check_clause(
     scope: &mut Scope<'_>,
@@ -235,7 +236,7 @@ fn check_clause(
     })
 }
 
-/// Checks the items of a default clause.
+/// Checks the items of the default clause of a `catch`.
 #[cycle(statement)]
 fn check_default(scope: &mut Scope<'_>, items: &[Item]) -> Result<typed::Body, Stop>
     ensures gives { Gives (λ b. nodes.Default b.region (typed_view.items_of b.items.items)) result

@@ -1,4 +1,4 @@
-//! The typed tree of a tree, or its fault.
+//! Computes the typed tree of a syntax tree, or its fault.
 ghost use Rattle.std.specs.Prelude.{◌≡◌, map};
 ghost use Rattle.cyc_words.specs.Decision.{Decides};
 ghost use Rattle.cyc_syntax.specs.inside.TreeView.{view_declaration};
@@ -14,13 +14,14 @@ use cyc_types::TypedTree;
 use cyc_words::Fault;
 use std::alloc::Global;
 
-/// Returns the typed tree of a tree, exactly if the typing rules derive one.
+/// Returns the typed tree of a syntax tree, exactly if the typing rules derive one.
 ///
 /// If the tree is not well-typed, `check` returns the first fault: in the declarations in order, then for a missing `main`, at 1:1, and
-/// then in the bodies in order. Of all faults of one construct, the one with the lowest code is returned. Any table and any node may be
-/// rejected for lack of memory.
+/// then in the bodies in order. Of all faults of one construct, the one with the lowest code is returned. An allocation for any table
+/// or node may fail for lack of memory.
 pub fn check(alloc: Global, tree: &Tree) -> Result<TypedTree, Fault>
-    // An accepted program has this typed tree, and a rejected one has this fault.
+    // If `check` accepts a program, the result is its typed tree; if it rejects a program, the
+    // result is its fault.
     ensures decides { Decides (IsTypedProgram tree.now.names (map view_declaration tree.now.declarations.items))
         (λ program typed. view_program typed ≡ program) (IsRefusedProgram tree.now.names (map view_declaration tree.now.declarations.items))
         (IsRefusedProgram tree.now.names (map view_declaration tree.now.declarations.items)) result }
@@ -28,7 +29,7 @@ pub fn check(alloc: Global, tree: &Tree) -> Result<TypedTree, Fault>
     Ok(typed_tree(alloc, tree)?)
 }
 
-/// Returns the result of the rules.
+/// Returns the result that the typing rules determine for a syntax tree.
 fn typed_tree(alloc: Global, tree: &Tree) -> Result<TypedTree, Stop>
     ensures { Gives view_program result (check_of tree.now.names (map view_declaration tree.now.declarations.items)) }
 {

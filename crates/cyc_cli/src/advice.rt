@@ -1,11 +1,12 @@
-//! The texts of faults for users: the fault in words, and the advice on it; also those of invalid images and of runs that ended by an
-//! exception. `docs/codes.txt` is the table of codes; a test of the suite compares the texts in this file with that table.
+//! This file has the texts of faults for users: the fault in words, and the advice on it. It also has the texts of invalid images and
+//! of runs that ended by an exception. `docs/codes.txt` is the table of codes; a test of the suite compares the texts in this file
+//! with that table.
 use crate::arguments::MOST_STEPS;
 use cyc_machine::constants::{MAX_CALLS, MAX_PAGES};
 use cyc_words::Code;
 use std::fmt;
 
-/// Returns the words for the fault with this code.
+/// Returns the description of the fault with this code.
 pub fn meaning(code: Code) -> &'static str {
     match code {
         Code::UnknownByte => "unexpected character",
@@ -77,7 +78,7 @@ pub(crate) fn hint(code: Code) -> &'static str {
     }
 }
 
-/// Returns the words for an image's fault of this number.
+/// Returns the description of an image's fault with this number.
 pub fn image_fault(number: u32) -> &'static str {
     match number {
         1 => "not an image: the file is truncated",
@@ -90,18 +91,19 @@ pub fn image_fault(number: u32) -> &'static str {
     }
 }
 
-/// The reason why a run ended before its program did, with the limit that it reached. `Display` writes the reason in words.
+/// The reason why a run ended before its program did, with the limit that the run reached. `Display` writes the reason in
+/// words.
 #[derive(Clone, Copy)]
 pub enum Ending {
-    /// No handler caught the exception of this number.
+    /// No handler caught the exception with this number.
     Uncaught(u32),
-    /// The run required more calls at once than this limit.
+    /// The run required more calls active at once than this limit allows.
     Calls(u32),
-    /// The run required more pages than this limit.
+    /// The run required more pages of the store than this limit allows.
     Pages(u32),
     /// The machine refused the instruction at this address.
     Trap(u32),
-    /// The run required more instructions than this budget.
+    /// The run required more instructions than its instruction budget.
     Spent(u64),
 }
 
@@ -144,7 +146,7 @@ impl fmt::Display for Ending {
 /// The number of built-in exceptions.
 const BUILT_IN: u32 = 4;
 
-/// Returns the words for the built-in exception of this number.
+/// Returns the description of the built-in exception with this number.
 fn built_in(number: u32) -> &'static str {
     match number {
         1 => "uncaught exception Null_Exception: a null pointer was dereferenced",

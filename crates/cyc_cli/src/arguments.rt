@@ -1,4 +1,4 @@
-//! Parses the command line into a request.
+//! This file parses the command line into a request.
 ghost use Rattle.std.specs.Prelude.{◌≡◌, ◌≤◌, Some, IfOk, IfSome, codes, map, string_bytes};
 ghost use Rattle.std.specs.Str.Parse.{digits_value};
 ghost use Rattle.clap.specs.Words.{app_of, first_value, found_of};
@@ -20,11 +20,11 @@ use std::alloc::Global;
 pub enum StoreKind {
     /// A pool of pages, all of which are allocated at the start.
     Pages,
-    /// An array of words, which grows by a page when one more is needed.
+    /// An array of words, which grows by a page when one more page is needed.
     Plain,
 }
 
-/// The request of the words of a command line.
+/// The request that the words of a command line make.
 #[derive(Clone, Copy)]
 pub enum Request<'a> {
     /// `check SOURCE`: reports the faults and warnings of the program in the file `source`, as JSON or as text.
@@ -32,9 +32,9 @@ pub enum Request<'a> {
         source: &'a str,
         is_json: bool,
     },
-    /// `compile SOURCE -o IMAGE`: to compile the program in the file `source` to the file `image`, which carries the limits, or the
-    /// program's own bounds where `auto` says so; to write where it comes from to the file `places`, if one is given, and the text that is
-    /// compiled to the file `emit`, if one is.
+    /// `compile SOURCE -o IMAGE`: compiles the program in the file `source` to the file `image`, which carries the limits or, if `auto` is
+    /// true, the program's own bounds. If `places` names a file, the origins of the image's words are written to it. If `emit` names a
+    /// file, the text that is compiled is written to it.
     Compile {
         source: &'a str,
         image: &'a str,
@@ -44,9 +44,10 @@ pub enum Request<'a> {
         emit: Option<&'a str>,
         is_json: bool,
     },
-    /// `run IMAGE`, or `exec SOURCE` if `is_source` says so: to run the image in the file `file`, or that of the program in it, over a store of the kind `store`, with these limits, else its own, but with none above those of
-    /// `caps`, for at most `budget` instructions; to write what is reported of the run to the file `report`, where one is named, with the most calls under way and the
-    /// most pages in use where `peaks` says so; and to say by the file `places`, where one is named, where in the program the run ended.
+    /// `run IMAGE`, or `exec SOURCE` if `is_source` is true: runs the image in the file `file`, or the image of the program in it, over a
+    /// store of the kind `store`. The limits are the given ones or else the image's, but none is above `caps`; the run takes at most
+    /// `budget` instructions. A report of the run is written to the file `report`, if one is named; if `peaks` is true, it has the largest
+    /// numbers of active calls and of used pages. If a file `places` is named, the command tells where in the program the run ended.
     Run {
         file: &'a str,
         is_source: bool,
@@ -58,8 +59,8 @@ pub enum Request<'a> {
         peaks: bool,
         places: Option<&'a str>,
     },
-    /// `disasm IMAGE`: to list the instructions of an image, at most so many as `most` says, where it does, and by the file `places`, where
-    /// one is named, with functions and lines of the program beside them.
+    /// `disasm IMAGE`: lists the instructions of an image, at most `most` of them if a number is given. If a file `places` is named, the
+    /// functions and lines of the program are listed beside the instructions.
     Disassemble {
         image: &'a str,
         most: Option<u32>,
@@ -78,14 +79,14 @@ pub enum Request<'a> {
     Bound {
         source: &'a str,
     },
-    /// `format SOURCE`: to lay out the program in the file `source` anew, and to write it to the file `output`, or to print it where none is
-    /// given; or only to say whether it is laid out so, where `is_check` says so.
+    /// `format SOURCE`: formats the program in the file `source`, and writes it to the file `output`, or prints it if no file is given. If
+    /// `is_check` is true, the command only tells if the program is already formatted.
     Format {
         source: &'a str,
         output: Option<&'a str>,
         is_check: bool,
     },
-    /// `pack TEXT`: to print the words of a text.
+    /// `pack TEXT`: prints the words that encode a text.
     Pack {
         text: &'a str,
     },
@@ -94,8 +95,8 @@ pub enum Request<'a> {
 /// The greatest instruction budget of a run.
 pub const MOST_STEPS: u64 = 1_000_000_000_000;
 
-/// Returns the words to parse. Help on `help` is the help of `help` itself; clap would take the word that requests it as the name of a
-/// command.
+/// Returns the words to parse. Help on the command `help` is replaced by the help of `help` itself, since clap would take the word
+/// that requests help as the name of a command.
 fn words_read(words: &[String]) -> &[String] {
     match words {
         [_, name, asked] if name.as_str() == "help" && matches!(asked.as_str(), "-h" | "--help") =>
@@ -104,7 +105,7 @@ fn words_read(words: &[String]) -> &[String] {
     }
 }
 
-/// Returns the number that the text of an option writes.
+/// Returns the number that is written in the text of an option.
 fn number_in<'a>(
     alloc: Global,
     command: &mut Command<'a>,
@@ -127,7 +128,7 @@ fn number_in<'a>(
     }
 }
 
-/// Returns the number given for an option, or its default.
+/// Returns the number given for an option, or the option's default.
 fn number_of<'a>(
     alloc: Global,
     command: &mut Command<'a>,
@@ -144,7 +145,7 @@ fn number_of<'a>(
     number_in(alloc, command, option, text, low, high)
 }
 
-/// Returns the number given for an option, if it is given.
+/// Returns the number given for an option, if the option is present.
 fn number_if_given<'a>(
     alloc: Global,
     command: &mut Command<'a>,
@@ -172,7 +173,8 @@ fn number_if_given<'a>(
     }
 }
 
-/// A file or a text that the words give. The parser of the command line demands each file, so the name exists.
+/// Returns a file or a text that the command line names. The command-line parser requires each file, so the
+/// name exists.
 fn file_of<'a>(
     command: &mut Command<'a>,
     matches: &ArgMatches<'a>,
@@ -209,7 +211,7 @@ fn limits_of<'a>(
     Ok(GivenLimits { pages, calls })
 }
 
-/// Returns the caps on limits that the words give.
+/// Returns the caps on limits that the command line gives.
 fn caps_of<'a>(
     alloc: Global,
     command: &mut Command<'a>,
@@ -236,7 +238,8 @@ fn caps_of<'a>(
     Ok(GivenLimits { pages, calls })
 }
 
-/// Returns true if the image should contain the program's own bounds: then neither limit may be given by number.
+/// Returns true if the image should contain the program's own bounds: in this case no limit may be given by
+/// number.
 fn take_auto<'a>(
     command: &mut Command<'a>,
     matches: &ArgMatches<'a>,
@@ -342,7 +345,7 @@ fn run_request<'a>(
     })
 }
 
-/// Returns the code whose number the words give, if there is one.
+/// Returns the fault code whose number the command line gives, if there is one.
 fn code_given(matches: &ArgMatches<'_>) -> Option<Code>
     ensures { IfSome result (IsCodeOf (first_value (found_of matches.now) (codes "code"))) }
 {
@@ -352,7 +355,7 @@ fn code_given(matches: &ArgMatches<'_>) -> Option<Code>
     }
 }
 
-/// Returns the code whose number the words give; the error lists all codes.
+/// Returns the fault code whose number the command line gives; the error lists all codes.
 fn code_of<'a>(
     alloc: Global,
     command: &mut Command<'a>,
@@ -369,7 +372,7 @@ fn code_of<'a>(
     }
 }
 
-/// Returns the request of the words after the name of a command.
+/// Returns the request that the words after the name of a command make.
 fn request_of<'a>(
     alloc: Global,
     command: &mut Command<'a>,
@@ -425,12 +428,12 @@ fn request_of<'a>(
             let text = file_of(command, matches, "text")?;
             Ok(Request::Pack { text })
         }
-        // The parser accepts no other name of a store.
+        // The command-line parser accepts no other command.
         _ => Err(command.error(ErrorKind::InvalidSubcommand, "there is no such command")?),
     }
 }
 
-/// Returns the request of the words to this program.
+/// Returns the request that the words make to the program with these commands and options.
 fn request_in<'a>(
     alloc: Global,
     program: &mut Command<'a>,
@@ -447,8 +450,8 @@ fn request_in<'a>(
     request_of(alloc, &mut command, name, matches)
 }
 
-/// Returns the request of some words, the first of which is the program's name. The error is a mistake in the words, or the text of the
-/// requested help.
+/// Returns the request of a command line, whose first word is the program's name. The error is a mistake in the words, or the text of
+/// the requested help.
 pub fn read_request<'a>(alloc: Global, words: &'a [String]) -> Result<Request<'a>, Error>
     ensures { IfOk result IsWithinBudget }
 {

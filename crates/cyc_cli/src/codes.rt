@@ -1,4 +1,4 @@
-//! The codes of faults by their numbers, for the command line.
+//! This file finds the fault codes by their numbers, for the command line.
 ghost use Rattle.std.specs.Prelude.{◌≡◌, IfSome};
 ghost use Rattle.std.specs.Str.Parse.{digits_value};
 ghost use Rattle.cyc_words.specs.Fault.{number_of};
@@ -8,7 +8,7 @@ use crate::number;
 use cyc_words::Code;
 use std::alloc::{AllocError, Global};
 
-/// All codes, in the order of their numbers.
+/// All fault codes, in the order of their numbers.
 const CODES: [Code; 28] = [
     Code::UnknownByte,
     Code::UnclosedComment,
@@ -40,10 +40,10 @@ const CODES: [Code; 28] = [
     Code::FrameTooLarge,
 ];
 
-/// The highest number of a code.
+/// The highest number of a fault code.
 const HIGHEST: u64 = 51;
 
-/// Returns the code whose number a text writes in decimal, if there is one.
+/// Returns the fault code whose number a text writes in decimal, if there is one.
 pub(crate) fn code_written(text: &str) -> Option<Code>
     ensures { IfSome result (λ code. number_of code ≡ digits_value 10 text.now) }
 {
@@ -56,7 +56,8 @@ pub(crate) fn code_written(text: &str) -> Option<Code>
     None
 }
 
-/// Returns all codes and their meanings, one on each line, after a line that asks for one.
+/// Returns all fault codes and their meanings, one on each line, after a line that asks the user
+/// for a code.
 pub(crate) fn list_of_codes(alloc: Global) -> Result<String, AllocError> {
     let mut list = String::from_str(alloc, "explain takes the number of a code, one of these:")?;
     for code in CODES {

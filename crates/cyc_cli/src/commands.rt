@@ -1,4 +1,4 @@
-//! The table of commands, with their help texts and the words that they take.
+//! This file has the table of commands, with their help texts and the arguments that they take.
 use crate::version::VERSION;
 use clap::{Arg, ArgAction, Command};
 use std::alloc::{AllocError, Global};
@@ -114,26 +114,26 @@ printed, or written to the file of -o, which may be its own. With --check nothin
 exit status is 1 if a file would change. Where it has no tokens, a message says what is wrong,
 and where.";
 
-/// The form of one word of a command line.
+/// The form of one argument of a command line.
 #[derive(Clone, Copy)]
 enum Form {
-    /// A file or a text by its place among the words.
+    /// A file or a text, identified by its position among the arguments.
     File,
-    /// One file or more.
+    /// One or more files.
     Files,
-    /// A file after `-o`.
+    /// A file after the option `-o`, which is required.
     Output,
     /// A file after the option `-o`, which may be absent.
     OutputIfGiven,
-    /// A number after the option's name; this default if it is omitted.
+    /// An option followed by a number; if the option is omitted, the number has this default.
     Number(&'static str),
     /// An option followed by a number, which may be absent.
     Limit,
-    /// The number of a code; without one, all codes are listed.
+    /// The number of a fault code; if it is omitted, all codes are listed.
     Code,
     /// An option followed by a file, which may be absent.
     FileIfGiven,
-    /// One file or more may follow the option's name, each time that the option is given.
+    /// An option followed by one or more files; the option may be given several times.
     FilesIfGiven,
     /// An option followed by a word, which may be absent.
     WordIfGiven,
@@ -150,7 +150,7 @@ struct Word {
     help: &'static str,
 }
 
-/// A command, with its help text and the words that it takes.
+/// A command, with its help text and the arguments that it takes.
 #[derive(Clone, Copy)]
 struct Plan {
     name: &'static str,
@@ -378,7 +378,7 @@ const CHECK: Word = Word {
     help: "Write nothing, and say which files are not laid out so",
 };
 
-// The prover unfolds a table at its use, hence the two tables are in separate functions.
+// The prover unfolds a table at its use, so the two tables of commands are in separate functions.
 fn first_commands() -> &'static [Plan] {
     FIRST_COMMANDS
 }
@@ -543,7 +543,7 @@ pub(crate) fn program<'a>(alloc: Global) -> Result<Command<'a>, AllocError> {
     Ok(program)
 }
 
-/// The plan of the command of this name, if there is one.
+/// Returns the plan of the command with this name, if there is one.
 fn plan_named(name: &str) -> Option<&'static Plan> {
     for plan in first_commands() {
         if plan.name == name {
@@ -558,8 +558,8 @@ fn plan_named(name: &str) -> Option<&'static Plan> {
     None
 }
 
-/// Returns the command of this name by itself, so that a mistake after it is reported with its own usage; the whole program if there is
-/// none.
+/// Returns the command with this name alone, so that a mistake in its arguments is reported with the command's own usage. Returns the
+/// complete program if there is no command with this name.
 pub(crate) fn command_named<'a>(alloc: Global, name: &str) -> Result<Command<'a>, AllocError> {
     match plan_named(name) {
         Some(plan) => command(alloc, plan),

@@ -1,4 +1,4 @@
-//! A line of a text with a mark under one position.
+//! This file shows a line of a text with a mark under one position.
 ghost use Rattle.std.specs.Prelude.{◌≡◌, Some, slice_get, option_map, ◌≤◌, ◌<◌, ◌+◌, flat_map};
 ghost use Rattle.std.specs.Fmt.{WritesOnOk};
 ghost use Rattle.std.specs.Str.{chars};
@@ -7,14 +7,15 @@ ghost use Rattle.cyc_cli.specs.inside.Excerpt.{shown_byte, shown_bytes, shown_ch
 
 use std::{fmt, str};
 
-// Returns the n-th piece, from 0, of the text split at its line feeds.
+// Returns the n-th piece, counted from 0, of the text split at its line feeds.
 fn piece(text: &[u8], n: usize) -> Option<&[u8]>
     ensures { option_map (λ s. s.now) result ≡ slice_get (lines_of text.now) n }
 {
     text.split(|byte| *byte == b'\n').nth(n)
 }
 
-/// Returns line `line` of the text, counted from 1, without its line feed; empty if there is none.
+/// Returns line `line` of the text, counted from 1, without its line feed; returns an empty line if
+/// there is no such line.
 pub(crate) fn line_at(text: &[u8], line: u32) -> &[u8]
     ensures { result.now ≡ line_at text.now line }
 {
@@ -69,8 +70,9 @@ fn write_blank_bytes<W: fmt::Write>(bytes: &[u8], f: &mut fmt::Formatter<W>) -> 
     Ok(())
 }
 
-/// Returns true if the character of this number, beyond ASCII, is invisible, ends a line or changes the writing direction. The hidden
-/// characters are control characters, bidirectional marks and isolates, zero-width spaces and joiners, line separators, and tags.
+/// Returns true if the character with this number, beyond ASCII, is invisible, ends a line or changes the writing direction. The
+/// hidden characters are control characters, bidirectional marks and isolates, zero-width spaces and joiners, line separators, and
+/// tags.
 fn is_hidden(code: u32) -> bool
     ensures { result ≡ is_hidden code }
 {
@@ -149,8 +151,8 @@ fn write_blank_text<W: fmt::Write>(text: &str, f: &mut fmt::Formatter<W>) -> fmt
     Ok(())
 }
 
-/// A piece of text for display: UTF-8 unchanged, except for control characters and those that are invisible or change the writing
-/// direction; any other bytes by their numbers.
+/// A piece of text for display. UTF-8 is unchanged, except that characters that are invisible, control a terminal or change the
+/// writing direction are shown by their numbers. Bytes that are not UTF-8 are shown by their numbers too.
 #[derive(Drop)]
 pub struct Shown<'a>(pub &'a [u8]);
 
@@ -165,7 +167,7 @@ impl fmt::Display for Shown<'_> {
     }
 }
 
-/// Lines of text for display: the characters of each as `Shown` displays them.
+/// Lines of text for display: the characters of each line are displayed as `Shown` displays them.
 #[derive(Drop)]
 pub struct Lines<'a>(pub &'a str);
 
@@ -177,10 +179,10 @@ impl fmt::Display for Lines<'_> {
     }
 }
 
-/// The most bytes of a file's name that are shown.
+/// The largest number of bytes of a file's name that are shown.
 const MOST_NAME: usize = 512;
 
-/// The name of a file for display: if it is longer than `MOST_NAME`, its end after dots.
+/// The name of a file for display: if the name is longer than `MOST_NAME`, its end after dots.
 #[derive(Drop)]
 pub struct FileName<'a>(pub &'a [u8]);
 
@@ -207,14 +209,14 @@ impl fmt::Display for Blank<'_> {
     }
 }
 
-/// The part of one line of a text around a position. `Display` writes two lines: that part, and a mark under the position.
+/// The part of one line of a text around a position. `Display` writes two lines: the part, and a mark under the position.
 #[derive(Drop)]
 pub struct Excerpt<'a> {
     /// Dots for the part omitted at the beginning of the line.
     pub lead: &'static str,
-    /// The bytes before the position.
+    /// The bytes of the line before the position.
     pub before: &'a [u8],
-    /// The bytes from the position on.
+    /// The bytes of the line from the position on.
     pub after: &'a [u8],
     /// Dots for the part omitted at the end of the line.
     pub trail: &'static str,
@@ -228,7 +230,8 @@ fn dots(left_out: usize) -> &'static str
     if left_out == 0 { "" } else { "..." }
 }
 
-/// Returns the beginning of the part that is shown around `place`, of a line of `len` bytes.
+/// Returns the beginning of the part that is shown around the position `place`, in a line of `len`
+/// bytes.
 fn window_start(len: usize, place: usize) -> usize
     requires { place ≤ len }
     ensures before { result ≤ place }
@@ -243,8 +246,8 @@ fn window_start(len: usize, place: usize) -> usize
     }
 }
 
-/// Returns the excerpt around a position of a text. A column past the end of its line counts as the end of the line, and a line past the
-/// last is empty.
+/// Returns the excerpt around a position of a text. A column past the end of its line is treated as the end of the line, and a line past
+/// the last line is empty.
 pub fn excerpt_at(text: &[u8], line: u32, column: u32) -> Excerpt<'_>
     ensures { IsExcerpt (line_at text.now line) (bytes_before (line_at text.now line) column) result }
 {

@@ -1,5 +1,5 @@
-//! The first group of words precedes the place of the fault, and the second begins at the place. In each row, the third group names a token
-//! that fits the place.
+//! In each row of a table of habits, the first group of words precedes the position of the fault, and the second group begins at this
+//! position. The third group names a token that fits at the position.
 use crate::advice::hint;
 use crate::excerpt::line_at;
 use cyc_words::Code;
@@ -256,11 +256,12 @@ any ~~ call ~~ any ~~ declare the function: int f(int n) { return n; }, or compi
 struct Place<'a> {
     /// The text before the position on its line.
     left: &'a [u8],
-    /// The text before the position without trailing white space, or the line above if there is nothing else.
+    /// The text before the position without trailing white space, or the line above if only white space
+    /// precedes the position.
     before: &'a [u8],
     /// The text from the position on.
     at: &'a [u8],
-    /// The tokens that could stand at the position.
+    /// The tokens that could be at the position.
     expected: &'a [u8],
 }
 
@@ -342,7 +343,7 @@ fn last_name(text: &[u8]) -> &[u8] {
     last
 }
 
-/// Returns true if a text ends with a name after a pointer mark.
+/// Returns true if a text ends with a name after the sign of a pointer type.
 fn ends_marked(text: &[u8]) -> bool {
     match text.strip_suffix(last_name(text)) {
         Some(left) => match left.trim_ascii_end().last() {
@@ -362,10 +363,10 @@ fn begun(text: &[u8]) -> &[u8] {
     last
 }
 
-/// The most bytes that are searched for the beginning of a statement.
+/// The largest number of bytes that are searched for the beginning of a statement.
 const MOST_BEGUN: usize = 160;
 
-/// Returns true if a word occurs among the first bytes of a text.
+/// Returns true if a word occurs among the first `MOST_BEGUN` bytes of a text.
 fn has_word(text: &[u8], word: &[u8]) -> bool {
     for n in 0..text.len().min(MOST_BEGUN) {
         let (before, rest) = text.split_at(n);
@@ -406,7 +407,8 @@ fn stands_before(place: Place<'_>, words: &str) -> bool {
     }
 }
 
-/// Returns the text before a position with `left` before it on its line: that, or the line above if it is white space.
+/// Returns the text before a position: the text `left` on the position's line or, if `left` is white space, the line
+/// above.
 fn text_before<'a>(text: &'a [u8], line: u32, left: &'a [u8]) -> &'a [u8] {
     let left = left.trim_ascii_end();
     if left.is_empty() && line > 1 {
@@ -418,7 +420,8 @@ fn text_before<'a>(text: &'a [u8], line: u32, left: &'a [u8]) -> &'a [u8] {
 
 // ---- the tokens that could stand at a position
 
-/// Returns true if one of the tokens that could stand at a position is one of the words, or begins with it.
+/// Returns true if one of the tokens that could be at a position is one of the words, or begins with one of
+/// them.
 fn is_expected(expected: &[u8], words: &str) -> bool {
     for word in words.split('~') {
         let is_found = match word.strip_suffix(" ..") {
@@ -434,7 +437,8 @@ fn is_expected(expected: &[u8], words: &str) -> bool {
 
 // ---- the table of habits
 
-/// Returns the lines of the habits that may cause a fault with this code.
+/// Returns the lines of the habits, that is, of usual mistakes, that may cause a fault with this
+/// code.
 fn habits_of(code: Code) -> &'static str {
     match code {
         Code::UnknownByte => UNKNOWN_BYTE,
@@ -446,7 +450,7 @@ fn habits_of(code: Code) -> &'static str {
     }
 }
 
-/// Returns the advice of a habit, if a position shows it.
+/// Returns the advice on a habit (a usual mistake), if the text at a position shows it.
 fn advice_of(habit: &'static str, place: Place<'_>) -> Option<&'static str> {
     let (ends, rest) = habit.split_once(" ~~ ")?;
     let (beginnings, rest) = rest.split_once(" ~~ ")?;
@@ -461,8 +465,8 @@ fn advice_of(habit: &'static str, place: Place<'_>) -> Option<&'static str> {
     }
 }
 
-/// Returns the advice on a fault at a position of a text where these tokens could stand: that of a habit, if one matches, else that of the
-/// code.
+/// Returns the advice on a fault at a position of a text where these tokens could be. The result is the advice on a habit (a usual
+/// mistake) if one matches, otherwise the advice on the code.
 pub fn hint_at(code: Code, text: &[u8], line: u32, column: u32, expected: &[u8]) -> &'static str {
     let whole = line_at(text, line);
     let (left, at) = whole.split_at(whole.len().min(column.saturating_sub(1) as usize));

@@ -1,4 +1,4 @@
-//! Faults and warnings as JSON, one object on each line.
+//! This file writes faults and warnings as JSON, one object on each line.
 ghost use Rattle.std.specs.Prelude.{◌≡◌, Some, option_map};
 ghost use Rattle.std.specs.Fmt.{WritesOnOk};
 ghost use Rattle.cyc_cli.specs.inside.Json.{code_text, control_char, edit_or_null, entry_text, list_text, quoted, quoted_or_null, range_members};
@@ -83,7 +83,8 @@ fn truth_of(is_so: bool) -> &'static str
 
 // ---- members of an object
 
-/// A range of a text, in lines and in columns of bytes, from 1; the end is after its last byte.
+/// A range of a text, in lines and in columns of bytes, counted from 1; the end of the range is
+/// after its last byte.
 #[derive(Clone, Copy)]
 pub struct Range {
     pub line: u32,
@@ -126,7 +127,7 @@ impl fmt::Display for EditOrNull<'_> {
     }
 }
 
-/// Another place that belongs to a fault, and the text about it.
+/// Another source position that belongs to a fault, and the text about it.
 #[derive(Drop)]
 pub struct Related<'a> {
     pub range: Range,
@@ -141,7 +142,7 @@ impl fmt::Display for Related<'_> {
     }
 }
 
-/// An array with the optional place that belongs to a fault.
+/// A JSON array with the other source position that belongs to a fault, if there is one.
 #[derive(Drop)]
 struct RelatedList<'a>(&'a Option<Related<'a>>);
 
@@ -156,7 +157,7 @@ impl fmt::Display for RelatedList<'_> {
     }
 }
 
-/// The number of a code as JSON, or `null`.
+/// The number of a fault code as JSON, or `null`.
 #[derive(Drop)]
 struct CodeOrNull(Option<u32>);
 
@@ -171,23 +172,23 @@ impl fmt::Display for CodeOrNull {
     }
 }
 
-/// A fault or a warning. `Display` writes an object on one line.
+/// A fault or a warning. `Display` writes it as a JSON object on one line.
 #[derive(Drop)]
 pub struct Entry<'a> {
-    /// The kind of the entry: `refusal` or `warning`.
+    /// The kind of a JSON entry: `refusal` or `warning`.
     pub kind: &'a str,
     /// The name of the violated rule, or of the warning.
     pub rule: &'a str,
-    /// The number of a fault's code.
+    /// The number of the fault's code, if the entry is a fault.
     pub code: Option<u32>,
-    /// True for the first fault of the text, which is proved correct.
+    /// True for the first fault of the text, which is the fault that is proved correct.
     pub is_first: bool,
     /// The name of the file.
     pub file: &'a str,
     pub range: Range,
-    /// The fault, on one line.
+    /// The description of the fault or warning, on one line.
     pub message: &'a str,
-    /// Further lines about the fault or warning.
+    /// Further lines of text about the fault or warning.
     pub detail: Option<&'a str>,
     /// The advice on the fault or warning.
     pub hint: Option<&'a str>,

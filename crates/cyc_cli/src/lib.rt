@@ -1,4 +1,5 @@
-//! The texts that a user at a terminal writes and reads: the command line, the messages, and a source line with a mark under a position.
+//! This crate has the texts that a user at a terminal writes and reads: the command line, the messages, and a source line with a mark
+//! under a position.
 #![tactic(auto)]
 
 pub use advice::{Ending, image_fault, meaning};

@@ -1,4 +1,4 @@
-//! The limits that a command line gives, and their effect.
+//! This file defines the limits that a command line gives, and their effect.
 
 ghost use Rattle.std.specs.Prelude.{◌≡◌, IfSome};
 ghost use Rattle.cyc_machine_model.specs.Bounds.{AreAllowed};
@@ -8,20 +8,21 @@ use cyc_machine::Limits;
 use cyc_machine::constants::{MAX_CALLS, MAX_PAGES, MIN_CALLS, MIN_PAGES};
 use std::marker::Model;
 
-/// The pages of a run without given limits.
+/// The number of pages of a run for which no limit is given.
 pub const DEFAULT_PAGES: u32 = 1024;
 
 /// The limit of calls for a run if no limits are given.
 pub const DEFAULT_CALLS: u32 = 4096;
 
-/// Pages and calls as a command line gives them: each in its range, or omitted.
+/// The limits on pages and calls as a command line gives them: each limit is in its range, or is
+/// omitted.
 #[derive(Clone, Copy)]
 pub struct GivenLimits {
     pub(crate) pages: Option<u32>,
     pub(crate) calls: Option<u32>,
 }
 
-// Contracts refer to both limits.
+// The view through which contracts refer to both limits.
 impl Model for GivenLimits {
     ghost use Rattle.cyc_cli.specs.inside.Limits.{Given, AreInRange};
 
@@ -34,7 +35,7 @@ impl Model for GivenLimits {
     ghost inverse = { λ g. record { pages = g.pages; calls = g.calls } };
 }
 
-/// Returns a number, limited by an optional cap.
+/// Returns a number, or the cap if a cap is given and the number is above it.
 fn capped(number: u32, cap: Option<u32>) -> u32
     ensures { result ≡ capped cap number }
 {
@@ -45,8 +46,8 @@ fn capped(number: u32, cap: Option<u32>) -> u32
 }
 
 impl GivenLimits {
-    /// Returns both limits for a run that needs this many pages and calls: as many, or the least allowed limit. Returns `None` if the
-    /// program needs more than the greatest allowed limit.
+    /// Returns both limits for a run that needs this many pages and calls: each limit is the need or the least allowed limit. Returns
+    /// `None` if the program needs more than the greatest allowed limit.
     pub fn for_needs(pages: u64, calls: u64) -> Option<GivenLimits>
         ensures { result ≡ limits_for pages calls }
     {
@@ -60,8 +61,8 @@ impl GivenLimits {
         }
     }
 
-    /// Returns the limits in an image that is compiled with these: both limits, with the default for a missing one; none if neither is
-    /// given.
+    /// Returns the limits that are stored in a compiled image: both limits, with the default for a limit that is not given, or none if
+    /// no limit is given.
     pub fn carried(self) -> Option<(u32, u32)>
         ensures value { result ≡ carried_by self.pages self.calls }
         ensures allowed { IfSome result (λ limits. AreAllowed limits.0 limits.1) }
@@ -73,8 +74,8 @@ impl GivenLimits {
         Some((pages, self.calls.unwrap_or(DEFAULT_CALLS)))
     }
 
-    /// Returns the limits of a run of an image with the limits `note`: each is the one given here, else the image's, else the default, but
-    /// none is above that of `caps`.
+    /// Returns the limits of a run of an image that contains the limits `note`. Each limit is the one given here, or else the image's
+    /// limit, or else the default, but no limit is above the limit in `caps`.
     pub fn of_run(self, caps: GivenLimits, note: Option<(u32, u32)>) -> Limits
         requires { IfSome note (λ limits. AreAllowed limits.0 limits.1) }
         ensures { result ≡ capped_by caps (limits_by self note) }

@@ -1,4 +1,5 @@
--- Facts about the program of a text: a bound on its weight, its properties beyond the typing rules, and its soundness.
+-- This file has facts about the program of a text: a bound on its weight, its properties beyond the typing rules, and
+-- its soundness.
 use Rattle.std.proofs.Common.{ℕ, ◌≤◌, List, length, arith}
 use Rattle.std.proofs.lemmas.List.{length-map}
 use Rattle.cyc_syntax.specs.TokenRule.{max_tokens}
@@ -27,17 +28,19 @@ accepted_weight text p a =
     let tokens = length-map a.tokens (symbol_of (distinct_texts (texts_in a.tokens))) in
     omega (arith, tree, symbols, tokens)
 
--- The weight of the typed program is at most the most tokens of a text.
+-- The weight of the typed program is at most `max_tokens`, the largest number of tokens of a text.
 pub accepted_light : (text : List ℕ) (p : Program) → IsAcceptedText text p → program_weight p ≤ max_tokens
 accepted_light text p a =
     omega (arith, accepted_weight text p a, a.has_tokens.within.count)
 
--- The program of an accepted text has structs with few fields, and the numbers of its exceptions are words.
+-- The program of an accepted text has structs with few fields, and the numbers of its exceptions are 32-bit
+-- words.
 pub accepted_of_text : (text : List ℕ) (p : Program) → IsAcceptedText text p → IsOfTextProgram p
 accepted_of_text text p a =
     let words = text_constants text a.tokens a.has_tokens.rule a.has_tokens.within in
     of_text p (program_meets (names_in a.tokens) (symbols_of a.tokens) a.tree p a.has_tree.has a.has_tree.within words (symbols_few text p a) a.typed)
 
--- No run of the program is ever dead or wrong.
+-- No run of an accepted program reaches a dead state (an access to a closed region or a freed
+-- object) or a wrong state (no case of the semantics applies).
 pub accepted_sound : (text : List ℕ) (p : Program) → IsAcceptedText text p → IsSound p
 accepted_sound text p a = typed_sound (names_in a.tokens) a.tree p a.typed a.allowed

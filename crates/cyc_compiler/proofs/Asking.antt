@@ -1,4 +1,5 @@
--- A run that requests a byte after the end of its input for the first time reads one more byte of a longer input.
+-- This file is about a run that requests a byte after the end of its input for the first time: with a longer
+-- input, the run reads one more byte.
 use Rattle.std.proofs.Common.{◌≡◌, ◌≢◌, ℕ, zero, suc, ◌+◌, ◌<◌, List, [], ◌∷◌, ◌++◌, drop, refl, sym, ap, ◌∙◌}
 use Rattle.std.specs.List.{AllByRecursion}
 use Rattle.cyc_words.specs.Seen.{showing}
@@ -18,17 +19,18 @@ use Rattle.cyc_compiler.specs.FullPreservation.{limited, DoesTheSame}
 use Rattle.cyc_compiler.specs.Asking.{RunWithin, AsksAtTheEnd}
 use Rattle.cyc_compiler.proofs.Preservation.{are_alike}
 
--- The given world with one more byte of input.
+-- The world `w` with one more byte of input.
 abbrev longer : (b : ℕ) → World → World
 longer b w = record w { input = w.input ++ b ∷ [] }
 
--- A requested byte is the same in the longer input as in the given one, if the given one has a byte.
+-- If the given input has a byte, then the requested byte is the same in the longer input.
 given_longer : (b : ℕ) (s : State) (output input : List ℕ) (old : State) → input ≢ []
     → longer b (reported (record { machine = old; output = output; input = input }) WantsByte s) ≡ reported (longer b (record { machine = old; output = output; input = input })) WantsByte s
 given_longer b s output [] old some = absurd (some refl)
 given_longer b s output (x ∷ input) old some = refl
 
--- An event has the same effect with the longer input as with the given one, unless the byte after the end is requested.
+-- An event has the same effect with the longer input as with the given input, unless the event requests the byte after
+-- the given input's end.
 reported_longer : (b : ℕ) (w : World) (event : Event) (s : State) → (event ≡ WantsByte → w.input ≢ []) → longer b (reported w event s) ≡ reported (longer b w) event s
 reported_longer b w Ran s within = refl
 reported_longer b w WantsByte s within = given_longer b s w.output w.input w.machine (within refl)

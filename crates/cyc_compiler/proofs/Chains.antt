@@ -1,4 +1,4 @@
--- The image made by the passes is one of the program.
+-- The image that the passes produce is an image of the source program.
 use Rattle.std.proofs.Common.{◌≡◌, ℕ, ◌*◌, ◌≤◌, ◌<◌, List, ◌∷◌, length, Option, refl, sym, ap, subst, ◌∙◌, arith, Ok}
 use Rattle.std.specs.List.{AllByRecursion}
 use Rattle.cyc_words.specs.Word.{IsWord}
@@ -59,7 +59,7 @@ module _ (p : Program) (lowered : PlainProgram) (code : Labelled) (addresses : �
     few = omega (arith, text_words-image words code.globals note some text.inside few fit fit_globals, text.few, selected.few_words, is.small);
   }
 
--- The statement for the words and globals that the image was made from.
+-- States that an image made from these words and globals is an image of the source program.
 pub image_made : (p : Program) (lowered : PlainProgram) (code : Labelled) (addresses : ℕ → ℕ) (words there globals : List ℕ) (note : Option (ℕ × ℕ)) (file : List ℕ)
     → there ≡ words → globals ≡ code.globals → IsSound p → IsProgramOf p lowered → IsCodeOf lowered code → code.globals ≡ lowered.globals → IsTextOf code addresses words → Runs code addresses words
     → IsCode code → AllByRecursion IsWord there → AllByRecursion IsWord globals → reading file ≡ Ok (program_image there globals note)

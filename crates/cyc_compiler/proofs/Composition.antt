@@ -1,4 +1,4 @@
--- The composition of the passes: a source program, its plain program, that program's labelled code, and the words of that code.
+-- This file composes the passes: a source program, its plain program, that program's labelled code, and the words of that code.
 use Rattle.std.proofs.Common.{◌≡◌, ◌≢◌, ℕ, ◌+◌, ◌≤◌, ◌<◌, List, [], ◌++◌, length, sym, ap, subst, ◌∙◌, arith, length-append}
 use Rattle.std.specs.Prelude.{flat_map}
 use Rattle.std.specs.List.{AllByRecursion}
@@ -69,7 +69,8 @@ module _ (p : Program) (lowered : PlainProgram) (code : Labelled) (addresses : �
       runs store calls input allowed.few_calls
       (follows-never_fails middle lines (lawful lowered pages calls) selected.before selected.own (plain.start lowered selected.base store input) (labelled.start code store calls input) second)
 
-  -- The words visited before the first step of the source, and those of one step.
+  -- The words of the image that are executed before the first step of the source; below them, the
+  -- words executed in one step.
   abbrev words_before : List ℕ
   words_before = flat_map (own addresses) (selected.before ++ flat_map selected.own [])
 
@@ -84,7 +85,7 @@ module _ (p : Program) (lowered : PlainProgram) (code : Labelled) (addresses : �
       (start p input) (plain.start lowered selected.base store input) (labelled.start code store calls input) first second)
       third
 
-  -- The words of one step are among the words of the text, each at most once.
+  -- The words that are executed in one step are among the words of the text, each at most once.
   bound : length words_before + length words_of_step ≤ length text
   bound =
       let all : flat_map (own addresses) (selected.before ++ flat_map selected.own (places_of lowered)) ≡ stretch text_base (length text) =

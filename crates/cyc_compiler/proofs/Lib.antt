@@ -1,18 +1,18 @@
--- faults after the front end, and the reported needs of a program
+-- These modules are about faults after the front end, and the reported needs of a program.
 pub mod Refusals
 pub mod Needing
--- the composed passes, and the image that they make
+-- These modules compose the passes and prove properties of the image that they make.
 pub mod Composition
 pub mod Passes
 pub mod Amounts
 pub mod Sizes
 pub mod ProgramImages
 pub mod Chains
--- lemmas for the laws
+-- These modules have lemmas for the laws of the crate.
 pub mod Preservation
 pub mod KeepingUp
 pub mod Asking
 -- a worked example
 pub mod ReadsFirst
--- an image by computation
+-- This module computes an example of an image.
 pub mod ImageExamples

@@ -1,5 +1,5 @@
--- Each plain program on the way to an image has the source program's meaning: the lowered one, the one with inlined calls, and the
--- simplified one.
+-- Each plain program on the way to an image has the source program's meaning: the lowered program, the program with inlined calls,
+-- and the simplified program.
 use Rattle.std.proofs.Common.{◌≡◌, ◌⊎◌, inl, inr, ℕ, suc, ◌*◌, ◌≤◌, ◌<◌, List, [], ◌∷◌, ◌++◌, length, refl, sym, ap, subst, ◌∙◌, arith}
 use Rattle.std.specs.Prelude.{flat_map, map, max, slice_index_or, sum_by}
 use Rattle.std.specs.List.{range_with_len}
@@ -53,7 +53,7 @@ lowered_is p lowered is = record {
 
 -- ---- a pass: its result follows its argument, at places of the same total cost or less
 
--- The functions that a pass makes, one for each given function.
+-- Says that a pass makes one function for each function of its input.
 abbrev AreMade : (Routine → Routine → Type 0) → List Routine → List Routine → Type 0
 AreMade IsLike rs ss = (k : ℕ) → k < length rs → IsLike (slice_index_or rs k no_routine) (slice_index_or ss k no_routine)
 
@@ -67,7 +67,7 @@ module _ (IsLike : Routine → Routine → Type 0) (like_of : (h : Function) (r 
   functions_made (h ∷ hs) (r ∷ rs) (s ∷ ss) long like (is, are) =
       (like_of h r s is (like 0 (omega arith)), functions_made hs rs ss (omega (arith, long)) (λ k below. like (suc k) (omega (arith, below))) are)
 
--- Places may be replaced by others of higher cost.
+-- The code positions of a matching may be replaced by others of higher cost.
 module _ (above below : Machine) (before : List below.Place) (own dearer : above.Place → List below.Place) (start : above.State) (from : below.State)
     (more : (price : below.Place → ℕ) (p : above.Place) → sum_by price (own p) ≤ sum_by price (dearer p)) where
   sums_dearer : (price : below.Place → ℕ) (places : List above.Place)
@@ -165,7 +165,7 @@ simplified_small (r ∷ rs) (s ∷ ss) long like =
       simplified_small rs ss (omega (arith, long)) (λ k below. like (suc k) (omega (arith, below))),
     )
 
--- The simplified program has the same places as the given one.
+-- The simplified program has the same code positions as the program before simplification.
 simplified_places : (function : ℕ) (rs ss : List Routine) → length ss ≡ length rs → AreMade simplified.IsLike rs ss → places_from function rs ≡ places_from function ss
 simplified_places function [] [] long like = refl
 simplified_places function [] (s ∷ ss) long like = absurd (omega (arith, long))

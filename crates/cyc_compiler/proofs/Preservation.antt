@@ -1,4 +1,5 @@
--- Full preservation, by the two runs: the program's limited run, and the machine's runs.
+-- This file proves full preservation from two runs: the program's limited run, and a run of the
+-- machine.
 use Rattle.std.proofs.Common.{◌≡◌, ◌≢◌, ℕ, zero, suc, ◌+◌, ◌-◌, ◌*◌, ◌<◌, ◌≤◌, List, Option, Some, None, refl, sym, ap, subst, ◌∙◌, arith}
 use Rattle.std.specs.List.{AllByRecursion}
 use Rattle.cyc_words.specs.Ending.{Ending, Full}
@@ -140,7 +141,7 @@ are_alike p image does limits store input allowed new bytes =
 
 -- ---- `IsAhead` is kept by further instructions
 
--- A machine that is ahead of the program stays ahead when it executes more instructions.
+-- A machine that is ahead of the program stays ahead when the machine executes more instructions.
 stays_ahead : (s : meaning.State) (count : ℕ) (v w : World) → Run count v w → IsAhead s v → IsAhead s w
 stays_ahead s count v w run (seen, ends) = (
   ComesTo-trans (seen_of s) (seen_in v) (seen_in w) seen (Run-output count v w run, Run-input count v w run),

@@ -1,4 +1,5 @@
--- The image of a compiled program, loaded: its words are in the text and data ranges, as for the labelled machine.
+-- This file is about the image of a compiled program after it is loaded: its words are in the text and data
+-- ranges, as the labelled machine has them.
 use Rattle.std.proofs.Common.{◌≡◌, ℕ, zero, suc, ◌+◌, ◌-◌, ◌*◌, ◌/◌, ◌^◌, ◌≤◌, ◌<◌, List, [], ◌∷◌, ◌++◌, length, true, false, cond, ◌&&◌, nat_le, nat_lt, max, Option, None, Some, refl, sym, ap, ◌∙◌, arith, inl, inr, length-append, get_or, map}
 use Rattle.std.specs.Prelude.{slice_index, replicate, unwrap_or, All, AllPairs, sum_by}
 use Rattle.std.specs.List.{range_with_len, AllByRecursion, list_any}
@@ -38,7 +39,7 @@ pub length-bytes_of_words : (words : List ℕ) → length (bytes_of_words words)
 length-bytes_of_words [] = refl
 length-bytes_of_words (w ∷ words) = omega (arith, length-bytes_of_words words)
 
--- The word at an offset in bytes.
+-- The word that begins at a byte offset of a list of bytes.
 abbrev word_at : List ℕ → ℕ → ℕ
 word_at bytes at = word_of_bytes (slice_index bytes at ∷ slice_index bytes (at + 1) ∷ slice_index bytes (at + 2) ∷ slice_index bytes (at + 3) ∷ [])
 
@@ -62,7 +63,7 @@ word_at-words (w ∷ words) (suc k) (fits, fit) below =
 
 -- ---- one segment of words
 
--- A word of the segment.
+-- The machine finds a word of the segment at the word's address.
 word_inside : (vaddr flags : ℕ) (words : List ℕ) (k : ℕ) → AllByRecursion IsWord words → k < length words
     → segment_word (segment_of vaddr flags words) (padded (length (bytes_of_words words))) (vaddr + 4 * k) ≡ Some (slice_index words k)
 word_inside vaddr flags words k fit below =
@@ -76,7 +77,7 @@ word_inside vaddr flags words k fit below =
     ∙ ap (λ at. Some (word_at bytes at)) offset
     ∙ ap (λ (w : ℕ). Some w) (word_at-words words k fit below)
 
--- An address past the segment.
+-- The machine finds no word of the segment at an address past the segment.
 word_past : (vaddr flags : ℕ) (words : List ℕ) (address : ℕ) → vaddr + 4 * length words ≤ address
     → segment_word (segment_of vaddr flags words) (padded (length (bytes_of_words words))) address ≡ None
 word_past vaddr flags words address past =
@@ -173,7 +174,7 @@ some_at [] k below = absurd (omega arith)
 some_at (w ∷ words) zero below = refl
 some_at (w ∷ words) (suc k) below = some_at words k (omega arith)
 
--- The machine in its initial state, with its text and its data range.
+-- The machine in its initial state, with the image's text and data range.
 abbrev started : Bounds → StoreState → (input : List ℕ) → (text : List (Option ℕ)) → (globals : List ℕ) → World
 started limits store input text globals = record {
   machine = record {
@@ -190,7 +191,7 @@ module _ (words globals : List ℕ) (note : Option (ℕ × ℕ)) (some : 0 < len
   abbrev segments : List SegmentContents
   segments = text_segment words ∷ data_segments globals
 
-  -- The number T of words of text is that of the words.
+  -- The number of words of text of a program's image is the number of its words of code.
   pub text_words-image : text_words (program_image words globals note) ≡ length words
   text_words-image =
       sum_by-cons (λ s. cond (lies_in_text s) (padded s.size / 4) 0) (text_segment words) (data_segments globals)
@@ -229,7 +230,7 @@ module _ (words globals : List ℕ) (note : Option (ℕ × ℕ)) (some : 0 < len
   unfolding globals_of
   data_at_start = data_laid globals_length few
 
-  -- The machine starts with these words in its text and its data range.
+  -- The machine starts with these words in its text range and with the globals in its data range.
   pub image_starts : (code : Labelled) (limits : Bounds) (store : StoreState) (input : List ℕ) → code.globals ≡ globals
       → start_world (program_image words globals note) limits store input ≡ assembled.start code words store limits.calls input
   image_starts code limits store input same =

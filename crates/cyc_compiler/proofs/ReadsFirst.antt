@@ -1,5 +1,5 @@
--- A worked example. The program prints A and then returns the byte that it reads. An image that reads first also prints A and returns that
--- byte, but is no image of the program.
+-- This file has a worked example. The program prints A and then returns the byte that it reads. An image that reads the byte before it
+-- prints also prints A and returns that byte, but it is no image of the program.
 use Rattle.std.proofs.Common.{◌≡◌, ℕ, zero, suc, List, [], ◌∷◌, ◌++◌, Option, Some, None, Ok, refl, sym, ap, subst, ◌∙◌, arith}
 use Rattle.cyc_words.specs.Seen.{Seen, showing}
 use Rattle.cyc_words.specs.Word.{sign_extended}
@@ -30,7 +30,8 @@ use Rattle.cyc_compiler.proofs.Preservation.{are_alike}
 abbrev prints_first : Program
 prints_first = program (execute (print (Number 65)) ∷ return read_byte ∷ [])
 
--- The image: service 1 reads a byte into register 16; service 2 prints A; service 3 ends the run with the byte.
+-- The words of the image that reads first: service 1 reads a byte into register 16; service 2 prints A; service
+-- 3 ends the run with the byte.
 abbrev reads_first : ImageContents
 reads_first = program_image
     (0x24020001 ∷ 0x0000000c ∷ 0x00408021 ∷ 0x24040041 ∷ 0x24020002 ∷ 0x0000000c ∷ 0x02002021 ∷ 0x24020003 ∷ 0x0000000c ∷ []) [] None

@@ -1,4 +1,4 @@
--- The faults after the front end, for the text's program.
+-- This file proves the faults that a text's program has after the front end.
 use Rattle.std.proofs.Common.{Vec, Global, ◌≡◌, ◌⊎◌, inl, inr, ⊎_elim, ℕ, ◌≤◌, List, Result, Ok, Err, refl, sym, subst, length}
 use Rattle.std.specs.Prelude.{IfOk, IfErr, MatchResult}
 use Rattle.cyc_words.specs.declared.fault.Fault.{Fault}
@@ -18,7 +18,8 @@ use Rattle.cyc_compiler.specs.Compiled.{IsTooLarge, IsSmallEnough, IsSmall, IsCo
 use Rattle.cyc_compiler.specs.inside.Chain.{IsProgramOf}
 use Rattle.cyc_compiler.proofs.Sizes.{large_above, large_below, small_above, small_below}
 
--- The bytes of a file are an image of the program; further results may accompany them.
+-- The bytes of a file are an image of the program; other properties of the result may be added to
+-- this one.
 abbrev pub HasImage : Program → Vec ℕ Global → Type 0
 HasImage p file = IsImageOf p file.items
 
@@ -31,7 +32,7 @@ HasImagePlaced p made = HasImageBeside p made.compilation
 -- ---- the passes after the front end, for a typed program
 
 module _ {X : Type 0} (Image : Program → X → Type 0) (p : Program) where
-  -- A fault of the lowering is a fault of the compiler.
+  -- A fault of the lowering pass is a fault of the compiler.
   pub lowering_refuses : {Y : Type 0} (Gives : Program → Y → Type 0) (f : Fault) → Decides (lowering.IsAccepted p) Gives (HasTooMany p) (HasTooMany p) (Err f)
       → Decides (IsSmall p) Image (IsTooLarge p) (IsTooLarge p) (Err f)
   lowering_refuses Gives f d = record {
@@ -42,7 +43,7 @@ module _ {X : Type 0} (Image : Program → X → Type 0) (p : Program) where
   }
 
   module _ (lowered : PlainProgram) (is : IsProgramOf p lowered) (few : length p.functions ≤ max_functions) (none : (f : Fault) → HasTooMany p f → ⊥) where
-    -- A fault of the layout is a fault of the compiler.
+    -- A fault of the frame layout is a fault of the compiler.
     pub layout_refuses : {Y : Type 0} (Gives : PlainProgram → Y → Type 0) (f : Fault) → Decides (frames.IsAccepted lowered) Gives (frames.IsTooLarge lowered) (frames.IsTooLarge lowered) (Err f)
         → Decides (IsSmall p) Image (IsTooLarge p) (IsTooLarge p) (Err f)
     layout_refuses Gives f d = record {
@@ -52,7 +53,7 @@ module _ {X : Type 0} (Image : Program → X → Type 0) (p : Program) where
       refuses = λ fault large. ⊎_elim (λ many. absurd (none fault many)) (λ (enough, frame). d.refuses fault (large_below p lowered is fault frame)) large;
     }
 
-    -- If the layout succeeds, the program is compiled.
+    -- If the frame layout succeeds, then the program is compiled.
     module _ (small : HasSmallFrames lowered) (none_large : (f : Fault) → frames.IsTooLarge lowered f → ⊥) where
       fits : IsSmallEnough p
       fits = record { functions = few; frames = small_above p lowered is small }
@@ -86,7 +87,7 @@ module _ {X : Type 0} (Image : Program → X → Type 0) (p : Program) where
 -- ---- the same for a text
 
 module _ {X : Type 0} (Image : Program → X → Type 0) (text : List ℕ) where
-  -- The case of a text that the front end accepts.
+  -- The proof for a text that the front end accepts.
   module _ (p : Program) (accepted : IsAcceptedText text p) (only : (q : Program) → IsAcceptedText text q → p ≡ q) (no_fault : (f : Fault) → HasFault text f → ⊥) where
     small_accepted : (result : Result X Fault) → IfOk result (λ x. (q : Program) × IsSmall p q × Image q x) → IfOk result (λ x. (q : Program) × IsCompiledText text q × Image q x)
     small_accepted (Ok x) (q, (same, small), image) = (q, (subst (IsAcceptedText text) (sym same) accepted, small), image)
@@ -111,7 +112,7 @@ module _ {X : Type 0} (Image : Program → X → Type 0) (text : List ℕ) where
       refuses = after_refuses result d;
     }
 
-  -- The case of a text that the front end rejects.
+  -- The proof for a text that the front end rejects.
   refuses_last : {Y : Type 0} {Gives : Program → Y → Type 0} (f : Fault) → Decides (IsAcceptedText text) Gives (IsRefusedText text) (HasFault text) (Err f)
       → (fault : Fault) → HasFaultAtLast text fault → (f ≡ memory_fault) ⊎ (f ≡ fault)
   refuses_last f d fault (inl front) = d.refuses fault front

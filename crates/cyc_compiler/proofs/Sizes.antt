@@ -1,4 +1,5 @@
--- A program is too large exactly if its plain program has a frame that is too large, function by function.
+-- A source program has a frame that is too large exactly if its plain program has one, function by
+-- function.
 use Rattle.std.proofs.Common.{◌≡◌, ◌⊎◌, inl, inr, ℕ, zero, suc, ◌≤◌, ◌<◌, List, [], ◌∷◌, length, None, Some, refl, sym, ap, subst, ◌∙◌, arith, slice_get}
 use Rattle.std.specs.Prelude.{slice_index_or}
 use Rattle.cyc_words.specs.declared.fault.Fault.{Fault}
@@ -33,7 +34,7 @@ lowered_at (g ∷ hs) (r ∷ rs) (suc k) h (is, are) there =
 
 -- ---- a frame is too large in the source if it is in the plain program
 
--- The plain frame is as large as the source's frame, or neither frame is too large.
+-- Says that the plain frame is as large as the source's frame, or that neither frame is too large.
 abbrev IsFramed : (above below : ℕ) → Type 0
 IsFramed above below = (below ≡ above) ⊎ ((above ≤ max_frame_words) × (below ≤ max_frame_words))
 
@@ -54,7 +55,7 @@ small_as_below (inl same) small = omega (arith, same, small)
 small_as_below (inr (few, less)) small = less
 
 module _ (p : Program) (lowered : PlainProgram) (is : IsProgramOf p lowered) where
-  -- A fault of the layout is one of the source.
+  -- A fault of the frame layout is a fault of the source program.
   pub large_above : (f : Fault) → frames.IsTooLarge lowered f → HasLargeFrame p f
   large_above f l =
       let (h, there, made) = source_at p.functions lowered.functions l.function is.functions l.is_function in
@@ -84,7 +85,8 @@ module _ (p : Program) (lowered : PlainProgram) (is : IsProgramOf p lowered) whe
         column = ap (λ x. x.column) l.fault ∙ sym (ap (λ s. s.column) made.name);
       }
 
-  -- If no frame is too large in the source, none is in the plain program.
+  -- If no frame of the source program is too large, then no frame of the plain program is too
+  -- large.
   pub small_below : IsSmallEnough p → HasSmallFrames lowered
   small_below small = λ k below.
       let (h, at, made) = source_at p.functions lowered.functions k is.functions below in

@@ -1,5 +1,5 @@
--- The texts that are compiled, and the faults of all other texts: the front end of the compiler rejects a text, or its program is too large
--- for the later passes. The limits on functions and on frames are this project's own choice.
+-- This file defines the texts that are compiled, and the faults of all other texts. A text has a fault if the front end of the compiler
+-- rejects it, or if its program is too large for the later passes. The limits on functions and on frames are this project's own choice.
 use Rattle.std.specs.Prelude.{◌≡◌, ◌⊎◌, ℕ, ◌≤◌, ◌<◌, List, Some, length, slice_get}
 use Rattle.cyc_words.specs.declared.fault.Fault.{Fault}
 use Rattle.cyc_words.specs.declared.fault.Code.TheVariants.{FrameTooLarge}
@@ -8,7 +8,8 @@ use Rattle.cyc_meaning.specs.FrameCount.{frame_count}
 use Rattle.cyc_meaning.specs.Sizes.{max_functions, max_frame_words, HasTooMany}
 use Rattle.cyc_front.specs.Front.{IsAcceptedText, IsRefusedText, HasFault}
 
--- The first function whose frame may need more words than the maximum, as the fault `FrameTooLarge`.
+-- Says that a fault is `FrameTooLarge` at the first function whose frame may need more words than
+-- the maximum.
 pub record HasLargeFrame (p : Program) (f : Fault) : Type 0 where
   pub number : ℕ
   pub function : Function
@@ -17,31 +18,32 @@ pub record HasLargeFrame (p : Program) (f : Fault) : Type 0 where
   pub first : (k : ℕ) (g : Function) → k < number → slice_get p.functions k ≡ Some g → frame_count g ≤ max_frame_words
   pub fault : f ≡ record { code = FrameTooLarge; line = function.place.line; column = function.place.column }
 
--- A program is rejected with this fault because it is too large. Too many functions take precedence over large frames.
+-- Says that a program is rejected with this fault because it is too large. If a program has too many functions and
+-- also a large frame, then the fault is `TooManyFunctions`.
 abbrev pub IsTooLarge : Program → Fault → Type 0
 IsTooLarge p f = HasTooMany p f ⊎ ((length p.functions ≤ max_functions) × HasLargeFrame p f)
 
--- The program is not too large.
+-- Says that a program has at most the maximal number of functions and no frame that is too large.
 pub record IsSmallEnough (p : Program) : Type 0 where
   pub functions : length p.functions ≤ max_functions
   pub frames : (k : ℕ) (g : Function) → slice_get p.functions k ≡ Some g → frame_count g ≤ max_frame_words
 
--- The program, if it is not too large.
+-- Says that p is the given program, and that it is not too large.
 abbrev pub IsSmall : (given p : Program) → Type 0
 IsSmall given p = (p ≡ given) × IsSmallEnough p
 
--- The program of the text is too large.
+-- Says that the program of the text is too large.
 abbrev pub IsTooLargeText : List ℕ → Fault → Type 0
 IsTooLargeText text f = (p : Program) × IsAcceptedText text p × IsTooLarge p f
 
--- The text is compiled, with this typed program.
+-- Says that the text is compiled, with this typed program.
 abbrev pub IsCompiledText : List ℕ → Program → Type 0
 IsCompiledText text p = IsAcceptedText text p × IsSmallEnough p
 
--- A fault whose condition holds for the text or for its program.
+-- Says that the condition of a fault holds for the text or for its program.
 abbrev pub IsRefusedAtLast : List ℕ → Fault → Type 0
 IsRefusedAtLast text f = IsRefusedText text f ⊎ IsTooLargeText text f
 
--- The text has this fault and is rejected with no other.
+-- Says that the text is rejected with this fault and with no other.
 abbrev pub HasFaultAtLast : List ℕ → Fault → Type 0
 HasFaultAtLast text f = HasFault text f ⊎ IsTooLargeText text f

@@ -1,9 +1,9 @@
--- Full preservation: the file does what a program means and nothing else. The file prints what the program prints and reads what the
--- program reads, in the order of the program.
+-- This file defines full preservation: the file does what a program means and nothing else. The machine that runs the file prints
+-- what the program prints and reads what the program reads, in the order of the program.
 --
 -- The program has one limited run for each input. The machine has many runs of an image, since its services may choose; each of these runs
--- does what the program does. This project's own choice: the form of the promise, and its bound of instructions for each step of the
--- program.
+-- does what the program does. The form of this property, and its bound of instructions for each step of the program, are this project's
+-- own choice.
 use Rattle.std.specs.Prelude.{◌≡◌, ℕ, ◌+◌, ◌*◌, ◌/◌, ◌<◌, ◌≤◌, false, List, map, Some, Ok, sum_by, if◌then◌else◌}
 use Rattle.std.specs.List.{AllByRecursion}
 use Rattle.cyc_words.specs.Ending.{Ending}
@@ -34,11 +34,11 @@ use Rattle.cyc_compiler.specs.ProgramImage.{HasForm}
 abbrev pub text_words : ImageContents → ℕ
 text_words image = sum_by (λ s. if lies_in_text s then padded s.size / 4 else 0) image.segments
 
--- The number of words of data of a program's image: those of its globals.
+-- The number of words of data of a program's image, which are the words of the program's globals.
 abbrev pub data_words : Program → ℕ
 data_words p = words_of_all (map (λ (g : GlobalVariable). g.of_type) p.globals)
 
--- The machine has a place for each segment of the image.
+-- Says that the machine has memory for each segment of the image.
 abbrev pub IsLoadable : ImageContents → Type 0
 IsLoadable image = has_outside image ≡ false
 
@@ -46,8 +46,8 @@ IsLoadable image = has_outside image ≡ false
 abbrev pub limited : Program → Bounds → (input : List ℕ) → ℕ → State
 limited p limits input n = limited_run p limits.pages limits.calls input n
 
--- The image does what the program means, for all allowed limits, every new store with any words, and each input of bytes. With T words of
--- text, T instructions suffice for each step of the program, and T before the first.
+-- Says that the image does what the program means, for all allowed limits, every new store with any words, and each input of bytes. If
+-- the image has T words of text, then T instructions suffice for each step of the program, and T before the first step.
 abbrev pub DoesTheSame : Program → ImageContents → Type 0
 DoesTheSame p image =
     (limits : Bounds) (store : StoreState) (input : List ℕ) → AreAllowed limits.pages limits.calls → IsNew limits.pages store
@@ -55,8 +55,8 @@ DoesTheSame p image =
     → Preserves (source_machine p limits.pages limits.calls) world_machine (text_words image)
     (start p input) (start_world image limits store input)
 
--- A file is an image that the machine can load and that does what the program means. The file is the layout of the image, and the image has
--- the form for a program with this many words of data. Neither the file nor the image contains anything beyond this form.
+-- Says that a file is an image that the machine can load and that does what the program means. The file is the layout of the image, and the
+-- image has the form for a program with this many words of data. Neither the file nor the image contains anything beyond this form.
 pub record IsImageOf (p : Program) (file : List ℕ) : Type 0 where
   pub image : ImageContents
   pub read : reading file ≡ Ok image
@@ -64,27 +64,28 @@ pub record IsImageOf (p : Program) (file : List ℕ) : Type 0 where
   pub form : HasForm (data_words p) image
   pub loads : IsLoadable image
   pub does : DoesTheSame p image
-  -- The text of the image is bounded by a number of words for each token that the program's spelling needs, plus those of the start.
+  -- The text of the image has at most a fixed number of words for each token that the program's spelling needs, plus the words of
+  -- the start.
   pub few : text_words image ≤ max_start_words + size_per_weight * program_weight p
 
 -- ---- the statements of full preservation, in terms of the two runs
 
--- Within (n + 1) * T instructions the machine has printed and read at least as much as the program in n steps. If the program has ended, so
--- has the machine: in the same way, with equal output and equal remaining input.
+-- Says that within (n + 1) * T instructions the machine has printed and read at least as much as the program in n steps. If the program has
+-- ended, then the machine has ended in the same way, with equal output and equal remaining input.
 abbrev pub IsAhead : (program : State) → World → Type 0
 IsAhead s w =
     ComesTo (seen_of s) (seen_in w)
     × ((ending : Ending) → meaning.status_of s ≡ HasEnded ending
     → ((end : End) × (end_of w ≡ Some end) × (ending_of end ≡ Some ending)) × (seen_in w ≡ seen_of s))
 
--- The machine has printed what the program has printed in this state, and the remaining inputs are equal. If the machine has ended, so has
--- the program, in the same way.
+-- Says that the machine has printed what the program has printed in this state, and that the remaining inputs are equal. If the machine
+-- has ended, then the program has ended in the same way.
 abbrev pub IsAfter : World → (program : State) → Type 0
 IsAfter w s =
     (seen_in w ≡ seen_of s)
     × ((end : End) → end_of w ≡ Some end → (ending : Ending) × (ending_of end ≡ Some ending) × (meaning.status_of s ≡ HasEnded ending))
 
--- Each run of the machine, compared with the run of the program.
+-- Compares each run of the machine with the limited run of the program.
 pub record AreAlike (p : Program) (image : ImageContents) (limits : Bounds) (store : StoreState) (input : List ℕ) : Type 0 where
   pub ahead : (n : ℕ) (w : World) → Run ((n + 1) * text_words image) (start_world image limits store input) w
       → IsAhead (limited p limits input n) w
@@ -95,22 +96,23 @@ pub record AreAlike (p : Program) (image : ImageContents) (limits : Bounds) (sto
 
 -- ---- consequences for the output only
 
--- Within (n + 1) * T instructions the machine has printed at least what the program prints in n steps. If the program has ended, so has the
--- machine: in the same way and with equal output.
+-- Says that within (n + 1) * T instructions the machine has printed at least what the program prints in n steps. If the program has ended,
+-- then the machine has ended in the same way and with equal output.
 abbrev pub PrintsEnough : (program : State) → World → Type 0
 PrintsEnough s w =
     IsPrefix (meaning.output_of s) w.output
     × ((ending : Ending) → meaning.status_of s ≡ HasEnded ending
     → ((end : End) × (end_of w ≡ Some end) × (ending_of end ≡ Some ending)) × (w.output ≡ meaning.output_of s))
 
--- The machine has printed no more than the program. If the machine has ended, so has the program: in the same way and with equal output.
+-- Says that the machine has printed no more than the program. If the machine has ended, then the program has ended in the same way and
+-- with equal output.
 abbrev pub PrintsNoMore : World → (program : State) → Type 0
 PrintsNoMore w s =
     IsPrefix w.output (meaning.output_of s)
     × ((end : End) → end_of w ≡ Some end
     → ((ending : Ending) × (ending_of end ≡ Some ending) × (meaning.status_of s ≡ HasEnded ending)) × (meaning.output_of s ≡ w.output))
 
--- Each run of the machine prints what the program prints, and ends in the same way.
+-- Says that each run of the machine prints what the program prints, and ends in the same way.
 pub record PrintAlike (p : Program) (image : ImageContents) (limits : Bounds) (store : StoreState) (input : List ℕ) : Type 0 where
   pub enough : (n : ℕ) (w : World) → Run ((n + 1) * text_words image) (start_world image limits store input) w
       → PrintsEnough (limited p limits input n) w

@@ -1,10 +1,10 @@
--- the definitions that the contract of `compile` rests on
+-- These modules contain the definitions to which the contract of `compile` refers.
 pub mod Compiled
 pub mod FullPreservation
 pub mod Asking
 pub mod ProgramImage
--- the definitions that the contract of `bounds` rests on
+-- These modules contain the definitions to which the contract of `bounds` refers.
 pub mod Needs
--- Contracts between this crate's functions, and statements of its proofs. No public contract of the product depends on these internal
--- definitions.
+-- This module has the contracts between this crate's functions, and the statements of its proofs. No public contract of the product
+-- depends on these internal definitions.
 pub mod inside

@@ -1,5 +1,5 @@
--- The bounds of a program's needs for every input, reported before it runs: calls, pages and steps. Each bound is defined by the
--- computation that derives it from the program. The choice of reported needs is this project's own choice.
+-- This file defines the bounds of a program's needs for every input, reported before it runs: calls, pages and steps. Each bound
+-- is defined by the computation that derives it from the program. The choice of reported needs is this project's own choice.
 use Rattle.cyc_types.specs.TypedTrees.{Program}
 use Rattle.cyc_bound.specs.Bound.{IsAnswer}
 use Rattle.cyc_bound.specs.Pages.{IsPageAnswer}

@@ -1,2 +1,2 @@
--- the contracts between the functions inside the crate
+-- This module defines the contracts between the functions inside the crate.
 pub mod Chain

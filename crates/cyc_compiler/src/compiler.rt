@@ -38,7 +38,7 @@ use cyc_words::Fault;
 use std::alloc::Global;
 
 /// Compiles a plain program with the frames of its functions. The bytes are an image of each source program that was lowered to the plain
-/// one, if no run of it is dead or wrong.
+/// program, if no run of the source program is dead or wrong.
 fn compile_plain(
     alloc: Global,
     plain: Plain,
@@ -52,7 +52,8 @@ fn compile_plain(
     ensures refused { IfErr result (λ f. f ≡ memory_fault) }
 {
     let code = select(alloc, &plain, &frames)?;
-    // Dropped early, so that their memory can be used for the words and the file.
+    // The plain program and its frames are dropped early, so that their memory can be used for the
+    // words and the file.
     drop(plain);
     drop(frames);
     let words = assemble(alloc, &code)?;
@@ -60,10 +61,11 @@ fn compile_plain(
     Ok(file)
 }
 
-/// The most words of text for each token of the program's weight.
+/// The largest number of words of text for each token of the program's weight.
 const SIZE_PER_WEIGHT: usize = 100;
 
-/// Returns the most words that the code of a program may have after inlining. If the program already has more words, nothing is inlined.
+/// Returns the largest number of words that the code of a program may have after inlining. If the program already has more words, then
+/// nothing is inlined.
 pub(crate) fn room_for(tree: &TypedTree) -> usize
     requires { program_weight (view_program tree.now) ≤ max_tokens }
     ensures { result ≡ size_per_weight * program_weight (view_program tree.now) }
@@ -71,8 +73,8 @@ pub(crate) fn room_for(tree: &TypedTree) -> usize
     SIZE_PER_WEIGHT * weight_of(tree)
 }
 
-/// Returns the plain program of a typed one, optimised: small functions are inlined, recomputed expressions have slots of their own, and
-/// known values are propagated. Every returned fault is one of the lowering.
+/// Returns the optimised plain program of a typed program: small functions are inlined, recomputed expressions have slots of their own,
+/// and known values are propagated. Every returned fault is a fault of the lowering.
 fn lower_improved(alloc: Global, program: &Flowed) -> Result<Plain, Fault>
     requires well_typed { IsWellTypedProgram (view_program program.now.tree) }
     requires small { program_weight (view_program program.now.tree) ≤ max_tokens }
@@ -125,19 +127,20 @@ pub fn compile_with_tokens(
     note: Option<(u32, u32)>,
 ) -> Result<Compilation, Fault>
     requires { AreAllowedIfAny note }
-    // The results and faults are those of `compile_with`.
+    // The results and faults of `compile_with_tokens` are those of `compile_with`.
     ensures decides { Decides (IsCompiledText text.now) (λ p made. IsImageOf p made.image.items) (IsRefusedAtLast text.now) (HasFaultAtLast text.now) result }
-    // The tokens are those of the text, and the typed tree is its program.
+    // The returned tokens are those of the text, and the returned typed tree is the program of the
+    // text.
     ensures tokens { IfOk result (λ made. HasTokens text.now made.tokens.items) }
     ensures program { IfOk result (λ made. IsAcceptedText text.now (view_program made.program.tree)) }
     // No step of any run of the program is dead or wrong, for every input and without limits.
     ensures sound { IfOk result (λ _. (p : Program) → IsAcceptedText text.now p → IsSound p) }
-    // The image contains the given limits of runs.
+    // The image contains the limits of runs in `note`.
     ensures note { IfOk result (λ made. Carries made.image.items note) }
 {
     let phases = run_phases(alloc, text)?;
     let warnings = find_warnings(alloc, &phases.tree, text);
-    // Dropped early: the memory of the tree suffices for all later passes.
+    // The untyped tree is dropped early: its memory suffices for all later passes.
     drop(phases.tree);
     let image = build(alloc, &phases.program, note)?;
     Ok(Compilation {
@@ -148,21 +151,23 @@ pub fn compile_with_tokens(
     })
 }
 
-/// Compiles a text to an image with optional limits of its runs, pages and calls, and returns the bytes of its file.
+/// Compiles a text to an image with optional limits of its runs, on pages and calls, and returns the bytes of the
+/// image's file.
 ///
-/// The front end comes first, and its faults are returned. An accepted program is rejected with `TooManyFunctions` at the name of the
-/// 4,097th function. A program within that limit is rejected with `FrameTooLarge` at the name of the first function whose frame may need
-/// more than 256 words. Lack of memory is another error.
+/// The front end runs first, and its faults are returned. An accepted program is rejected with `TooManyFunctions` at the name of the
+/// 4,097th function. A program with at most 4,096 functions is rejected with `FrameTooLarge` at the name of the first function whose
+/// frame may need more than 256 words. Lack of memory is another error.
 pub fn compile_with(alloc: Global, text: &[u8], note: Option<(u32, u32)>) -> Result<Vec<u8>, Fault>
     requires { AreAllowedIfAny note }
     // The result is an image that the machine can load and that does what the program of the text means. At every point the machine's
     // output, together with the rest of its input, is that of the limited program after some number of steps. The machine ends as the
-    // program does, and does nothing else. Each fault is one of the front end, or states that the program is too large.
+    // program does, and does nothing else. Each returned fault is a fault of the front end, or states that the program is too large.
     ensures decides { Decides (IsCompiledText text.now) (λ p file. IsImageOf p file.items) (IsRefusedAtLast text.now) (HasFaultAtLast text.now) result }
-    // No step of any run of the program is dead or wrong, for every input and without limits: none accesses a cell of a closed region or a
-    // freed object.
+    // No step of any run of the program is dead or wrong, for every input and without limits. In particular, no step accesses a cell of a
+    // closed region or of a freed object.
     ensures sound { IfOk result (λ _. (p : Program) → IsAcceptedText text.now p → IsSound p) }
-    // The image contains the given limits of runs. Limits do not affect the image's meaning: whoever runs it sets the limits of the run.
+    // The image contains the limits of runs in `note`. These limits do not affect the image's meaning: the user who runs the image sets
+    // the limits of the run.
     ensures note { IfOk result (λ file. Carries file.items note) }
 {
     let made = compile_with_tokens(alloc, text, note)?;
@@ -173,10 +178,10 @@ pub fn compile_with(alloc: Global, text: &[u8], note: Option<(u32, u32)>) -> Res
 pub fn compile(alloc: Global, text: &[u8]) -> Result<Vec<u8>, Fault>
     // The result is an image that the machine can load and that does what the program of the text means. At every point the machine's
     // output, together with the rest of its input, is that of the limited program after some number of steps. The machine ends as the
-    // program does, and does nothing else. Each fault is one of the front end, or states that the program is too large.
+    // program does, and does nothing else. Each returned fault is a fault of the front end, or states that the program is too large.
     ensures decides { Decides (IsCompiledText text.now) (λ p file. IsImageOf p file.items) (IsRefusedAtLast text.now) (HasFaultAtLast text.now) result }
-    // No step of any run of the program is dead or wrong, for every input and without limits: none accesses a cell of a closed region or a
-    // freed object.
+    // No step of any run of the program is dead or wrong, for every input and without limits. In particular, no step accesses a cell of a
+    // closed region or of a freed object.
     ensures sound { IfOk result (λ _. (p : Program) → IsAcceptedText text.now p → IsSound p) }
     // The image contains no limits of runs.
     ensures note { IfOk result (λ file. Carries file.items None) }

@@ -1,4 +1,5 @@
-//! The image of a compiled program: its words of text, and the initial values of its globals.
+//! This file builds the image of a compiled program from its words of text and the initial values
+//! of its globals.
 
 ghost use Rattle.std.specs.Prelude.{◌≡◌, ◌+◌, ◌*◌, ◌^◌, ◌<◌, ◌≤◌, Ok, IfOk, length};
 ghost use Rattle.std.specs.List.{AllByRecursion};
@@ -33,7 +34,7 @@ fn bytes_of_words(alloc: Global, words: &[u32]) -> Result<Vec<u8>, AllocError>
     Ok(bytes)
 }
 
-/// Returns a segment of words.
+/// Returns a segment that contains these words.
 fn segment_of(alloc: Global, vaddr: u32, flags: u32, words: &[u32]) -> Result<Segment, AllocError>
     requires { 4 * length words.now < 2 ^ 32 }
     ensures segment { IfOk result (λ segment. segment_contents segment ≡ segment_of vaddr flags words.now) }
@@ -49,7 +50,8 @@ fn segment_of(alloc: Global, vaddr: u32, flags: u32, words: &[u32]) -> Result<Se
     })
 }
 
-/// Returns the image of a program: a segment of text, one of data if there are globals, and the limits.
+/// Returns the image of a program: a segment of text, a segment of data if there are globals, and the
+/// limits.
 fn image_of_program(
     alloc: Global,
     words: &[u32],

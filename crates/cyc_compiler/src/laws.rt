@@ -21,12 +21,12 @@ ghost use Rattle.cyc_compiler.specs.FullPreservation.{limited, DoesTheSame, IsAh
 ghost use Rattle.cyc_compiler.specs.Asking.{RunWithin, AsksAtTheEnd};
 
 /// The program of an accepted text has properties beyond the typing rules. In the program of an accepted text, structs have from 1 to 64
-/// fields, the numbers of exceptions are words, and each chain of pointer arithmetic is written separately.
+/// fields, the numbers of exceptions are 32-bit words, and each chain of pointer arithmetic is written separately.
 pub fn accepted_programs_are_of_texts()
     ensures { (text : List ℕ) (p : Program) → IsAcceptedText text p → IsOfTextProgram p }
 {}
 
-/// The result of `compile` is read as an image, and the machine has a place for it.
+/// The result of `compile` is read as an image, and the machine has memory for the image.
 pub fn compiled_images_load()
     ensures { (p : Program) (file : List ℕ) → IsImageOf p file → (image : ImageContents) × (reading file ≡ Ok image) × IsLoadable image }
 {}
@@ -55,9 +55,9 @@ pub fn images_run_alike()
         → AllByRecursion (λ b. b < 256) input → AreAlike p image limits store input }
 {}
 
-/// Consequence for the output only: within (n + 1) * T instructions the machine has printed at least what the limited run prints in n
-/// steps. If the limited run has ended, the machine has ended in the same way, with equal output. The machine's output is always a prefix
-/// of the limited run's, and if the machine has ended, so has the limited run, in the same way.
+/// Each run prints what the program prints: within (n + 1) * T instructions the machine has printed at least what the limited run prints
+/// in n steps. If the limited run has ended, then the machine has ended in the same way, with equal output. The machine's output is
+/// always a prefix of the limited run's output, and if the machine has ended, then the limited run has ended in the same way.
 pub fn images_print_alike()
     ensures { (p : Program) (image : ImageContents) → DoesTheSame p image
         → (limits : Bounds) (store : StoreState) (input : List ℕ) → AreAllowed limits.pages limits.calls → IsNew limits.pages store
@@ -66,7 +66,7 @@ pub fn images_print_alike()
 
 /// An image that does what a program means has one result over every store that satisfies the laws. Suppose a run over one store has ended;
 /// then every run over another store ends in the same way within some number of instructions, with the same output and remaining input. The
-/// law does not bound that number by the first run's.
+/// law does not bound the number of these instructions by the length of the first run.
 pub fn images_end_alike_over_every_store()
     ensures { (p : Program) (image : ImageContents) → DoesTheSame p image
         → (limits : Bounds) (one other : StoreState) (input : List ℕ) → AreAllowed limits.pages limits.calls → IsNew limits.pages one → IsNew limits.pages other
@@ -76,8 +76,9 @@ pub fn images_end_alike_over_every_store()
         → ((last : End) × (end_of w ≡ Some last) × (ending_of last ≡ ending_of end)) × (seen_in w ≡ seen_in v)) }
 {}
 
-/// If an image requests a byte after the end of its input for the first time, so does its program. Given one more byte, whichever, the
-/// program reads it, and has printed exactly what the image has. Before it requests a byte, an image cannot know that its input has ended.
+/// If an image requests a byte after the end of its input for the first time, then its program does so too. With one more byte of input,
+/// the program reads this byte, and has printed exactly what the image has printed. Before an image requests a byte, it cannot know that
+/// its input has ended.
 pub fn asks_only_what_is_asked()
     ensures { (p : Program) (image : ImageContents) → DoesTheSame p image
         → (limits : Bounds) (store : StoreState) (input : List ℕ) (b : ℕ) → AreAllowed limits.pages limits.calls → IsNew limits.pages store

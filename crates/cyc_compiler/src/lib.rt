@@ -1,4 +1,5 @@
-//! The compiler as calls: a text is compiled to an image, with the origins of its words if wanted, or the program's needs are reported.
+//! This crate offers the compiler as functions: a text is compiled to an image, with the origins of the image's words if wanted, or the
+//! program's needs are reported.
 #![tactic(auto)]
 
 mod bounded;

@@ -1,4 +1,4 @@
-//! The needs of an accepted program, reported before it runs.
+//! This file reports the needs of an accepted program before the program runs.
 ghost use Rattle.std.specs.Prelude.{IfOk};
 ghost use Rattle.cyc_words.specs.Decision.{Decides};
 ghost use Rattle.cyc_types.specs.TypedTreeView.{view_program};
@@ -27,11 +27,12 @@ fn bounds_of(alloc: Global, tree: &TypedTree) -> Result<Bounds, AllocError>
     })
 }
 
-/// Returns the result of `bounds` with the text's tokens and its typed tree, from which a report is made.
+/// Returns the result of `bounds` with the text's tokens and its typed tree, from which the caller makes
+/// a report.
 pub fn bounds_with_tokens(alloc: Global, text: &[u8]) -> Result<Bounded, Fault>
-    // The results and faults are those of `bounds`.
+    // The results and faults of `bounds_with_tokens` are those of `bounds`.
     ensures decides { Decides (IsAcceptedText text.now) (λ p bounded. AreBounds p bounded.bounds) (IsRefusedText text.now) (HasFault text.now) result }
-    // The tokens are those of the text.
+    // The returned tokens are those of the text.
     ensures tokens { IfOk result (λ bounded. HasTokens text.now bounded.tokens.items) }
 {
     let phases = run_phases(alloc, text)?;
@@ -50,12 +51,12 @@ pub fn bounds_with_tokens(alloc: Global, text: &[u8]) -> Result<Bounded, Fault>
 
 /// Returns the bounds of what the runs of a text's program need.
 ///
-/// The front end comes first, and its faults are returned. Lack of memory is another error.
+/// The front end runs first, and its faults are returned. Lack of memory is another error.
 pub fn bounds(alloc: Global, text: &[u8]) -> Result<Bounds, Fault>
-    // The bound on calls is the height of `main`: no run has more active calls, so none is full for lack of calls if its limits allow as
-    // many (`calls_stay_within` of `cyc_bound`). If there is no bound, the reported cycle of calls is a cycle. The bounds on pages and
-    // steps come from the costs of the functions. No run is full for lack of pages if its limits allow as many (`pages_stay_within`), and
-    // each run ends within the steps (`steps_end`).
+    // The bound on calls is the height of `main` in the call graph: no run has more active calls. Hence no run is full for lack of calls
+    // if its limits allow as many (`calls_stay_within` of `cyc_bound`). If there is no bound, then the reported cycle of calls is a
+    // cycle. The bounds on pages and steps come from the costs of the functions. No run is full for lack of pages if its limits allow as
+    // many (`pages_stay_within`), and each run ends within the bound on steps (`steps_end`).
     ensures decides { Decides (IsAcceptedText text.now) AreBounds (IsRefusedText text.now) (HasFault text.now) result }
 {
     let program = accept(alloc, text)?;

@@ -1,4 +1,4 @@
-//! The origins of an image's words in the text of its program.
+//! This file finds the origins of an image's words in the text of its program.
 
 ghost use Rattle.std.specs.Prelude.{◌≡◌, ◌≤◌, IfOk, length};
 ghost use Rattle.cyc_words.specs.Decision.{Decides};
@@ -32,7 +32,7 @@ use cyc_warnings::find_warnings;
 use cyc_words::{Fault, Span};
 use std::alloc::{AllocError, Global};
 
-/// A compilation, with the origins of its image's words.
+/// A compilation together with the origins of its image's words.
 #[derive(Drop)]
 pub struct Placed {
     pub compilation: Compilation,
@@ -55,7 +55,8 @@ fn exceptions_of(alloc: Global, tree: &Tree) -> Result<Vec<Declared>, AllocError
     Ok(exceptions)
 }
 
-/// Returns the number of the mark of an instruction, given that of an earlier one.
+/// Returns the number of the mark (a source position that the lowering noted) that belongs to an
+/// instruction, given the mark of an earlier instruction.
 fn mark_at(marks: &Marks, before: usize, number: usize) -> usize {
     let mut found = before;
     for next in before.saturating_add(1)..marks.marks.len() {
@@ -67,7 +68,7 @@ fn mark_at(marks: &Marks, before: usize, number: usize) -> usize {
     found
 }
 
-/// Returns true if an instruction rethrows the exception that a handler received; a `throw` of the text names its exception.
+/// Returns true if an instruction rethrows the exception that a handler received; a `throw` in the text names its exception.
 fn is_passing(instruction: &Instruction) -> bool {
     matches!(
         instruction,
@@ -78,14 +79,14 @@ fn is_passing(instruction: &Instruction) -> bool {
     )
 }
 
-/// The origin of a line, and the call that it was inlined for, if any.
+/// The origin of a line of code, and the call for which the line was inlined, if any.
 #[derive(Clone, Copy, PartialEq, Eq)]
 struct Cause {
     source: Source,
     site: Option<Site>,
 }
 
-/// Appends this cause for all lines up to a number.
+/// Appends a cause for each line of code up to a number.
 fn fill(causes: &mut Vec<Cause>, end: usize, cause: Cause) -> Result<(), AllocError> {
     for _ in causes.len()..end {
         causes.push(cause)?;
@@ -98,7 +99,8 @@ fn own_cause(source: Source) -> Cause {
     Cause { source, site: None }
 }
 
-/// Returns the position of the mark of this number, or else that of the name.
+/// Returns the source position of the mark with this number or, if there is none, the position of
+/// the function's name.
 fn span_of(marks: &Marks, mark: usize, name: Span) -> Span {
     match marks.marks.get(mark) {
         Some(mark) => mark.span,
@@ -106,18 +108,20 @@ fn span_of(marks: &Marks, mark: usize, name: Span) -> Span {
     }
 }
 
-/// The lowered program: the functions, their inlined versions, and the marks of each.
+/// The lowered program: the functions, their inlined versions, and the source positions noted for
+/// each function.
 #[derive(Clone, Copy)]
 struct Lowered<'a> {
-    /// For each function, its origin if inlining changed it.
+    /// For each function, its version before inlining and the origins of its instructions, if
+    /// inlining changed it.
     opened: &'a [Option<Opened>],
-    /// The program in which expressions have slots of their own.
+    /// The program after recomputed expressions got slots of their own.
     named: &'a Inlined,
     marks: &'a [Marks],
 }
 
 impl<'a> Lowered<'a> {
-    /// Returns the function of this number, as it was lowered.
+    /// Returns the function with this number, as it was lowered.
     fn function(&self, number: usize) -> Option<&'a Function> {
         match self.opened.get(number)? {
             Some(opened) => Some(&opened.given),
@@ -125,7 +129,7 @@ impl<'a> Lowered<'a> {
         }
     }
 
-    /// Returns the function of this number after inlining.
+    /// Returns the function with this number after inlining.
     fn inlined(&self, number: usize) -> Option<&'a Function> {
         match self.named.opened.get(number)? {
             Some(opened) => Some(&opened.given),
@@ -133,7 +137,7 @@ impl<'a> Lowered<'a> {
         }
     }
 
-    /// Returns the origin of an instruction of the inlined function of this number.
+    /// Returns the origin of an instruction of the inlined function with this number.
     fn origin(&self, function: usize, index: usize) -> Option<Origin> {
         match self.opened.get(function)? {
             Some(opened) => opened.origins.get(index).copied(),
@@ -142,7 +146,8 @@ impl<'a> Lowered<'a> {
     }
 }
 
-/// Returns the origin of the instruction of this number, in the function of that number.
+/// Returns the source of the instruction with index `number` in the function with number
+/// `function`.
 fn source_of(
     code: &[Instruction],
     marks: &Marks,
@@ -161,7 +166,7 @@ fn source_of(
     }
 }
 
-/// Returns the cause of an instruction that was inlined for a call.
+/// Returns the cause of an instruction that was inlined at a call.
 fn inlined_cause(lowered: Lowered<'_>, origin: Origin, site: Site) -> Cause {
     let (Some(function), Some(marks)) = (
         lowered.function(origin.function),
@@ -196,18 +201,20 @@ fn rest_of(function: &Function) -> usize {
     count
 }
 
-/// The inlined calls of a function, and how much of each is still to come after its code.
+/// The inlined calls of a function, and for each call how many of its instructions come after the
+/// function's own code.
 #[derive(Drop)]
 struct Sites {
     sites: Vec<(Site, usize)>,
-    /// The first inlined call of which a part is still to come.
+    /// The first inlined call with instructions that have not been visited yet.
     next: usize,
-    /// The total number of instructions still to be visited.
+    /// The total number of instructions that have not been visited yet.
     left: usize,
 }
 
 impl Sites {
-    /// Notes an inlined call.
+    /// Records an inlined call and the number of its instructions that come after the caller's
+    /// code.
     fn note(&mut self, site: Site, callee: Option<&Function>) -> Result<(), AllocError> {
         let rest = match callee {
             Some(function) => rest_of(function),
@@ -218,7 +225,8 @@ impl Sites {
         Ok(())
     }
 
-    /// Returns the call of an inlined instruction, given the number of instructions of the function's code from it on.
+    /// Returns the call to which an inlined instruction belongs, given the number of instructions from it to the end
+    /// of the function's code.
     fn site_at(&mut self, left: usize) -> Option<Site> {
         if left > self.left {
             return Some(self.sites.last()?.0);
@@ -236,19 +244,19 @@ impl Sites {
     }
 }
 
-/// The origin data of a function's code, and its lines.
+/// The data from which the origins of a function's lines are computed, and these lines.
 #[derive(Clone, Copy)]
 struct Lines<'a> {
     /// The number of the function.
     number: usize,
     /// The function's code after inlining.
     code: &'a [Instruction],
-    /// The first line of each instruction, and the line after the last.
+    /// The first line of each instruction, and the line after the last instruction.
     lines: &'a [usize],
     end: usize,
 }
 
-/// Appends the cause of each line of a function.
+/// Appends the cause of each line of a function's code.
 fn add_function(
     alloc: Global,
     causes: &mut Vec<Cause>,
@@ -302,7 +310,8 @@ fn add_function(
     Ok(())
 }
 
-/// Returns the first line of each instruction after inlining, given those of the instructions made from them.
+/// Returns the first line of each instruction after inlining, given the first lines of the instructions that
+/// were made from it.
 fn lines_before(
     alloc: Global,
     named: Option<&Opened>,
@@ -321,7 +330,7 @@ fn lines_before(
     Ok(firsts)
 }
 
-/// Returns the cause of each line of the code.
+/// Returns the cause of each line of the code of all functions.
 fn causes_of_lines(
     alloc: Global,
     lowered: Lowered<'_>,
@@ -351,7 +360,7 @@ fn causes_of_lines(
     Ok(causes)
 }
 
-/// Returns the stretches of words that are made from these lines.
+/// Returns the stretches of words that are made from lines with equal causes.
 fn stretches_of(
     alloc: Global,
     numbers: &[usize],
@@ -375,7 +384,7 @@ fn stretches_of(
     Ok(stretches)
 }
 
-/// Returns the address of the word of this number.
+/// Returns the address of the word with this number.
 fn address_of(word: usize) -> u32 {
     let word = u32::try_from(word).unwrap_or(u32::MAX);
     TEXT_BASE.saturating_add(word.saturating_mul(4))
@@ -423,7 +432,7 @@ pub fn compile_with_places(
     note: Option<(u32, u32)>,
 ) -> Result<Placed, Fault>
     requires { AreAllowedIfAny note }
-    // The results and faults are those of `compile_with`.
+    // The results and faults of `compile_with_places` are those of `compile_with`.
     ensures decides { Decides (IsCompiledText text.now) (λ p made. IsImageOf p made.compilation.image.items) (IsRefusedAtLast text.now)
         (HasFaultAtLast text.now) result }
     ensures tokens { IfOk result (λ made. HasTokens text.now made.compilation.tokens.items) }
@@ -437,7 +446,7 @@ pub fn compile_with_places(
     drop(phases.tree);
     let image = build(alloc, &phases.program, note)?;
     let Ok(places) = places_of(alloc, &phases.program, exceptions) else {
-        // Every other fault was reported before there was an image.
+        // Every fault except lack of memory was reported before there was an image.
         return Err(Fault::memory());
     };
     Ok(Placed {

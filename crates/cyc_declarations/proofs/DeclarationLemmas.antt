@@ -1,4 +1,4 @@
--- The declarations of a program are checked first, and then its bodies.
+-- The checker first checks the declarations of a program, and then its function bodies.
 use Rattle.std.proofs.Common.{◌≡◌, ℕ, List, Ok, Err, refl, sym, ap}
 use Rattle.cyc_syntax.specs.Trees.{Declaration}
 use Rattle.cyc_types.specs.TypedTrees as typed
@@ -13,14 +13,14 @@ regrouped (Ok x) (Ok y) c next = refl
 regrouped (Ok x) (Err f) c next = refl
 regrouped (Err f) b c next = refl
 
--- the result for a program, given its declarations
+-- the check of a program first collects the declarations, and then checks the functions
 pub bodies_after : (texts : List (List ℕ)) (tree : List Declaration)
     → check_of texts tree ≡ and_then (collected_program texts tree) (λ p. run (Part (rule_functions p tree) (λ fs. gives (program_of p tree fs))))
 bodies_after texts tree =
     regrouped (run (rule_declarations (known_of texts tree) (before_all texts) tree)) (run (rule_main (known_of texts tree).main tree)) (program_known texts tree)
     (λ p. run (Part (rule_functions p tree) (λ fs. gives (program_of p tree fs))))
 
--- the declarations of a program, if they are well-formed
+-- if the declarations of a program are well-formed, collecting them gives `program_known`
 pub declared_is : (texts : List (List ℕ)) (tree : List Declaration) (p : Program) → collected_program texts tree ≡ Ok p → p ≡ program_known texts tree
 declared_is texts tree p e = go (run (rule_declarations (known_of texts tree) (before_all texts) tree)) (run (rule_main (known_of texts tree).main tree)) e
   where
@@ -29,6 +29,7 @@ declared_is texts tree p e = go (run (rule_declarations (known_of texts tree) (b
     go (Ok x) (Err f) e = absurd (cc)
     go (Err f) b e = absurd (cc)
 
--- the typed program with these declarations
+-- the typed program that the code makes from its declarations and functions equals the typed
+-- program that the rules define
 pub made_is : (texts : List (List ℕ)) (tree : List Declaration) (fs : List typed.Function) → program_made (known_of texts tree) tree fs ≡ program_of (program_known texts tree) tree fs
 made_is texts tree fs = refl

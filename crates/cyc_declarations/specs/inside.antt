@@ -1,6 +1,6 @@
--- the result of `collect`, and the parts of a program besides its functions
+-- the result of `collect`, and the parts of a typed program other than its functions
 pub mod DeclarationRules
 pub mod Parts
--- the contracts between the functions of the crate
+-- the contracts between functions of this crate
 pub mod Declaring
 pub mod KeyTables

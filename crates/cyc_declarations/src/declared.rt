@@ -1,4 +1,4 @@
-//! The declarations of a program.
+//! Collects the declarations of a program.
 ghost use Rattle.std.specs.Prelude.{◌≡◌, suc, map, replicate, IfOk, OnOk, IfErr};
 ghost use Rattle.cyc_syntax.specs.inside.TreeView.{view_declaration, view_constructor};
 ghost use Rattle.cyc_types.specs.Types.{Int};
@@ -18,18 +18,18 @@ use cyc_types::{Known, Region, RegionNames, Signature, Ty};
 use smallvec::SmallVec;
 use std::alloc::{AllocError, Global};
 
-/// The declarations so far.
+/// The declarations of a program that have been added so far.
 #[derive(Drop)]
 struct Declared {
     program: Program,
-    /// The number of the next global.
+    /// The number that the next global gets.
     globals: usize,
     functions: usize,
-    /// The region names of the current declaration.
+    /// The region names that the current declaration knows.
     regions: RegionNames,
 }
 
-/// Returns the signature of a built-in function that takes this number of ints and returns one.
+/// Returns the signature of a built-in function with `count` int parameters and an int result.
 fn signature_of_ints(alloc: Global, count: usize) -> Result<Signature, AllocError>
     ensures { IfOk result (λ s. view_signature s ≡ signature_of_ints (replicate count Int)) }
 {
@@ -46,7 +46,7 @@ fn signature_of_ints(alloc: Global, count: usize) -> Result<Signature, AllocErro
     })
 }
 
-/// Returns the built-in declarations of a program with these known names.
+/// Returns the built-in declarations of a program, from the names known in the program.
 fn program_before(alloc: Global, names: &Names, known: Known) -> Result<Program, Stop>
     ensures program { IfOk result (λ p. p ≡ program_before names.now known) }
     ensures memory { IfErr result (λ e. e ≡ Memory) }
@@ -63,7 +63,7 @@ fn program_before(alloc: Global, names: &Names, known: Known) -> Result<Program,
     Ok(program)
 }
 
-/// Returns the successor of a number.
+/// Returns the number plus one, or fails on overflow.
 fn next(number: usize) -> Result<usize, Stop>
     ensures next { IfOk result (λ n. n ≡ suc number) }
     ensures memory { IfErr result (λ e. e ≡ Memory) }
@@ -156,7 +156,7 @@ impl Declared {
             .declare_function(name.name.number, Callee::Function { number }, signature)
     }
 
-    /// Adds one declaration to those so far.
+    /// Adds one declaration to the declarations added so far.
     fn declare(&mut self, alloc: Global, declaration: &Declaration) -> Result<(), Stop>
         ensures declared { OnOk result (state_of self.new ≡ after_declaration (view_declaration declaration.now) (state_of self.old)) }
         ensures memory { IfErr result (λ e. e ≡ Memory) }
@@ -183,7 +183,8 @@ impl Declared {
     }
 }
 
-/// Returns the declarations of a program with these known names, including the built-in ones.
+/// Returns all declarations of a program, including the built-in ones, from the names known in the
+/// program.
 pub(crate) fn program_declared(
     alloc: Global,
     names: &Names,

@@ -1,4 +1,4 @@
-//! Names that differ from each other and from the known ones.
+//! Checks that names differ from each other and from the names already known.
 ghost use Rattle.std.specs.Prelude.{◌≡◌, ◌∷◌, not, map, OnOk};
 ghost use Rattle.cyc_words.specs.declared.fault.Code.TheVariants as codes;
 ghost use Rattle.cyc_syntax.specs.inside.TreeView.{place_of_span, view_name, view_constructor};
@@ -12,7 +12,7 @@ use cyc_types::NameSet;
 use cyc_words::Code;
 use std::alloc::AllocError;
 
-/// Settles that a name is not yet in the set, and adds it.
+/// Demands that a name is not yet in the set, and adds the name to the set.
 fn demand_new(settled: &mut Settled, known: &mut NameSet, name: Ident) -> Result<(), AllocError>
     ensures settled { OnOk result (settled.new.known ≡ noted settled.old.known
         (demand codes.DeclaredTwice (place_of_span name.span) (not (is_among name.name.number known.old)))) }
@@ -22,7 +22,7 @@ fn demand_new(settled: &mut Settled, known: &mut NameSet, name: Ident) -> Result
     known.add(name.name.number)
 }
 
-/// Checks that a name is new, and adds it to the known names.
+/// Checks that a name is new, and adds the name to the known names.
 pub(crate) fn check_new(known: &mut NameSet, name: Ident) -> Result<(), Stop>
     ensures gives { Gives (λ _. tt) result (run (rule_new known.old (view_name name))) }
     ensures known { OnOk result (known.new ≡ name.name.number ∷ known.old) }
@@ -32,7 +32,7 @@ pub(crate) fn check_new(known: &mut NameSet, name: Ident) -> Result<(), Stop>
     settled.end()
 }
 
-/// Checks that names are new, and adds them to the known names.
+/// Checks that the names in a list are new, and adds them to the known names.
 pub(crate) fn check_distinct(known: &mut NameSet, names: &[Ident]) -> Result<(), Stop>
     ensures gives { Gives (λ _. tt) result (run (demands (distinct_demanded known.old (map view_name names.now)))) }
     ensures known { OnOk result (known.new ≡ with_all (map view_name names.now) known.old) }

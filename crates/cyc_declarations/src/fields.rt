@@ -1,4 +1,4 @@
-//! The fields of structs, by name and with their types.
+//! The fields of structs: their names and types.
 ghost use Rattle.std.specs.Prelude.{◌≡◌, map, IfOk};
 ghost use Rattle.cyc_syntax.specs.inside.TreeView.{view_name, view_member};
 ghost use Rattle.cyc_types.specs.typing.DeclarationRules.{parameter_names, fields_written};
@@ -11,7 +11,7 @@ use cyc_types::formation::type_written;
 use cyc_types::{Known, Region, RegionNames};
 use std::alloc::{AllocError, Global};
 
-/// Returns the fields of a struct, given the names of its region parameters.
+/// Returns the fields of a struct, from the names of its region parameters.
 fn fields_written(
     alloc: Global,
     known: &Known,
@@ -31,7 +31,7 @@ fn fields_written(
     Ok(all)
 }
 
-/// Returns the fields of a struct.
+/// Returns the fields of a struct, from its region parameters and its field declarations.
 pub(crate) fn fields_of(
     alloc: Global,
     known: &Known,

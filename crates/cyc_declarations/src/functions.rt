@@ -1,4 +1,4 @@
-//! The signatures of functions.
+//! Checks the signatures of functions.
 ghost use Rattle.std.specs.Prelude.{◌≡◌, ◌∷◌, ◌||◌, List, None, Some, nat_eq, not, map, option_map, OnOk};
 ghost use Rattle.cyc_syntax.specs.inside.TreeView.{place_of_span, view_name, view_type, view_member, view_parameters, view_constraint};
 ghost use Rattle.cyc_types.specs.Types.{Ty};
@@ -22,7 +22,7 @@ use cyc_types::{Known, NameSet, Region, RegionNames};
 use cyc_words::Code;
 use std::alloc::Global;
 
-/// Returns true if the result is an int.
+/// Returns true if the written result type is `int`.
 fn is_int_written(returned: &Option<WrittenType>) -> bool
     ensures { result ≡ is_int_written (option_map view_type returned.now) }
 {
@@ -35,7 +35,7 @@ fn is_int_written(returned: &Option<WrittenType>) -> bool
     }
 }
 
-/// Returns true if `main` may have this signature.
+/// Returns true if the function `main` may have the given signature.
 fn is_main_head(returned: &Option<WrittenType>, parameters: &Parameters) -> bool
     ensures { result ≡ is_main_head (option_map view_type returned.now) (view_parameters parameters.now) }
 {
@@ -45,7 +45,8 @@ fn is_main_head(returned: &Option<WrittenType>, parameters: &Parameters) -> bool
         && parameters.constraints.is_empty()
 }
 
-/// Checks that the result type is well-formed, given the names that the parameters declare.
+/// Checks that the written result type is well-formed; it may use the region names that the
+/// parameters declare.
 fn check_result(
     known: &Known,
     names: &RegionNames,
@@ -60,7 +61,8 @@ fn check_result(
     settled.end()
 }
 
-/// Checks that the name of a function is new, and is that of `main` only if the signature allows it.
+/// Checks that the name of a function is new; the name may be `main` only if the signature is
+/// allowed for `main`.
 fn check_name(
     known: &Known,
     before: &NameSet,
@@ -79,7 +81,8 @@ fn check_name(
     settled.end()
 }
 
-/// Checks that the type of a parameter is well-formed and its name is new, and adds the name to the known names.
+/// Checks that the type of a parameter is well-formed and the parameter's name is new, and adds the name to the
+/// known names.
 fn check_parameter(
     known: &Known,
     own: usize,
@@ -117,7 +120,7 @@ fn check_parameters(
     Ok(())
 }
 
-/// Settles that the regions of a written effect are known, and that no region of the effect is the unique region or has a key.
+/// Demands that the regions of a written effect are known, and that no region of the effect is the unique region or has a key.
 fn demand_effect(settled: &mut Settled, names: &RegionNames, keys: &Keys, regions: &[Ident])
     ensures { settled.new.known ≡ settle settled.old.known (effect_asked names.now keys.now (map view_name regions.now)) }
 {
@@ -129,7 +132,7 @@ fn demand_effect(settled: &mut Settled, names: &RegionNames, keys: &Keys, region
     }
 }
 
-/// Checks that an effect is well-formed, given the keys of the function.
+/// Checks that an effect is well-formed, from the keys among the function's types.
 #[tactic(auto, using(crate::proofs::KeyLemmas::asked_same))]
 fn check_effect(names: &RegionNames, keys: &Keys, effect: &Option<Vec<Ident>>) -> Result<(), Stop>
     ensures { (ts : List Ty) → AreKeysOf keys.now ts → Gives (λ _. tt) result
@@ -155,7 +158,8 @@ fn check_constraints(names: &RegionNames, constraints: &[Constraint]) -> Result<
     settled.end()
 }
 
-/// Checks that the signature of a function is well-formed and its name is new, and adds the name to the known names.
+/// Checks that the signature of a function is well-formed and the function's name is new, and adds the name to the
+/// known names.
 pub(crate) fn check_function(
     alloc: Global,
     known: &Known,

@@ -17,7 +17,7 @@ use cyc_types::{Known, NameSet, Region, Ty, typed};
 use cyc_words::{Code, Span};
 use std::alloc::{AllocError, Global};
 
-/// Returns true if a value of this type is written as a number.
+/// Returns true if a value of the given type is written as a number.
 fn is_number(of_type: &Ty) -> bool
     ensures { result ≡ is_number (view_ty of_type.now) }
 {
@@ -48,7 +48,7 @@ fn is_non_null(of_type: &Ty) -> bool
     }
 }
 
-/// Settles that the initial value at this place fits a global of this type.
+/// Demands that the initial value of a global fits the global's type.
 fn demand_value(settled: &mut Settled, of_type: &Ty, span: Span, value: Option<GlobalValue>)
     ensures { settled.new.known ≡ settle settled.old.known (value_demanded (view_ty of_type.now) (place_of_span span) (option_map view_value value)) }
 {
@@ -66,7 +66,7 @@ fn demand_value(settled: &mut Settled, of_type: &Ty, span: Span, value: Option<G
     }
 }
 
-/// Settles that a name is new, and is that of `main` only if this is allowed.
+/// Demands that a name is new, and that the name is not `main` unless this is allowed.
 pub(crate) fn demand_head(settled: &mut Settled, name: Ident, is_new: bool, is_no_main: bool)
     ensures { settled.new.known ≡ settle settled.old.known (head_demanded (place_of_span name.span) is_new is_no_main) }
 {
@@ -82,7 +82,8 @@ fn check_type(known: &Known, written: &WrittenType) -> Result<(), Stop>
     settled.end()
 }
 
-/// Checks that a global is well-formed and its name is new, and adds the name to the known names.
+/// Checks that a global is well-formed and its name is new, and adds the global's name to the known
+/// names.
 #[tactic(auto, using(cyc_types::proofs::RuleLaws::settled_append))]
 pub(crate) fn check_global(
     alloc: Global,
@@ -111,7 +112,8 @@ pub(crate) fn check_global(
     settled.end()
 }
 
-/// Returns the initial word of a global of this type with this written value: a char keeps its low byte.
+/// Returns the initial word of a global, from the global's type and its written value: a char keeps only
+/// the low byte.
 fn word_of(of_type: &Ty, written: u32) -> u32
     ensures { result ≡ word_of (view_ty of_type.now) written }
 {
@@ -121,7 +123,7 @@ fn word_of(of_type: &Ty, written: u32) -> u32
     }
 }
 
-/// Returns the initial value of a global of this type, which is 0 or null if none is written.
+/// Returns the initial value of a global; if no value is written, the initial value is 0 or null.
 fn constant_of(of_type: &Ty, value: Option<GlobalValue>) -> typed::Constant
     ensures { view_constant result ≡ constant_of (view_ty of_type.now) (option_map view_value value) }
 {

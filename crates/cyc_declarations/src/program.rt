@@ -1,4 +1,4 @@
-//! A typed program: its declarations, with the bodies of its functions.
+//! A typed program, composed of its declarations and the bodies of its functions.
 ghost use Rattle.std.specs.Prelude.{◌≡◌, ◌++◌, List, map, IfOk, OnOk};
 ghost use Rattle.cyc_syntax.specs.inside.TreeView.{view_declaration, view_constructor};
 ghost use Rattle.cyc_types.specs.TypeView.{view_ty};
@@ -18,7 +18,7 @@ use cyc_syntax::{Constructor, Declaration};
 use cyc_types::{Known, RegionNames, Ty, TypedTree, typed};
 use std::alloc::{AllocError, Global};
 
-/// Returns the number of the function with this name.
+/// Returns the number of the function with the given name.
 fn function_number(name: usize, declarations: &[Declaration]) -> usize
     ensures { result ≡ function_number name (map view_declaration declarations.now) }
 {
@@ -34,7 +34,7 @@ fn function_number(name: usize, declarations: &[Declaration]) -> usize
     number
 }
 
-/// Returns the types of fields.
+/// Returns the types of a struct's fields.
 fn types_of(alloc: Global, fields: &[Field]) -> Result<Vec<Ty>, AllocError>
     ensures { IfOk result (λ v. map view_ty v.items ≡ map (λ (f : FieldValue). f.of_type) (map view_field fields.now)) }
 {
@@ -73,7 +73,7 @@ fn struct_types(
     Ok(all)
 }
 
-/// Adds for each declared exception whether the exception carries an int.
+/// Adds, for each declared exception, a flag that is true if the exception carries an int.
 fn add_exceptions(all: &mut Vec<bool>, constructors: &[Constructor]) -> Result<(), AllocError>
     ensures { OnOk result (all.new.items ≡ all.old.items ++ map (λ (e : Exception). e.has_int) (exceptions_made (map view_constructor constructors.now))) }
 {
@@ -83,7 +83,7 @@ fn add_exceptions(all: &mut Vec<bool>, constructors: &[Constructor]) -> Result<(
     Ok(())
 }
 
-/// Returns for each exception of a program whether it has an int.
+/// Returns, for each exception of a program, a flag that is true if the exception carries an int.
 fn exceptions_of(alloc: Global, declarations: &[Declaration]) -> Result<Vec<bool>, AllocError>
     ensures { IfOk result (λ v. v.items ≡ map (λ (e : Exception). e.has_int) (exceptions_of (map view_declaration declarations.now))) }
 {
@@ -96,7 +96,7 @@ fn exceptions_of(alloc: Global, declarations: &[Declaration]) -> Result<Vec<bool
     Ok(all)
 }
 
-/// The parts of a typed program besides its functions.
+/// The parts of a typed program other than its functions.
 #[derive(Drop)]
 pub struct Parts {
     structs: Vec<typed::StructType>,
@@ -105,7 +105,8 @@ pub struct Parts {
     main: usize,
 }
 
-/// Returns the parts of a program with these known names, besides the bodies of its functions.
+/// Returns the parts of a program other than the bodies of its functions, from the names known in
+/// the program.
 pub fn parts_of(
     alloc: Global,
     known: &Known,
@@ -126,7 +127,7 @@ impl Parts {
     ghost use Rattle.cyc_types.specs.TypedTreeView.{view_function, view_program};
     ghost use Rattle.cyc_declarations.specs.inside.Parts.{program_with};
 
-    /// Returns the program with these functions.
+    /// Returns the typed program that consists of these parts and the given functions.
     pub fn with_functions(self, functions: Vec<typed::Function>) -> TypedTree
         ensures { view_program result ≡ program_with self (map view_function functions.items) }
     {

@@ -1,4 +1,4 @@
-//! The signature of a function, from its declaration.
+//! Computes the signature of a function from the function's declaration.
 ghost use Rattle.std.specs.Prelude.{◌≡◌, pred, map, option_map, IfOk, OnOk};
 ghost use Rattle.cyc_syntax.specs.inside.TreeView.{view_name, view_type, view_member, view_parameters, view_constraint};
 ghost use Rattle.cyc_types.specs.declared.region.Region.TheVariants.{Heap};
@@ -17,7 +17,7 @@ use cyc_types::{Known, Region, RegionNames, Signature, Ty};
 use smallvec::SmallVec;
 use std::alloc::{AllocError, Global};
 
-/// Returns the parameters of a function; `void` has none.
+/// Returns the parameters of a function; a parameter list `void` has none.
 pub fn members(parameters: &Parameters) -> &[Member]
     ensures { map view_member result.now ≡ members_of (view_parameters parameters.now).list }
 {
@@ -27,16 +27,17 @@ pub fn members(parameters: &Parameters) -> &[Member]
     }
 }
 
-/// The types in the signature of a function.
+/// The parameter and result types in the signature of a function.
 #[derive(Drop)]
 pub(crate) struct HeadTypes {
     parameters: Vec<Ty>,
     result: Option<Ty>,
-    /// The number of regions that the parameters name or omit.
+    /// The number of regions that the function's parameters name or omit.
     variables: usize,
 }
 
-/// Returns the result type of a function, given the names that its parameters declare.
+/// Returns the result type of a function; the type may use the region names that the parameters
+/// declare.
 fn result_written(
     alloc: Global,
     known: &Known,
@@ -61,7 +62,8 @@ impl HeadTypes {
     ghost use Rattle.cyc_types.specs.typing.DeclarationRules.{parameter_naming, parameter_types, result_written, and_result};
     ghost use Rattle.cyc_declarations.specs.inside.KeyTables.{AreKeysOf};
 
-    /// Returns the types in a signature. After the call, the known names are exactly those that the signature's parameters declare.
+    /// Returns the types in a signature. After the call, `names` contains exactly the built-in region names and those that the
+    /// signature's parameters declare.
     pub(crate) fn new(
         alloc: Global,
         known: &Known,
@@ -92,7 +94,7 @@ impl HeadTypes {
         })
     }
 
-    /// Returns the keys among these types.
+    /// Returns the keys among the types of the signature.
     pub(crate) fn keys(&self, alloc: Global) -> Result<Keys, AllocError>
         ensures { IfOk result (λ keys. AreKeysOf keys (and_result (map view_ty self.now.parameters.items) (option_map view_ty self.now.result))) }
     {
@@ -100,7 +102,7 @@ impl HeadTypes {
     }
 }
 
-/// Returns this number of region variables without those that have a key.
+/// Returns the first `variables` region variables, without those that have a key.
 fn without_keys(
     alloc: Global,
     keys: &Keys,
@@ -132,7 +134,8 @@ fn regions_of(
     Ok(all)
 }
 
-/// Returns the effect; an omitted effect consists of all regions of the types except those of keys.
+/// Returns the effect of a signature. An omitted effect consists of all regions of the types,
+/// except the regions of keys.
 fn effect_of(
     alloc: Global,
     names: &RegionNames,
@@ -164,7 +167,8 @@ fn constraints_of(
     Ok(all)
 }
 
-/// Returns the signature of a function. After the call, the known names are exactly those that the signature's parameters declare.
+/// Returns the signature of a function. After the call, `names` contains exactly the built-in region names and those that the
+/// signature's parameters declare.
 #[tactic(auto, using(crate::proofs::KeyLemmas::effect_same))]
 pub fn signature_of(
     alloc: Global,

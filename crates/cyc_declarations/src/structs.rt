@@ -1,4 +1,4 @@
-//! The declarations of structs.
+//! Checks the declarations of structs.
 ghost use Rattle.std.specs.Prelude.{◌≡◌, ◌∷◌, map, OnOk};
 ghost use Rattle.cyc_syntax.specs.inside.TreeView.{view_name, view_member};
 ghost use Rattle.cyc_types.specs.Rules.{Part, demands, run};
@@ -12,14 +12,14 @@ use cyc_syntax::{Ident, Member};
 use cyc_types::{Known, NameSet, Region, RegionNames, StructNames};
 use std::alloc::AllocError;
 
-/// The names inside one declaration: those of its members, and those of regions.
+/// The names inside one declaration: the names of its members, and the names of regions.
 #[derive(Drop)]
 pub(crate) struct Inside {
     pub(crate) members: NameSet,
     pub(crate) regions: RegionNames,
 }
 
-/// Declares the region parameters of a struct, which are the region variables from 0 on.
+/// Declares the region parameters of a struct, which become the region variables from 0 on.
 pub(crate) fn declare_parameters(
     names: &mut RegionNames,
     parameters: &[Ident],
@@ -32,7 +32,8 @@ pub(crate) fn declare_parameters(
     Ok(())
 }
 
-/// Checks that the type of a field is well-formed and its name is new, and adds the name to the known names.
+/// Checks that the type of a field is well-formed and the field's name is new, and adds the name to the
+/// known names.
 fn check_field(
     structs: &StructNames,
     names: &RegionNames,
@@ -63,7 +64,8 @@ fn check_fields(
     Ok(())
 }
 
-/// Checks that a struct is well-formed and its name is new, and adds the name to the known names.
+/// Checks that a struct is well-formed and the struct's name is new, and adds the name to the known
+/// names.
 pub(crate) fn check_struct(
     known: &Known,
     before: &mut NameSet,

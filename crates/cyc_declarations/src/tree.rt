@@ -20,7 +20,8 @@ use cyc_words::{Code, Span};
 use std::alloc::{AllocError, Global};
 use std::marker::Model;
 
-/// Returns the number of a text. A text that is not a name has the number after all names.
+/// Returns the number of a name, from the name's text. A text that is not a name of the program
+/// gets the number after all names.
 pub(crate) fn number_of(names: &Names, text: &[u8]) -> usize
     ensures { result ≡ number_of names.now text.now }
 {
@@ -30,12 +31,12 @@ pub(crate) fn number_of(names: &Names, text: &[u8]) -> usize
     }
 }
 
-/// The names in each name space that are declared before the current declaration.
+/// The names that are declared before the current declaration, in each name space.
 #[derive(Drop)]
 struct Before {
     structs: NameSet,
     exceptions: NameSet,
-    /// The names of functions and globals.
+    /// The names of the functions and globals declared before.
     names: NameSet,
 }
 
@@ -55,7 +56,7 @@ impl Before {
     ghost use Rattle.cyc_types.specs.typing.Programs.{before_all};
     ghost use Rattle.cyc_scope.specs.inside.Code.{Gives};
 
-    /// Returns the built-in declarations of a program.
+    /// Returns the names of the built-in declarations of a program.
     fn new(alloc: Global, names: &Names) -> Result<Before, AllocError>
         ensures { IfOk result (λ b. b ≡ before_all names.now) }
     {
@@ -74,7 +75,8 @@ impl Before {
         })
     }
 
-    /// Checks that a declaration is well-formed and its names are new, and adds them to the known names.
+    /// Checks that a declaration is well-formed and its names are new, and adds these names to the known
+    /// names.
     fn check_head(
         &mut self,
         alloc: Global,
@@ -117,7 +119,7 @@ impl Before {
     }
 }
 
-/// Checks that all declarations are well-formed.
+/// Checks that all declarations of a program are well-formed.
 fn check_declarations(
     alloc: Global,
     names: &Names,
@@ -165,7 +167,8 @@ fn declares(name: usize, declarations: &[Declaration]) -> bool
     false
 }
 
-/// Checks that `main`, which has this name, is declared. The fault of a missing `main` has no place in the text.
+/// Checks that the function `main` is declared; its name has the number `main`. The fault of a missing `main`
+/// has no position in the text.
 fn check_main(main: usize, declarations: &[Declaration]) -> Result<(), Stop>
     ensures { Gives (λ _. tt) result (run (rule_main main (map view_declaration declarations.now))) }
 {
@@ -175,7 +178,7 @@ fn check_main(main: usize, declarations: &[Declaration]) -> Result<(), Stop>
     settled.end()
 }
 
-/// Returns the declarations of a program exactly if they are well-formed and include `main`, and otherwise the first fault.
+/// Returns the declarations of a program if they are well-formed and include `main`; otherwise returns the first fault.
 pub fn collect(alloc: Global, tree: &Tree) -> Result<Program, Stop>
     ensures { Gives (λ p. p) result (collected_program tree.now.names (map view_declaration tree.now.declarations.items)) }
 {

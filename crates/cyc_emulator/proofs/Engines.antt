@@ -1,4 +1,5 @@
--- The loop of the engine: the instructions so far are a run of the machine, on every input that begins with the bytes read.
+-- Loop invariant of the engine: the instructions executed so far are a run of the machine, on every input that begins with
+-- the bytes read.
 use Rattle.std.proofs.Common.{◌≡◌, ℕ, zero, suc, ◌+◌, ◌<◌, ◌≤◌, List, [], ◌∷◌, ◌++◌, drop, Bool, true, false, Option, None, Some, Result, Ok, Err, refl, sym, ap, subst, ◌∙◌, arith, append_assoc, append-nil, inl, inr}
 use Rattle.std.specs.Prelude.{unwrap_or, slice_get, MatchBool, length, IfSome}
 use Rattle.std.specs.Io.KnownBytes.{Keeps, Appends, Consumes, IsAtEnd}
@@ -38,7 +39,7 @@ use Rattle.cyc_emulator.specs.Faults.{fault_of, is_read, is_write}
 use Rattle.cyc_emulator.specs.inside.Loading.{Declines, Loads}
 use Rattle.cyc_emulator.specs.inside.Turn.{Turned, TurnedOver, WentOn, counted_at}
 
--- One more instruction at the end of a run.
+-- A run followed by one more instruction is a run.
 pub Run-more : (count : ℕ) (u v w : World) → Run count u v → Goes v w → Run (suc count) u w
 Run-more zero u v w run goes = (w, subst (λ x. Goes x w) run goes, refl)
 Run-more (suc count) u v w (mid, first, rest) goes = (mid, first, Run-more count mid v w rest goes)
@@ -47,12 +48,13 @@ pub counted_run : (count : ℕ) (u w : World) → Counted count u w → Run coun
 counted_run zero u w counted = counted
 counted_run (suc count) u w (mid, run, none, goes) = Run-more count u mid w run goes
 
--- One more instruction of a running machine extends the run.
+-- If the machine has not ended, one more instruction extends the counted run by one.
 counted_more : (count : ℕ) (u v w : World) → Counted count u v → v.machine.phase ≡ Running → Goes v w → Counted (count + 1) u w
 counted_more count u v w counted running goes =
     subst (λ k. Counted k u w) (let one : suc count ≡ count + 1 = omega arith in one) (v, counted_run count u v counted, ap end_in running, goes)
 
--- `n` instructions, with the peaks of calls and pages, if they are counted.
+-- `Way` says that `count` instructions lead from one world to another, and that `peaks`, if they
+-- are counted, are the peaks of calls and pages on the way.
 abbrev pub Way : (peaks : Option Peaks) → ℕ → World → World → Type 0
 Way peaks count u v = Counted count u v × IfSome peaks (HasPeaks count u v)
 
@@ -63,7 +65,8 @@ way_more (Some most) count u v w (counted, peaks) running goes = (
   subst (λ k. HasPeaks k u w (higher most (uses_in w))) (let one : suc count ≡ count + 1 = omega arith in one) (v, most, peaks, ap end_in running, goes, refl),
 )
 
--- The state of the loop: a run on an input that begins with the bytes read, and ends with them if the end was seen.
+-- `Progress` is the invariant of the engine's loop: the instructions so far are a run on each input that begins
+-- with the bytes read. If the end of the input was reported, the input consists of these bytes.
 pub record Progress (start : List ℕ → World) (old now : Devices) (count : ℕ) (x : Exchanged) (peaks : Option Peaks) (machine : State) : Type 0 where
   pub read : List ℕ
   pub output : List ℕ
@@ -75,7 +78,7 @@ pub record Progress (start : List ℕ → World) (old now : Devices) (count : �
   pub running : machine.phase ≡ Running
   pub runs : (rest : List ℕ) → (x.ended ≡ true → rest ≡ []) → Way peaks count (start (read ++ rest)) (record { machine = machine; output = output; input = rest })
 
--- A device that is not used keeps its contents.
+-- A device that is not used in a turn keeps its contents.
 
 leaves_kept : (a b c : Option (List ℕ)) (xs : List ℕ) → Leaves a b xs → Keeps b c → Leaves a c xs
 leaves_kept None b c xs h k = tt
@@ -83,16 +86,16 @@ leaves_kept (Some reported) None c xs h k = absurd h
 leaves_kept (Some reported) (Some left) None xs h k = absurd k
 leaves_kept (Some reported) (Some left) (Some more) xs h k = k ∙ h
 
--- If the end of the input was seen, no input is left.
+-- If the reader has reported the end of the input, no input is left.
 end_seen : (a b c : Option (List ℕ)) (xs : List ℕ) → Consumes a b xs → IsAtEnd b → Keeps b c → Leaves a c []
 end_seen None b c xs h e k = tt
 end_seen (Some reported) None c xs h e k = absurd h
 end_seen (Some reported) (Some left) None xs h e k = absurd k
 end_seen (Some reported) (Some left) (Some more) xs h e k = k ∙ e
 
--- One more iteration of the engine's loop, by cases of the event.
+-- One more iteration of the engine's loop keeps `Progress`, by cases of the instruction's event.
 
--- An instruction that uses no device, or only the writer.
+-- An instruction that uses no device, or only the writer, keeps `Progress`.
 quiet : (start : List ℕ → World) (old now new : Devices) (count : ℕ) (x x' : Exchanged) (peaks : Option Peaks) (machine machine' : State) (event : Event) (s : State) (more : List ℕ)
     → (p : Progress start old now count x peaks machine) → Step machine event s → machine' ≡ s → phase_after event ≡ Running → Keeps now.remaining new.remaining → Appends now.written new.written more
     → x'.ended ≡ x.ended → x'.read ≡ x.read → x'.written ≡ x.written + length more
@@ -117,7 +120,7 @@ quiet start old now new count x x' peaks machine machine' event s more p step is
 given_running : (s : State) (byte : Option ℕ) → s.phase ≡ Waiting → (given s byte).phase ≡ Running
 given_running s byte waiting = ap (λ q. (given_in q s byte).phase) waiting
 
--- The input before a byte was taken from it, if `rest` remains.
+-- `Took` describes the world before a byte was taken from the input, if `rest` remains after it.
 pub record Took (start : List ℕ → World) (count : ℕ) (peaks : Option Peaks) (machine : State) (output read : List ℕ) (byte : Option ℕ) (rest : List ℕ) : Type 0 where
   pub before : List ℕ
   pub runs : Way peaks count (start (read ++ rest)) (record { machine = machine; output = output; input = before })
@@ -148,7 +151,7 @@ wanting start old now new count x x' peaks machine machine' s byte read p step i
       way_more peaks count (start (read ++ rest)) here there t.runs p.running (WantsByte, s, step, leads);
 }
 
--- At the end of the input there is no byte, and nothing remains.
+-- At the end of the input no byte is read, and no input remains.
 none_left_to_read : (start : List ℕ → World) (count : ℕ) (peaks : Option Peaks) (machine : State) (output read rest : List ℕ) → rest ≡ [] → Way peaks count (start (read ++ rest)) (record { machine = machine; output = output; input = rest }) → Took start count peaks machine output read None rest
 none_left_to_read start count peaks machine output read rest empty runs = record {
   before = rest;
@@ -197,9 +200,10 @@ Progress-turn start old now new count x x' peaks machine machine' p (Puts byte, 
 Progress-turn start old now new count x x' peaks machine machine' p (Ended end, s, step, none) = absurd none
 Progress-turn start old now new count x x' peaks machine machine' p (NoMemory, s, step, none) = absurd none
 
--- The instructions between two iterations of the loop, if no peaks are counted.
+-- If no peaks are counted, the exchanges between two iterations of the loop have the effects that
+-- `WentOn` describes.
 
--- The observable state of the devices in a traffic.
+-- Returns the observable state of the reader and the writer during a run.
 abbrev pub devices_of : Traffic → Devices
 devices_of t = record { remaining = t.remaining; written = t.written }
 
@@ -227,7 +231,7 @@ progress_between start old count (suc more) machine machine' before after p (mid
     let last = Progress-turn start old (devices_of between) (devices_of after) (count + more) between.counts after.counts None mid machine' so_far (event, s, step, went_on event s machine' between after exchanges) in
     subst (λ (k : ℕ). Progress start old (devices_of after) k after.counts None machine') (let all : count + more + 1 ≡ count + suc more = omega arith in all) last
 
--- A failed device call keeps the progress so far.
+-- A failed call of a device keeps the progress of the run so far.
 progress_kept : (start : List ℕ → World) (old now new : Devices) (count : ℕ) (x : Exchanged) (peaks : Option Peaks) (machine : State) → Progress start old now count x peaks machine → Rests now new → Progress start old new count x peaks machine
 progress_kept start old now new count x peaks machine p (kept, silent) = record {
   read = p.read;
@@ -248,9 +252,9 @@ Progress-ahead start old count more machine machine' before after p runs =
     (progress_kept start old (devices_of runs.last) (devices_of after) (count + more) runs.last.counts None machine'
     (progress_between start old count more machine machine' before runs.last p runs.runs) (runs.stays.0, runs.stays.1))
 
--- The result of the loop.
+-- The result of the engine's loop, computed from `Progress`.
 
--- The remaining input, if the reader's bytes are known: one that fits the bytes read.
+-- Returns the remaining input of the reader, if its bytes are known, otherwise no input.
 rest_of : Option (List ℕ) → Option (List ℕ) → List ℕ
 rest_of None now = []
 rest_of (Some reported) now = unwrap_or now []
@@ -273,7 +277,8 @@ nothing_over None now leaves = refl
 nothing_over (Some reported) None leaves = absurd leaves
 nothing_over (Some reported) (Some left) leaves = leaves
 
--- The number of instructions that the loop has executed.
+-- The instructions that the loop has executed are a run on the bytes read followed by the remaining
+-- input.
 way_of : (start : List ℕ → World) (old now : Devices) (count : ℕ) (x : Exchanged) (peaks : Option Peaks) (machine : State) → (p : Progress start old now count x peaks machine)
     → Way peaks count (start (p.read ++ rest_of old.remaining now.remaining)) (record { machine = machine; output = p.output; input = rest_of old.remaining now.remaining })
 way_of start old now count x peaks machine p = p.runs (rest_of old.remaining now.remaining) (λ end. nothing_over old.remaining now.remaining (p.at_end end))
@@ -288,7 +293,7 @@ executes_of start old now count x peaks machine p = record {
   written = p.printed;
 }
 
--- Devices that are not used afterwards keep the statement true.
+-- If the devices are not used afterwards, the statement about the executed instructions stays true.
 executes_kept : (start : List ℕ → World) (old now new : Devices) (count : ℕ) (w : World) → Executes start old now count w → Rests now new → Executes start old new count w
 executes_kept start old now new count w x (kept, silent) = record {
   input = x.input;
@@ -298,7 +303,7 @@ executes_kept start old now new count w x (kept, silent) = record {
   written = Appends-kept old.written now.written new.written w.output x.written silent;
 }
 
--- The report for a machine that stops in this way.
+-- Returns the report of a run that stops in this way.
 abbrev pub report_of : Stop → (count : ℕ) → Exchanged → (peaks : Option Peaks) → State → Report
 report_of stop count x peaks machine = record {
   stop = stop;
@@ -310,7 +315,7 @@ report_of stop count x peaks machine = record {
   peaks = peaks;
 }
 
--- The budget is used up.
+-- If the budget of instructions is used up, the report is correct.
 pub spends : (start : List ℕ → World) (old now : Devices) (count budget : ℕ) (x : Exchanged) (peaks : Option Peaks) (machine : State) → Progress start old now count x peaks machine → count ≡ budget
     → IsReported start budget old now (report_of stops.Spent budget x peaks machine)
 spends start old now count budget x peaks machine p is =
@@ -359,7 +364,7 @@ stops_at start old now new count budget x x' peaks machine machine' end p few (s
     } in
     subst (λ y. IsReported start budget old new (report_of (stops.End end) (count + 1) y (counted_at peaks machine') machine')) (sym same) all
 
--- A device fails while an instruction is executed.
+-- If a device fails while an instruction is executed, the result of the run is correct.
 fails_at : (grows : Bool) (start : List ℕ → World) (old now new : Devices) (count budget : ℕ) (x x' : Exchanged) (peaks : Option Peaks) (machine machine' : State) (e : RunFault) → Progress start old now count x peaks machine → count < budget
     → Turned machine machine' x x' now new (Err e) → Runs grows start budget old new (Err e)
 fails_at grows start old now new count budget x x' peaks machine machine' Read p below (s, step, rests) =
@@ -374,7 +379,7 @@ fails_at grows start old now new count budget x x' peaks machine machine' (Elf f
 fails_at grows start old now new count budget x x' peaks machine machine' (Load f) p below none = absurd none
 fails_at grows start old now new count budget x x' peaks machine machine' Memory p below none = absurd none
 
--- A device fails between two iterations of the loop.
+-- If a device fails between two iterations of the loop, the result of the run is correct.
 pub fails_ahead : (grows : Bool) (start : List ℕ → World) (old now : Devices) (count budget : ℕ) (x : Exchanged) (machine : State) (device : Device) → Progress start old now count x None machine → count < budget
     → FailsAt (Some device) machine → Runs grows start budget old now (Err (fault_of device))
 fails_ahead grows start old now count budget x machine Reader p below (s, step) =
@@ -382,7 +387,8 @@ fails_ahead grows start old now count budget x machine Reader p below (s, step) 
 fails_ahead grows start old now count budget x machine Writer p below (byte, s, step) =
     fails_at grows start old now now count budget x x None machine machine Write p below (byte, s, step, (Keeps-refl now.remaining, Keeps-refl now.written))
 
--- A device fails, or the store lacks memory and no device was used.
+-- If a device fails, or if the store (the heap of regions) lacks memory and no device was used, the
+-- result of the run is correct.
 pub fails_turn : (grows : Bool) (start : List ℕ → World) (old now new : Devices) (count budget : ℕ) (x x' : Exchanged) (peaks : Option Peaks) (machine machine' : State) (e : RunFault) → Progress start old now count x peaks machine → count < budget
     → TurnedOver grows machine machine' x x' now new (Err e) → Runs grows start budget old new (Err e)
 fails_turn grows start old now new count budget x x' peaks machine machine' Read p below turned = fails_at grows start old now new count budget x x' peaks machine machine' Read p below turned
@@ -401,14 +407,14 @@ answers_run grows store read image limits budget machine old new result is insid
     (MatchBool-false (has_outside image) (Refuses (Load load.Outside) old new result) (Starts grows (start_world image limits store) budget old new result) inside
     (inr (subst (λ m. Runs grows (λ input. record { machine = m; output = []; input = input }) budget old new result) begins runs)))
 
--- The machine has no place for an image.
+-- If the machine has no place for an image, the result `Outside` is correct.
 answers_outside : (grows : Bool) (store : StoreState) (read : Result ImageContents ElfFault) (image : ImageContents) (limits : Bounds) (budget : ℕ) (old new : Devices) (result : Result Report RunFault)
     → read ≡ Ok image → has_outside image ≡ true → Refuses (Load load.Outside) old new result → Answers grows store read limits budget old new result
 answers_outside grows store read image limits budget old new result is outside refuses =
     subst (λ r. Answers grows store r limits budget old new result) (sym is)
     (subst (λ b. MatchBool b (Refuses (Load load.Outside) old new result) (Starts grows (start_world image limits store) budget old new result)) (sym outside) refuses)
 
--- Memory runs out before an image is read.
+-- If memory runs out before an image is read, the result `Memory` is correct.
 refuses_memory : (fault : RunFault) (old new : Devices) → Rests old new → Refuses fault old new (Err Memory)
 refuses_memory fault old new rests = (inr refl, rests)
 
@@ -422,7 +428,8 @@ answers_memory : (grows : Bool) (store : StoreState) (read : Result ImageContent
 answers_memory grows store (Err f) limits budget old new rests = refuses_memory (Elf f) old new rests
 answers_memory grows store (Ok image) limits budget old new rests = answers_inside (has_outside image) grows (start_world image limits store) budget old new rests
 
--- Memory runs out before the store is made.
+-- If memory runs out before the store (the heap of regions) is made, the result `Memory` is
+-- correct.
 pub anew_memory : (grows : Bool) (read : Result ImageContents ElfFault) (limits : Bounds) (budget : ℕ) (devices : Devices) → AnswersAnew grows read limits budget devices devices (Err Memory)
 anew_memory grows read limits budget devices =
     let store : StoreState = stores.start limits.pages (λ (address : ℕ). 0) in (
@@ -431,7 +438,7 @@ anew_memory grows read limits budget devices =
       answers_memory grows store read limits budget devices devices (Keeps-refl devices.remaining, Keeps-refl devices.written),
     )
 
--- Loading an image succeeds or fails.
+-- After an image was loaded, the machine is in the running phase.
 
 pub loads_running : (read : Result ImageContents ElfFault) (limits : Bounds) (store : StoreState) (machine : State) → Loads read limits store machine → machine.phase ≡ Running
 loads_running (Err f) limits store machine loads = absurd loads
@@ -452,7 +459,7 @@ answers_declined grows store (Ok image) limits budget old new fault (inl (outsid
 answers_declined grows store (Ok image) limits budget old new fault (inr is) rests =
     subst (λ e. Answers grows store (Ok image) limits budget old new (Err e)) (sym is) (answers_memory grows store (Ok image) limits budget old new rests)
 
--- No device failed while loading.
+-- If loading an image fails, the fault is not that of a failed device.
 pub declined_read : (read : Result ImageContents ElfFault) (fault : RunFault) → Declines read fault → is_read {T = Report} (Err fault) ≡ false
 declined_read (Err f) fault (inl is) = ap (λ e. is_read {T = Report} (Err e)) is
 declined_read (Err f) fault (inr is) = ap (λ e. is_read {T = Report} (Err e)) is
@@ -465,7 +472,8 @@ declined_write (Err f) fault (inr is) = ap (λ e. is_write {T = Report} (Err e))
 declined_write (Ok image) fault (inl (outside, is)) = ap (λ e. is_write {T = Report} (Err e)) is
 declined_write (Ok image) fault (inr is) = ap (λ e. is_write {T = Report} (Err e)) is
 
--- A store that does not grow lacks memory only before anything is read or written, since no instruction allocates.
+-- A store (heap) that does not grow lacks memory only before any byte is read or written, since no instruction
+-- allocates.
 early_inside : (outside : Bool) (start : List ℕ → World) (budget : ℕ) (old new : Devices)
     → MatchBool outside (Refuses (Load load.Outside) old new (Err Memory)) (Starts false start budget old new (Err Memory)) → Rests old new
 early_inside true start budget old new (_, rests) = rests
@@ -482,7 +490,7 @@ pub early_memory : (read : Result ImageContents ElfFault) (limits : Bounds) (bud
 early_memory read limits budget old new result (store, _, answers) is =
     early_answers store read limits budget old new (subst (λ r. Answers false store read limits budget old new r) is answers)
 
--- If memory suffices, a step of the code is a step of the machine.
+-- If memory suffices, a step of the emulator's code is a step of the machine.
 
 pub reported_step : (grows : Bool) (old : State) (event : Event) (new : State) → (event ≡ NoMemory → ⊥) → StepOver grows old event new → Step old event new
 reported_step grows old Ran new memory step = step
@@ -491,7 +499,7 @@ reported_step grows old (Puts byte) new memory step = step
 reported_step grows old (Ended end) new memory step = step
 reported_step grows old NoMemory new memory step = absurd (memory refl)
 
--- An iteration of the loop, if memory suffices.
+-- If memory suffices, an iteration of the loop is one without a lack of memory.
 pub turned_over : (grows : Bool) (machine machine' : State) (x x' : Exchanged) (old new : Devices) (result : Result (Option End) RunFault) → Turned machine machine' x x' old new result → TurnedOver grows machine machine' x x' old new result
 turned_over grows machine machine' x x' old new (Ok end) turned = turned
 turned_over grows machine machine' x x' old new (Err Read) turned = turned

@@ -1,4 +1,4 @@
--- The meaning of running an image between a reader and a writer. The meaning of such a run is this project's own choice.
+-- The meaning of running an image between a reader and a writer, which is this project's own choice.
 use Rattle.std.specs.Prelude.{◌≡◌, ℕ, zero, suc, ◌+◌, ◌-◌, ◌*◌, ◌/◌, ◌≤◌, ◌<◌, ◌==◌, max, length, IfSome, if◌then◌else◌, Bool, List, Option, None, Some, Result, Ok, Err, MatchBool, ◌⊎◌}
 use Rattle.std.specs.Io.KnownBytes.{Keeps, Appends}
 use Rattle.cyc_store.specs.State.{StoreState, demand, IsNew}
@@ -22,56 +22,58 @@ use Rattle.cyc_emulator.specs.declared.report.Stop.TheVariants as stops
 use Rattle.cyc_emulator.specs.declared.report.RunFault.{RunFault}
 use Rattle.cyc_emulator.specs.declared.report.RunFault.TheVariants.{Elf, Load, Read, Write, Memory}
 
--- The observable state of the devices: the bytes still to be read, and the bytes written.
+-- The observable state of the devices: the bytes that the reader still has, and the bytes that the
+-- writer has written.
 pub record Devices : Type 0 where
   pub remaining : Option (List ℕ)
   pub written : Option (List ℕ)
 
--- The run used neither the reader nor the writer.
+-- `Rests` says that neither the reader nor the writer was used.
 abbrev pub Rests : Devices → Devices → Type 0
 Rests old new = Keeps old.remaining new.remaining × Keeps old.written new.written
 
--- A reader whose bytes are known has these bytes.
+-- `Tells` says that a reader whose bytes are known has exactly these bytes.
 abbrev pub Tells : Option (List ℕ) → List ℕ → Type 0
 Tells None bytes = Unit {0}
 Tells (Some reported) bytes = reported ≡ bytes
 
--- A reader whose bytes were known still has these bytes.
+-- `Leaves` says that a reader whose bytes were known still has exactly these bytes.
 abbrev pub Leaves : Option (List ℕ) → Option (List ℕ) → List ℕ → Type 0
 Leaves None new rest = Unit {0}
 Leaves (Some reported) None rest = ⊥
 Leaves (Some reported) (Some left) rest = left ≡ rest
 
--- `n` instructions lead from one world to another, and no instruction is executed after the end of the run.
+-- `Counted` says that `count` instructions lead from one world to another, and that no instruction is
+-- executed after the end of the run.
 abbrev pub Counted : ℕ → World → World → Type 0
 Counted zero old new = new ≡ old
 Counted (suc count) old new = (mid : World) × Run count old mid × (end_of mid ≡ None) × Goes mid new
 
--- The number of calls, for programs of this project's compiler. Each call has a frame of 256 words, the first just below the end of the
--- stack. The stack pointer is the address of the last frame.
+-- Returns the number of active calls, for programs of this project's compiler. Each call has a frame of 256 words, the first just below
+-- the end of the stack. The stack pointer is the address of the last frame.
 abbrev pub calls_at : Core → ℕ
 calls_at core = (stack_end - register core STACK_POINTER) / (4 * words_per_call)
 
--- The numbers of calls and of pages in use: those that the blocks of the store require.
+-- Returns the number of active calls, and the number of pages that the store's blocks require.
 abbrev pub uses_at : State → Peaks
 uses_at s = record { calls = calls_at s.core; pages = demand s.memory.store }
 
 abbrev pub uses_in : World → Peaks
 uses_in w = uses_at w.machine
 
--- The maximum of two peaks, number by number.
+-- Returns the maximum of two peaks, separately for calls and for pages.
 abbrev pub higher : Peaks → Peaks → Peaks
 higher p q = record { calls = max p.calls q.calls; pages = max p.pages q.pages }
 
--- `n` instructions lead from one world to another. `most` is the maximum of the calls and the pages in use over all worlds on the way, both
--- ends included.
+-- `HasPeaks` says that `count` instructions lead from one world to another. `most` is the maximum of the calls and the pages in use over
+-- all worlds on the way, including both ends.
 abbrev pub HasPeaks : ℕ → World → World → (most : Peaks) → Type 0
 HasPeaks zero old new most = (new ≡ old) × (most ≡ uses_in old)
 HasPeaks (suc count) old new most =
     (mid : World) × (before : Peaks) × HasPeaks count old mid before × (end_of mid ≡ None) × Goes mid new × (most ≡ higher before (uses_in new))
 
--- `count` instructions were executed, on an input that begins with the reader's known bytes. The output of the executed instructions was
--- written, and exactly the bytes that they requested were read.
+-- `Executes` says that `count` instructions were executed, on an input that begins with the reader's known bytes. The output of the
+-- executed instructions was written, and exactly the bytes that they requested were read.
 pub record Executes (start : List ℕ → World) (old new : Devices) (count : ℕ) (w : World) : Type 0 where
   pub input : List ℕ
   pub reported : Tells old.remaining input
@@ -79,24 +81,24 @@ pub record Executes (start : List ℕ → World) (old new : Devices) (count : �
   pub unread : Leaves old.remaining new.remaining w.input
   pub written : Appends old.written new.written w.output
 
--- The run stopped in this way: at its end, or because the budget was used up.
+-- `Stops` says that the run stopped in this way: at its end, or because the budget was used up.
 abbrev pub Stops : Stop → (budget count : ℕ) → World → Type 0
 Stops (stops.End end) budget count w = end_of w ≡ Some end
 Stops stops.Spent budget count w = (end_of w ≡ None) × (count ≡ budget)
 
--- The limit that a full run reached, by the last requested service. `EndFull` means that the program had no room for a call; any other
--- service is one of the store, and means that the store had too few pages.
+-- Returns the limit that a run reached when it ended with `Full`, determined by the last requested service. `EndFull` means that the
+-- stack had no space for a call; any other service is one of the store, and means that the store had too few pages.
 abbrev pub limit_at : Stop → Core → Option Limit
 limit_at (stops.End ends.Full) core = if register core SERVICE == END_FULL then Some Calls else Some Pages
 limit_at stop core = None
 
--- The report's description of the stopped run is right for this world.
+-- `StandsAt` says that the address and the limit in a report are right for this world.
 abbrev pub StandsAt : Report → World → Type 0
 StandsAt report w = (report.counter ≡ w.machine.core.counter) × (report.limit ≡ limit_at report.stop w.machine.core)
 
--- The report is right for a run from this world. The report gives the number of instructions, within the budget, and how and where the run
--- stopped. The report also gives the numbers of bytes read and printed, and the peaks of calls and pages if they were counted. All parts of
--- the report describe one run.
+-- `IsReported` says that a report is right for a run from this world. The report contains the number of instructions, within the budget,
+-- and how and where the run stopped. The report also contains the numbers of bytes read and printed, and the peaks of calls and pages if
+-- they were counted. All parts of the report describe the same run.
 pub record IsReported (start : List ℕ → World) (budget : ℕ) (old new : Devices) (report : Report) : Type 0 where
   pub world : World
   pub executes : Executes start old new report.count world
@@ -107,15 +109,15 @@ pub record IsReported (start : List ℕ → World) (budget : ℕ) (old new : Dev
   pub printed : report.written ≡ length world.output
   pub peaks : IfSome report.peaks (HasPeaks report.count (start executes.input) world)
 
--- The next instruction requests a byte, or prints one.
+-- `WantsByteNext` says that the next instruction requests a byte.
 abbrev pub WantsByteNext : World → Type 0
 WantsByteNext w = (s : State) × Step w.machine WantsByte s
 
 abbrev pub PrintsNext : World → Type 0
 PrintsNext w = (byte : ℕ) × (s : State) × Step w.machine (Puts byte) s
 
--- The result of a run from this world, over a store that grows or does not. If a device failed, or the store lacked memory, the instruction
--- was not executed.
+-- `Runs` describes the result of a run from this world, over a store that grows or not. If a device failed, or the store lacked memory, the
+-- instruction was not executed.
 abbrev pub Runs : (grows : Bool) (start : List ℕ → World) (budget : ℕ) (old new : Devices) → Result Report RunFault → Type 0
 Runs grows start budget old new (Ok report) = IsReported start budget old new report
 Runs grows start budget old new (Err Read) =
@@ -126,16 +128,17 @@ Runs grows start budget old new (Err Memory) =
     (count : ℕ) × (w : World) × Executes start old new count w × (count < budget) × (end_of w ≡ None) × WantsMemory grows w.machine
 Runs grows start budget old new (Err e) = ⊥
 
--- A result before anything is read or written: a fault, or lack of memory.
+-- `Refuses` says that the result is this fault or lack of memory, before any byte is read or
+-- written.
 abbrev pub Refuses : RunFault → (old new : Devices) → Result Report RunFault → Type 0
 Refuses fault old new result = ((result ≡ Err fault) ⊎ (result ≡ Err Memory)) × Rests old new
 
--- The result of running a loaded image.
+-- `Starts` describes the result of running a loaded image.
 abbrev pub Starts : (grows : Bool) (start : List ℕ → World) (budget : ℕ) (old new : Devices) → Result Report RunFault → Type 0
 Starts grows start budget old new result = ((result ≡ Err Memory) × Rests old new) ⊎ Runs grows start budget old new result
 
--- The result of a call with this store, where `read` is the meaning of the image's bytes. The result is the fault of reading, that of an
--- image outside the machine's memory, or the result of running it.
+-- `Answers` describes the result of a call with this store, where `read` is the meaning of the image's bytes. The result is the fault of
+-- reading, that of an image outside the machine's memory, or the result of running the image.
 abbrev pub Answers : (grows : Bool) → StoreState → Result ImageContents ElfFault → Bounds → (budget : ℕ) (old new : Devices) → Result Report RunFault → Type 0
 Answers grows store (Err f) limits budget old new result = Refuses (Elf f) old new result
 Answers grows store (Ok image) limits budget old new result =
@@ -143,6 +146,7 @@ Answers grows store (Ok image) limits budget old new result =
     (Refuses (Load load.Outside) old new result)
     (Starts grows (start_world image limits store) budget old new result)
 
--- The result of a call that makes its own new store, with the pages of the limits.
+-- `AnswersAnew` describes the result of a call that makes its own new store, with as many pages as
+-- the limits allow.
 abbrev pub AnswersAnew : (grows : Bool) → Result ImageContents ElfFault → Bounds → (budget : ℕ) (old new : Devices) → Result Report RunFault → Type 0
 AnswersAnew grows read limits budget old new result = (store : StoreState) × IsNew limits.pages store × Answers grows store read limits budget old new result

@@ -1,4 +1,5 @@
--- Lack of memory is one fault, wherever it occurs. The numbering of faults is this project's own choice.
+-- Lack of memory is always the same fault, wherever it occurs. The numbering of faults is this project's
+-- own choice.
 use Rattle.std.specs.Prelude.{Bool, true, false, Result, Err}
 use Rattle.cyc_elf.specs.declared.fault.ElfFault.{ElfFault}
 use Rattle.cyc_elf.specs.declared.fault.ElfFault.TheVariants as elf
@@ -21,7 +22,7 @@ abbrev pub fault_of : Device → RunFault
 fault_of Reader = Read
 fault_of Writer = Write
 
--- A call reported that the reader failed.
+-- Returns true if the result of a call says that the reader failed.
 abbrev pub is_read : {T : Type 0} → Result T RunFault → Bool
 is_read (Err Read) = true
 is_read r = false

@@ -1,7 +1,7 @@
--- the definitions that the contracts of `run` and `disassemble` rest on
+-- the definitions on which the contracts of `run` and `disassemble` depend
 pub mod Engine
 pub mod Faults
 pub mod Listing
--- Contracts between this crate's functions, and statements of its proofs. No public contract of the product depends on these internal
--- definitions.
+-- The contracts between this crate's functions, and the statements of its proofs. No public contract of the product depends on these
+-- internal definitions.
 pub mod inside

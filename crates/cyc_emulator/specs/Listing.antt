@@ -1,4 +1,5 @@
--- The listing of an image: a line for each word of text. The form of the listing is this project's own choice.
+-- The listing of an image has a line for each word of text. The form of the listing is this project's own
+-- choice.
 use Rattle.std.specs.Prelude.{◌≡◌, ℕ, ◌+◌, ◌*◌, ◌/◌, List, [], ◌∷◌, ◌++◌, Bool, ◌&&◌, nat_le, nat_lt, Option, None, Some, Result, Ok, Err, ◌⊎◌, if◌then◌else◌, codes}
 use Rattle.std.specs.List.{flat_map, range_with_len}
 use Rattle.std.specs.Io.KnownBytes.{Keeps, Appends}
@@ -13,7 +14,7 @@ use Rattle.cyc_machine_model.specs.Start.{word_in}
 use Rattle.cyc_emulator.specs.declared.report.RunFault.{RunFault}
 use Rattle.cyc_emulator.specs.declared.report.RunFault.TheVariants.{Elf, Write, Memory}
 
--- The text of the word at an address: its instruction, or `.word` if it encodes none.
+-- Returns the text of the word at an address: its instruction, or `.word` if the word encodes none.
 abbrev pub text_or_word : Option Instr → ℕ → List ℕ
 text_or_word (Some i) address = text_of i address
 text_or_word None address = codes ".word"
@@ -21,18 +22,18 @@ text_or_word None address = codes ".word"
 unfoldable pub word_text : (address word : ℕ) → List ℕ
 word_text address word = text_or_word (decode_of word) address
 
--- The address and the word, and a line with both and the word's text; 10 is a line feed.
+-- Returns the beginning of a listing line: the address and the word in hexadecimal digits.
 abbrev pub head_of : (address word : ℕ) → List ℕ
 head_of address word = hex_digits_of address ++ codes ": " ++ hex_digits_of word ++ codes " "
 
 unfoldable pub line_of : (address word : ℕ) → List ℕ
 line_of address word = head_of address word ++ word_text address word ++ 10 ∷ []
 
--- The lines of a segment, one for each of its words in memory.
+-- Returns the lines of a segment, one for each of its words in memory.
 unfoldable pub segment_lines : SegmentContents → List ℕ
 segment_lines s = flat_map (λ k. line_of (s.vaddr + 4 * k) (word_in s (s.vaddr + 4 * k))) (range_with_len 0 (padded s.size / 4))
 
--- The segment begins in the text range.
+-- Returns true if a segment begins in the text range.
 abbrev pub begins_in_text : SegmentContents → Bool
 begins_in_text s = nat_le text_base s.vaddr && nat_lt s.vaddr text_end
 
@@ -42,18 +43,18 @@ listed_lines s = if begins_in_text s then segment_lines s else []
 abbrev pub listing : ImageContents → List ℕ
 listing image = flat_map listed_lines image.segments
 
--- The result if the listing fails before anything is written.
+-- `Silent` says that the listing fails with this fault before any byte is written.
 abbrev pub Silent : RunFault → (old new : Option (List ℕ)) → Result (Unit {0}) RunFault → Type 0
 Silent fault old new result = (result ≡ Err fault) × Keeps old new
 
--- The whole listing is written, or a prefix of it if the writer failed.
+-- `Lists` says that the whole listing is written, or a prefix of it if the writer failed.
 abbrev pub Lists : ImageContents → (old new : Option (List ℕ)) → Result (Unit {0}) RunFault → Type 0
 Lists image old new (Ok done) = Appends old new (listing image)
 Lists image old new (Err Write) = AppendsPrefix old new (listing image)
 Lists image old new (Err e) = ⊥
 
--- The result of a call, where `read` is the meaning of the image's bytes: the fault of reading, or the listing; or lack of memory, and then
--- nothing is written.
+-- `Shows` describes the result of a call, where `read` is the meaning of the image's bytes: the fault of reading, the listing, or lack of
+-- memory. If memory is lacking, nothing is written.
 abbrev pub Shows : Result ImageContents ElfFault → (old new : Option (List ℕ)) → Result (Unit {0}) RunFault → Type 0
 Shows (Err f) old new result = Silent (Elf f) old new result ⊎ Silent Memory old new result
 Shows (Ok image) old new result = Lists image old new result ⊎ Silent Memory old new result

@@ -1,3 +1,3 @@
--- the contracts between the functions inside the crate
+-- the contracts between the functions of this crate
 pub mod Loading
 pub mod Turn

@@ -1,8 +1,9 @@
-//! Replays a run up to its stop, to find the position in the source text and the active calls.
+//! Replays a run up to its stop, to find the source position at which it stopped and the active
+//! calls.
 //!
-//! Runs of an image on the same input are equal. The machine runs at full speed until shortly before the stop, and then one instruction at
-//! a time. The result is right for images made by this compiler: each call has a frame of one size, and its return address is in register
-//! 31 or in the frame's word where the function's entry stores it.
+//! All runs of an image on the same input are equal. The machine runs at full speed until shortly before the stop, and then one
+//! instruction at a time. The result is right for images made by this compiler: all frames have the same size, and the return address of a
+//! call is in register 31 or in the frame's word where the function's entry stores it.
 
 use crate::report::RunFault;
 use cyc_elf::read_outline;
@@ -13,57 +14,61 @@ use cyc_pagestore::PageStore;
 use cyc_store::Store;
 use std::alloc::{AllocError, Global};
 
-/// The most calls that are reported.
+/// The most active calls that are reported.
 pub const MOST_REPORTED: usize = 32;
 
-/// The number of instructions before the stop that are first replayed one at a time.
+/// The number of instructions before the stop that are replayed one at a time in the first attempt.
 const FIRST_WINDOW: u64 = 10_000;
 
-/// The factor by which this number grows if an exception was first thrown before.
+/// The factor by which more instructions are replayed one at a time, if the exception was first
+/// thrown before them.
 const WIDER: u64 = 32;
 
-/// The number of bytes of a frame.
+/// The number of bytes of a stack frame.
 const FRAME_BYTES: u32 = 4 * WORDS_PER_CALL as u32;
 
-/// The word of `addiu $29, $29, -1024`, by which a call makes the callee's frame.
+/// The word of `addiu $29, $29, -1024`, with which a call makes the callee's frame.
 const PUSH_FRAME: u32 = 0x27bd_fc00;
 
-/// The word of `addiu $29, $29, 1024`, by which a function removes its frame.
+/// The word of `addiu $29, $29, 1024`, with which a function removes its frame.
 const POP_FRAME: u32 = 0x27bd_0400;
 
-/// The word of `lw $31, 8($25)`, the first instruction of a throw to a handler: from there on register 31, and then 29, are the handler's.
+/// The word of `lw $31, 8($25)`, the first instruction of a throw to a handler. From this instruction on, register 31 belongs to the
+/// handler, and then register 29 does.
 const THROW: u32 = 0x8f3f_0008;
 
-/// The number of words of a throw to a handler: `lw $29, 4($25)`, `jr $31` and `lw $25, 0($25)` follow the first one.
+/// The number of words of a throw to a handler: `lw $31, 8($25)`, `lw $29, 4($25)`, `jr $31` and `lw $25, 0($25)`.
 const THROW_WORDS: u32 = 4;
 
-/// The upper half of `sw $31, ..($29)`, by which a function saves its return address.
+/// The upper half of `sw $31, ..($29)`, with which a function saves its return address.
 const SAVE: u32 = 0xafbf_0000;
 
-/// The most words from a function's entry up to the save of its return address.
+/// The most words from a function's entry up to the instruction that saves its return address.
 const MOST_ENTRY: u32 = 5;
 
-/// The most words of a call, a return or a throw between the change of the frame and its jump.
+/// The most words of a call, a return or a throw between the instruction that changes the frame and
+/// the jump.
 const MOST_BETWEEN: u32 = 1024;
 
-/// The position at which a run stopped.
+/// The position at which a run stopped, with the active calls.
 #[derive(Drop)]
 pub struct Trail {
-    /// The address of the instruction that determines the position: the one at the stop, or the test or the throw that led there. For an
-    /// exception that was passed on, or is on its way to a handler, it is the first throw.
+    /// The address of the instruction that determines the reported position: the one at the stop, or the test or the throw that caused
+    /// it. For an exception that was passed on, or is on its way to a handler, it is the first throw.
     pub address: u32,
-    /// The addresses of the jumps of the active calls, innermost first, except that of `main`; at most 32.
+    /// The addresses of the jumps that made the active calls, innermost first, except that of `main`; at
+    /// most 32.
     pub calls: Vec<u32>,
-    /// The number of further active calls.
+    /// The number of active calls beyond those listed.
     pub others: u32,
 }
 
-/// Returns the origin of a word.
+/// Returns the origin of the word at an address: the part of the source for which it was made.
 fn source_at(stretches: &[Stretch], address: u32) -> Option<Source> {
     Some(stretch_at(stretches, address)?.source)
 }
 
-/// Returns true if both are the same function, or both are none.
+/// Returns true if both functions are the same, or both are `None`.
 fn is_same_function(one: Option<usize>, other: Option<usize>) -> bool {
     match (one, other) {
         (Some(one), Some(other)) => one == other,
@@ -72,7 +77,7 @@ fn is_same_function(one: Option<usize>, other: Option<usize>) -> bool {
     }
 }
 
-/// Returns the entries of the functions: the first stretch of each that has words.
+/// Returns the entries of the functions: for each function, the first stretch that has words.
 fn entries_of(alloc: Global, stretches: &[Stretch]) -> Result<Vec<Stretch>, AllocError> {
     let mut entries = Vec::new(alloc);
     let mut last = None;
@@ -95,17 +100,17 @@ fn has_slot(word: u32) -> bool {
     }
 }
 
-/// The last change of the frame before an instruction of a function.
+/// The last change of the stack frame before an instruction of a function.
 #[derive(Clone, Copy, PartialEq, Eq)]
 enum Change {
     Nothing,
-    /// The callee has made its frame.
+    /// The frame of the callee was made.
     Made,
-    /// The function has removed its own frame.
+    /// The function has removed its own stack frame.
     Given,
 }
 
-/// Returns the change of the frame by one word.
+/// Returns the change of the stack frame that the instruction of this word makes, if it makes one.
 fn change_by(word: u32) -> Option<Change> {
     match word {
         PUSH_FRAME => Some(Change::Made),
@@ -114,8 +119,8 @@ fn change_by(word: u32) -> Option<Change> {
     }
 }
 
-/// Returns true if the instruction at an address belongs to a throw, after its first one, so that the exception is on its way to its
-/// handler.
+/// Returns true if the instruction at an address belongs to a throw, but is not its first one, so that the exception is on its way
+/// to its handler.
 fn is_leaving<S: Store + Drop>(machine: &Machine<S>, address: u32) -> bool {
     for back in 1..THROW_WORDS {
         if machine.word(address.wrapping_sub(4 * back)) == Ok(THROW) {
@@ -125,7 +130,8 @@ fn is_leaving<S: Store + Drop>(machine: &Machine<S>, address: u32) -> bool {
     false
 }
 
-/// The data for a replay: the text's stretches, and the entries of its functions.
+/// The data for a replay: the stretches of the text (with their origins), and the entries of its
+/// functions.
 #[derive(Clone, Copy)]
 struct Map<'a> {
     stretches: &'a [Stretch],
@@ -133,14 +139,15 @@ struct Map<'a> {
 }
 
 impl Map<'_> {
-    /// Returns the entry of the function that contains a word.
+    /// Returns the address of the entry of the function that contains a word.
     fn entry(&self, address: u32) -> Option<u32> {
         let begun = stretch_at(self.entries, address)?;
         begun.frame_function()?;
         Some(begun.address)
     }
 
-    /// Returns the change of the frame before the instruction at an address, since the previous branch or jump.
+    /// Returns the change of the stack frame between the previous branch or jump and the instruction at an
+    /// address.
     fn change<S: Store + Drop>(&self, machine: &Machine<S>, address: u32) -> Change {
         let Some(entry) = self.entry(address) else {
             return Change::Nothing;
@@ -152,7 +159,8 @@ impl Map<'_> {
             }
             let word = machine.word(before).unwrap_or(0);
             if let Some(change) = change_by(word) {
-                // A frame made in a delay slot belonged to the target of the jump, which has returned.
+                // If a frame was made in a delay slot, it belonged to the target of the jump, which
+                // has returned.
                 let is_in_slot = has_slot(machine.word(before.wrapping_sub(4)).unwrap_or(0));
                 return if is_in_slot { Change::Nothing } else { change };
             }
@@ -164,7 +172,8 @@ impl Map<'_> {
         Change::Nothing
     }
 
-    /// Returns how the function of a word saves its return address: the address of the instruction, and the offset in the frame.
+    /// Returns how the function that contains a word saves its return address: the address of the instruction, and the offset in
+    /// the frame.
     fn saving<S: Store + Drop>(&self, machine: &Machine<S>, address: u32) -> Option<(u32, u32)> {
         let entry = self.entry(address)?;
         for number in 0..MOST_ENTRY {
@@ -177,13 +186,14 @@ impl Map<'_> {
         None
     }
 
-    /// Returns the saved return address of the function of a word, whose frame begins at `frame`.
+    /// Returns the saved return address of the function that contains a word, and whose frame
+    /// begins at `frame`.
     fn kept<S: Store + Drop>(&self, machine: &Machine<S>, address: u32, frame: u32) -> Option<u32> {
         let (_, offset) = self.saving(machine, address)?;
         machine.word(frame.wrapping_add(offset)).ok()
     }
 
-    /// Returns the frame of the current function, and its return address.
+    /// Returns the address of the current function's frame, and its return address.
     fn current<S: Store + Drop>(&self, machine: &Machine<S>, address: u32) -> Option<(u32, u32)> {
         let frame = machine.reg(STACK_POINTER);
         let link = machine.reg(RETURN_ADDRESS);
@@ -202,7 +212,7 @@ impl Map<'_> {
         }
     }
 
-    /// Returns the active calls at the current position.
+    /// Returns the position of the machine with its active calls.
     fn trail<S: Store + Drop>(
         &self,
         alloc: Global,
@@ -235,20 +245,20 @@ impl Map<'_> {
     }
 }
 
-/// The state of a replay, one instruction at a time.
+/// The state of a replay that executes one instruction at a time.
 #[derive(Drop)]
 struct Watch {
-    /// The address of the previous instruction; 0 before the first one.
+    /// The address of the previous instruction, or 0 before the first one.
     last: u32,
-    /// The branch or jump that led to the place where a built-in exception is raised.
+    /// The address of the last branch or jump to code that raises a built-in exception.
     tested: u32,
-    /// The first throw of the last exception, if it was seen.
+    /// The position of the first throw of the last exception, if it was seen.
     thrown: Option<Trail>,
 }
 
 impl Watch {
-    /// Returns the address that determines the origin of an instruction: the test that led to it, if it raises an exception for several
-    /// tests.
+    /// Returns the address that determines the origin of an instruction. If the instruction raises an exception for several tests, it
+    /// is that of the test that failed.
     fn reported(&self, map: Map<'_>, address: u32) -> u32 {
         match source_at(map.stretches, address) {
             Some(Source::Raise { .. }) => self.tested,
@@ -256,7 +266,7 @@ impl Watch {
         }
     }
 
-    /// Notes that the instruction at the program counter is executed next.
+    /// Records that the instruction at the program counter is executed next.
     fn note<S: Store + Drop>(
         &mut self,
         alloc: Global,
@@ -279,7 +289,7 @@ impl Watch {
         Ok(())
     }
 
-    /// Notes that an exception is thrown or passed on.
+    /// Records that an exception is thrown or passed on.
     fn throw<S: Store + Drop>(
         &mut self,
         alloc: Global,
@@ -295,8 +305,8 @@ impl Watch {
         Ok(())
     }
 
-    /// Returns the position at which the run stopped: the first throw of its exception if that is passed on or on its way to a handler.
-    /// Returns `None` if the first throw of the exception was not seen.
+    /// Returns the position at which the run stopped. If an exception is passed on or on its way to a handler, this is the exception's
+    /// first throw. Returns `None` if this throw was not seen.
     fn end<S: Store + Drop>(
         self,
         alloc: Global,
@@ -313,15 +323,15 @@ impl Watch {
     }
 }
 
-/// The input of a run, for a replay.
+/// The input of the original run, for a replay.
 #[derive(Drop)]
 struct Input<'a> {
     bytes: &'a [u8],
     next: usize,
 }
 
-/// Handles an event of an instruction: supplies the input's next byte if one is requested. A replay ignores output, since it was printed in
-/// the first run.
+/// Handles an event of an instruction: supplies the next byte of the input if one is requested. A replay ignores output, since the first
+/// run has printed it.
 fn answer<S: Store + Drop>(machine: &mut Machine<S>, event: Event, input: &mut Input<'_>) {
     if let Event::WantsByte = event {
         let byte = input.bytes.get(input.next).copied();
@@ -330,7 +340,7 @@ fn answer<S: Store + Drop>(machine: &mut Machine<S>, event: Event, input: &mut I
     }
 }
 
-/// Lets a machine run for `count` instructions.
+/// Runs a machine for `count` instructions at full speed.
 fn skip<S: Store + Drop>(machine: &mut Machine<S>, count: u64, input: &mut Input<'_>) {
     let mut left = count;
     for _ in 0..count {
@@ -346,7 +356,7 @@ fn skip<S: Store + Drop>(machine: &mut Machine<S>, count: u64, input: &mut Input
     }
 }
 
-/// Replays a run of this many instructions, executing the last ones one at a time.
+/// Replays a run of this many instructions. The last ones are executed one at a time.
 fn follow_last<S: Store + Drop>(
     alloc: Global,
     map: Map<'_>,
@@ -372,8 +382,8 @@ fn follow_last<S: Store + Drop>(
     watch.end(alloc, map, &machine)
 }
 
-/// Replays a run of this many instructions, of an image with these stretches, limits and input, and returns the position at which it
-/// stopped.
+/// Replays a run of this many instructions, of an image with these stretches, limits and input. Returns the position at which the
+/// run stopped.
 pub fn follow(
     alloc: Global,
     image: &[u8],

@@ -1,4 +1,4 @@
-//! The emulator as calls: an image is run, listed, or replayed up to its stop.
+//! The emulator runs an image, lists it, or replays a run up to its stop.
 #![tactic(auto)]
 
 mod engine;

@@ -1,4 +1,4 @@
-//! Lists the words of an image's text with their instructions.
+//! Lists the words of an image's text with the instructions that they encode.
 
 ghost use Rattle.std.specs.Prelude.{◌≡◌, ◌+◌, ◌<◌, ◌≤◌, ◌&&◌, ◌||◌, nat_le, nat_lt, true, All, OnOk, OnErr, length, map, Err};
 ghost use Rattle.std.specs.Io.KnownBytes.{Keeps};
@@ -49,7 +49,7 @@ fn hex_digits(word: u32) -> [u8; 8]
     ]
 }
 
-/// Writes the text of a word: its instruction, or `.word`.
+/// Writes the text of a word: the instruction that it encodes, or `.word`.
 #[tactic(auto, unfolding(crate::specs::Listing::word_text))]
 fn put_word<W: ByteOut>(address: u32, word: u32, out: &mut W) -> Result<(), Failed>
     ensures bytes { TakesText (W.written out.old) (word_text address word) result (W.written out.new) }
@@ -84,7 +84,7 @@ fn put_line<W: ByteOut>(address: u32, word: u32, out: &mut W) -> Result<(), Fail
     out.put_all(b"\n")
 }
 
-/// Writes the lines of the segment that a header describes.
+/// Writes the lines of the segment that a program header describes.
 fn put_segment<W: ByteOut>(file: &[u8], header: &ProgramHeader, out: &mut W) -> Result<(), Failed>
     requires stored { header.now.offset + header.now.file_size ≤ length file.now }
     requires segment { IsSegment (segment_of file.now (fields_of header.now)) }
@@ -109,7 +109,8 @@ fn is_in_text(address: u32) -> bool
     TEXT_BASE <= address && address < TEXT_END
 }
 
-/// Writes the lines of the segment that a header describes, if it begins in the text range.
+/// Writes the lines of the segment that a program header describes, if the segment begins in the
+/// text range.
 fn put_listed<W: ByteOut>(file: &[u8], header: &ProgramHeader, out: &mut W) -> Result<(), Failed>
     requires stored { header.now.offset + header.now.file_size ≤ length file.now }
     requires segment { IsSegment (segment_of file.now (fields_of header.now)) }
@@ -124,7 +125,7 @@ fn put_listed<W: ByteOut>(file: &[u8], header: &ProgramHeader, out: &mut W) -> R
     }
 }
 
-/// Writes the lines of the segments that headers describe.
+/// Writes the lines of the segments that these program headers describe.
 fn put_all_listed<W: ByteOut>(
     file: &[u8],
     loads: &[ProgramHeader],
@@ -143,14 +144,14 @@ fn put_all_listed<W: ByteOut>(
 }
 
 /// Lists an image: a line for each word of each segment in the text range. A line has the address, the word, and the text of the encoded
-/// instruction, or `.word` if the word encodes none. The segments' bytes are not copied from the file.
+/// instruction, or `.word` if the word encodes none. The bytes of the segments are not copied from the file.
 ///
-/// On failure of the writer, a prefix of the listing is written.
+/// If the writer fails, a prefix of the listing has been written.
 pub fn disassemble<W: ByteOut>(alloc: Global, image: &[u8], writer: &mut W) -> Result<(), RunFault>
     ensures shows { Shows (reading image.now) (W.written writer.old) (W.written writer.new) result }
-    // `Memory` is reported only before the first line.
+    // `disassemble` returns `Memory` only before it has written the first line.
     ensures memory { result ≡ Err Memory → Keeps (W.written writer.old) (W.written writer.new) }
-    // The result is `Write` exactly if the writer failed in this call.
+    // `disassemble` returns `Write` exactly if the writer failed in this call.
     ensures writer { W.failed writer.new ≡ (is_write result || W.failed writer.old) }
 {
     let outline = read_outline(alloc, image)?;

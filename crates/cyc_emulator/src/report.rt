@@ -1,4 +1,4 @@
-//! The results of running or listing an image.
+//! The results of running an image or of listing it.
 
 ghost use Rattle.std.specs.Prelude.{◌≡◌};
 
@@ -7,30 +7,30 @@ use cyc_machine::{End, LoadFault};
 use std::alloc::AllocError;
 use thiserror::Error;
 
-/// The way in which a run stopped.
+/// The way in which a run of an image stopped.
 #[derive(Clone, Copy, Debug, PartialEq, Eq)]
 pub enum Stop {
     /// The run ended.
     End(End),
-    /// The budget was used up before the run ended.
+    /// The budget of instructions was used up before the run ended.
     Spent,
 }
 
-/// The limit that a full run reached.
+/// The limit that a run reached when it ended with `Full`.
 #[derive(Clone, Copy, Debug, PartialEq, Eq)]
 pub enum Limit {
-    /// The limit of calls: the program found no room for one more call, and ended the run.
+    /// The limit of calls: the stack had no space for one more call, so the program ended the run.
     Calls,
     /// The limit of pages: the store had too few pages for a request.
     Pages,
 }
 
-/// The peaks of a run.
+/// The peak use of resources in a run.
 #[derive(Clone, Copy, Debug, PartialEq, Eq)]
 pub struct Peaks {
-    /// The most calls at once.
+    /// The most calls that were active at once.
     pub calls: u32,
-    /// The most pages in use at once.
+    /// The most pages of the store that were in use at once.
     pub pages: u32,
 }
 
@@ -39,26 +39,27 @@ pub struct Peaks {
 pub struct Report {
     pub stop: Stop,
     pub count: u64,
-    /// The address of the instruction that ended the run, or of the next one.
+    /// The address of the instruction that ended the run, or of the next instruction if the run has
+    /// not ended.
     pub counter: u32,
-    /// The limit that was reached, if the run is full.
+    /// The limit that was reached, if the run ended with `Full`.
     pub limit: Option<Limit>,
-    /// The number of bytes read from the input.
+    /// The number of bytes that the run read from the input.
     pub read: u64,
-    /// The number of bytes printed.
+    /// The number of bytes that the program printed.
     pub written: u64,
     /// The peaks of calls and of pages in use, if they were counted.
     pub peaks: Option<Peaks>,
 }
 
-/// The reason why an image was not run to a stop, or not listed. Lack of memory is `Memory`, wherever it occurs; a listing reports neither
-/// `Load` nor `Read`.
+/// The reason for which an image was not run to a stop, or not listed. Lack of memory is `Memory`, wherever it occurs; a listing returns
+/// neither `Load` nor `Read`.
 #[derive(Clone, Copy, Debug, PartialEq, Eq, Error)]
 pub enum RunFault {
-    /// The bytes are no image.
+    /// The bytes are not a valid image.
     #[error("{0}")]
     Elf(ElfFault),
-    /// The image does not fit into the machine's memory.
+    /// The image has a segment for which the machine's memory has no place.
     #[error("{0}")]
     Load(LoadFault),
     /// The reader failed.

@@ -1,5 +1,5 @@
-//! Explains a fault in a function's body. The scope at the fault is the one at which the checker stopped. The items, statements and
-//! expressions of the body are examined in the order of the text, each after its parts.
+//! This file explains a fault in a function's body. The scope at the fault is the scope at which the checker stopped. The items,
+//! statements and expressions of the body are examined in the order of the text, each after its parts.
 use crate::calls::explain_call;
 use crate::expressions::{
     explain_address, explain_binary, explain_chain, explain_key, explain_name, explain_place,
@@ -28,7 +28,7 @@ use std::mem::ManuallyDrop;
 
 // ---- functions
 
-/// Explains a fault in the body of a declaration, if it is there.
+/// Explains a fault in the body of a declaration, if the fault is in this body.
 pub(crate) fn explain_body(teller: &mut Teller, tree: &Tree, declaration: &Declaration) {
     if let Declaration::Function { body, .. } = declaration {
         if teller.is_from(body.span) && !teller.is_from(body.end) {
@@ -62,7 +62,7 @@ fn explain_function(
     }
 }
 
-/// Explains a fault in the body of a function, in the scope at the fault.
+/// Explains a fault in the body of a function, using the scope at the fault.
 fn explain_at_fault(
     teller: &mut Teller,
     scope: &mut Scope<'_>,
@@ -88,7 +88,8 @@ fn note_head(teller: &mut Teller, names: &RegionNames, name: Ident, members: &[M
     }
 }
 
-/// Explains the fault in the forms of a body, which are listed last one first.
+/// Explains the fault in the forms (items, statements and expressions) of a body, which are listed
+/// last one first.
 fn explain_forms(
     teller: &mut Teller,
     scope: &mut Scope<'_>,
@@ -124,7 +125,7 @@ fn explain_form(
     }
 }
 
-/// Adds the region of a block to the known regions.
+/// Adds the region of a block to the regions known to the explanation.
 fn explain_begin(teller: &mut Teller, label: Option<Ident>, span: Span) {
     match label {
         Some(label) => add_region(teller, label, Origin::Block),
@@ -134,8 +135,8 @@ fn explain_begin(teller: &mut Teller, label: Option<Ident>, span: Span) {
 
 // ---- items
 
-/// Explains a local that these items declare twice or that is already declared. The names that the items declare are out of scope after the
-/// items.
+/// Explains a local that these items declare twice or that is already declared. The names that these items declare are out of scope after
+/// the items.
 fn explain_declared(teller: &mut Teller, items: &Vec<Item>) {
     for item in items {
         match item {
@@ -149,7 +150,7 @@ fn explain_declared(teller: &mut Teller, items: &Vec<Item>) {
     teller.declared.clear();
 }
 
-/// Explains a fault in an item of a block that ends there.
+/// Explains a fault in an item of a block that ends at position `end`.
 fn explain_item(teller: &mut Teller, scope: &mut Scope<'_>, item: &Item, end: Option<Span>) {
     match item {
         Item::Statement { .. } => {}
@@ -170,7 +171,8 @@ fn explain_item(teller: &mut Teller, scope: &mut Scope<'_>, item: &Item, end: Op
     }
 }
 
-/// Explains a fault in an item that opens a region, by a key or as a new one, in a block that ends there.
+/// Explains a fault in an item that opens a region, by a key or as a new region, in a block that ends at
+/// position `end`.
 fn explain_region_item(
     teller: &mut Teller,
     scope: &Scope<'_>,
@@ -187,7 +189,7 @@ fn explain_region_item(
     }
 }
 
-/// Adds a named region, whose name must be new.
+/// Adds a region with a name, which must be new.
 fn add_region(teller: &mut Teller, name: Ident, origin: Origin) {
     explain_region_twice(teller, name);
     teller.notes.homes.add(Some(name), name.span, origin);
@@ -206,7 +208,8 @@ fn explain_statement(teller: &mut Teller, scope: &mut Scope<'_>, statement: &Stm
     }
 }
 
-/// Explains a fault before the items of a clause, or a second declaration of its variable.
+/// Explains a fault before the items of a `catch` clause, or a second declaration of the clause's
+/// variable.
 fn explain_clause(teller: &mut Teller, scope: &Scope<'_>, clause: &Clause) {
     explain_exception(teller, scope, clause.exception);
     teller
@@ -221,7 +224,8 @@ fn explain_clause(teller: &mut Teller, scope: &Scope<'_>, clause: &Clause) {
 
 // ---- expressions
 
-/// Explains a fault in the demands of an expression's own form, apart from its parts and from the demand on its value.
+/// Explains a violated requirement of an expression's own form, apart from the requirements of its parts and on its
+/// value.
 fn explain_expression(
     teller: &mut Teller,
     scope: &mut Scope<'_>,
@@ -248,7 +252,7 @@ fn explain_expression(
     }
 }
 
-/// Explains a fault in an expression that demands nothing of the type of a part.
+/// Explains a fault in an expression whose form requires nothing of the type of a part.
 fn explain_plain(teller: &mut Teller, scope: &Scope<'_>, expression: &Expr) {
     match expression {
         Expr::UniqueRegion { span } => teller.tell(Message::UniqueRegionAlone, *span),

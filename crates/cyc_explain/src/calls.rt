@@ -1,4 +1,4 @@
-//! Explains faults in a call, in terms of the caller and of the called function.
+//! This file explains faults in a call, in terms of the caller and of the called function.
 use cyc_check::value_type;
 use cyc_declarations::members;
 use cyc_explain_texts::conversions::{explain_conversion, say_closed, say_shorter};
@@ -18,7 +18,8 @@ use std::mem::ManuallyDrop;
 
 // ---- regions of the call
 
-/// Notes the name of a function, its regions as its own signature names them, and the name of its parameter of this number.
+/// Notes the name of a called function, its regions as its own signature names them, and the name of its parameter with
+/// this number.
 fn note_theirs(
     teller: &mut Teller,
     declarations: &[Declaration],
@@ -47,7 +48,8 @@ fn note_theirs(
     }
 }
 
-/// Returns the given region that corresponds to the first occurrence of a region variable.
+/// Returns the region in `given` that corresponds to the first occurrence of a region variable in
+/// `variables`.
 fn region_among(variables: &[Region], given: &[Region], variable: Region) -> Option<Region> {
     let mut found = None;
     for i in 0..variables.len() {
@@ -58,7 +60,8 @@ fn region_among(variables: &[Region], given: &[Region], variable: Region) -> Opt
     found
 }
 
-/// Returns the given region that corresponds to a region variable in a parameter's type.
+/// Returns the region of an argument's type that corresponds to a region variable in a parameter's
+/// type.
 fn region_in(parameter: &Ty, given: &Ty, variable: Region) -> Option<Region> {
     match (parameter, given) {
         (
@@ -85,7 +88,8 @@ fn region_in(parameter: &Ty, given: &Ty, variable: Region) -> Option<Region> {
     }
 }
 
-/// Returns the given region of a pointer, a handle or a key, if the parameter's region is this variable.
+/// Returns the region of an argument's pointer, handle or key, if the parameter's region is this region
+/// variable.
 fn region_outside(parameter: &Ty, given: &Ty, variable: Region) -> Option<Region> {
     if region_of(parameter) == variable {
         Some(region_of(given))
@@ -94,7 +98,8 @@ fn region_outside(parameter: &Ty, given: &Ty, variable: Region) -> Option<Region
     }
 }
 
-/// Returns the given region that corresponds to a region variable in all parameters; the heap if there is none.
+/// Returns the region of the arguments that corresponds to a region variable in the parameters; the heap if
+/// there is none.
 fn region_given(parameters: &[Ty], values: &[ValueType], variable: Region) -> Region {
     let mut found = None;
     for i in 0..parameters.len() {
@@ -105,7 +110,7 @@ fn region_given(parameters: &[Ty], values: &[ValueType], variable: Region) -> Re
     found.unwrap_or(Region::Heap)
 }
 
-/// Returns the regions bound to the region variables of a function, at a call with these values.
+/// Returns the regions that a call with these values binds to the region variables of the function.
 fn instance_of(alloc: Global, signature: &Signature, values: &[ValueType]) -> Vec<Region> {
     let mut instance = Vec::new(alloc);
     for number in 0..signature.variables.saturating_add(1) {
@@ -158,7 +163,7 @@ fn say_here(teller: &mut Teller, own: Region, here: Region) {
     }
 }
 
-/// Explains a constraint that a call violates, given these regions.
+/// Explains a constraint between regions that a call violates.
 fn explain_constraint(
     teller: &mut Teller,
     scope: &Scope<'_>,
@@ -175,7 +180,7 @@ fn explain_constraint(
     }
 }
 
-/// Writes the effect of a function.
+/// Writes the effect of a function, which is the set of regions that it may access.
 fn say_effect(teller: &mut Teller, effect: &[Region]) {
     teller.say(Message::Effect);
     let mut is_first = true;
@@ -191,7 +196,7 @@ fn say_effect(teller: &mut Teller, effect: &[Region]) {
     teller.say(Message::EffectEnd);
 }
 
-/// Explains a region of an effect that is not live.
+/// Explains a region of a function's effect that is not live at the call.
 fn explain_effect(
     teller: &mut Teller,
     scope: &Scope<'_>,
@@ -208,7 +213,8 @@ fn explain_effect(
     }
 }
 
-/// Explains an argument that cannot be converted to its parameter's type, or a unique pointer passed where none is expected.
+/// Explains an argument that cannot be converted to its parameter's type, or a unique pointer that is passed to a parameter
+/// that does not accept one.
 fn explain_argument(
     teller: &mut Teller,
     scope: &Scope<'_>,
@@ -217,7 +223,7 @@ fn explain_argument(
     instance: &[Region],
 ) {
     if teller.want_type(parameter.substituted(teller.alloc, instance).ok()) {
-        // The declaration of a built-in function names no parameter.
+        // The declaration of a built-in function names no parameters.
         let lead = if teller.notes.name == NO_NAME {
             Message::OtherType
         } else {
@@ -231,7 +237,8 @@ fn explain_argument(
     }
 }
 
-/// Explains a violated constraint of a function, given the regions bound to its variables.
+/// Explains a violated constraint of a function, given the regions bound to the function's region
+/// variables.
 fn explain_constraints(
     teller: &mut Teller,
     scope: &Scope<'_>,
@@ -245,7 +252,8 @@ fn explain_constraints(
     }
 }
 
-/// Explains a violated effect of a function, given the regions bound to its variables.
+/// Explains a violated effect of a function, given the regions bound to the function's region
+/// variables.
 fn explain_effects(
     teller: &mut Teller,
     scope: &Scope<'_>,
@@ -259,7 +267,8 @@ fn explain_effects(
     }
 }
 
-/// Explains a fault in a call of a function with this signature and these values, or in its argument of this number.
+/// Explains a fault in a call of a function with this signature and these values, or in its argument with this
+/// number.
 fn explain_called(
     teller: &mut Teller,
     scope: &Scope<'_>,
@@ -283,7 +292,7 @@ fn explain_called(
     }
 }
 
-/// Says the head of a function as it is declared; a built-in one has no declaration.
+/// Writes the head of a function as it is declared; a built-in function has no declaration.
 fn say_declared(teller: &mut Teller, declarations: &[Declaration], function: Ident) {
     for declaration in declarations {
         if let Declaration::Function {
@@ -319,7 +328,7 @@ fn explain_number(
     }
 }
 
-/// Explains a fault at the name of a call, or at its argument of this number.
+/// Explains a fault at the name of a called function, or at the call's argument with this number.
 pub(crate) fn explain_call(
     teller: &mut Teller,
     scope: &mut Scope<'_>,

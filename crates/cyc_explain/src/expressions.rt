@@ -1,4 +1,4 @@
-//! Explains violated demands of expressions on their parts.
+//! This file explains violated requirements of expressions on their parts.
 use crate::types::find;
 use cyc_check::value_type;
 use cyc_explain_texts::messages::Message;
@@ -15,7 +15,7 @@ use cyc_words::{Code, Span};
 
 // ---- names and places
 
-/// Explains a name that is no value, or that cannot be read.
+/// Explains a name that denotes no value, or whose value cannot be read.
 pub(crate) fn explain_name(teller: &mut Teller, scope: &Scope<'_>, name: Ident) {
     match scope.meaning(name) {
         Meaning::Unknown => {
@@ -31,7 +31,7 @@ pub(crate) fn explain_name(teller: &mut Teller, scope: &Scope<'_>, name: Ident) 
     }
 }
 
-/// Explains a name that is used as a key but is none.
+/// Explains a name that is used as a key but does not denote a key.
 pub(crate) fn explain_key(teller: &mut Teller, scope: &Scope<'_>, name: Ident) {
     explain_name(teller, scope, name);
     let of_type = match scope.meaning(name) {
@@ -58,7 +58,7 @@ pub(crate) fn explain_place(teller: &mut Teller, scope: &Scope<'_>, expression: 
     }
 }
 
-/// Returns the reason why an expression that is reached through no variable is not an lvalue.
+/// Returns the reason why an expression that accesses no variable is not an lvalue.
 fn message_on_value(expression: &Expr) -> Message {
     match expression {
         Expr::Bracketed { inner, .. } => message_on_value(inner),
@@ -86,7 +86,7 @@ fn message_on_place(meaning: Meaning<'_>) -> Message {
     }
 }
 
-/// Returns the variable that an lvalue is, or is reached through.
+/// Returns the variable that an lvalue denotes, or through which it is reached.
 fn root_of(expression: &Expr) -> Option<Ident> {
     match expression {
         Expr::Variable { name } => Some(*name),
@@ -112,7 +112,7 @@ pub(crate) fn explain_address(teller: &mut Teller, scope: &Scope<'_>, operand: &
     }
 }
 
-/// Explains a fault in reading the target of a pointer at this place.
+/// Explains a fault in reading the target of a pointer at this source position.
 pub(crate) fn explain_target(
     teller: &mut Teller,
     scope: &mut Scope<'_>,
@@ -150,7 +150,7 @@ fn type_of_field(scope: &Scope<'_>, of_type: &Ty, name: Ident) -> Option<Ty> {
     None
 }
 
-/// Returns the type of a pointer's target, or of the field of this name there.
+/// Returns the type of a pointer's target, or of the target's field with this name.
 fn type_after(scope: &Scope<'_>, pointer: &Option<ValueType>, field: Option<Ident>) -> Option<Ty> {
     let target = target_of(pointer)?;
     match field {
@@ -159,7 +159,8 @@ fn type_after(scope: &Scope<'_>, pointer: &Option<ValueType>, field: Option<Iden
     }
 }
 
-/// Continues from the pointer found to its target, or to a field there, and explains a fault in reading it.
+/// Continues from the pointer found to its target, or to a field of the target, and explains a fault in
+/// reading it.
 fn explain_after(teller: &mut Teller, scope: &Scope<'_>, start: Span, field: Option<Ident>) {
     let following = type_after(scope, &teller.notes.found, field);
     if teller.find_type(following) {
@@ -169,7 +170,7 @@ fn explain_after(teller: &mut Teller, scope: &Scope<'_>, start: Span, field: Opt
 
 // ---- postfixes
 
-/// Returns the field that a postfix names; an index names none.
+/// Returns the field that a postfix operator names; an index names no field.
 fn field_of(postfix: &Postfix) -> Option<Ident> {
     match postfix {
         Postfix::Field { name } => Some(*name),
@@ -177,7 +178,7 @@ fn field_of(postfix: &Postfix) -> Option<Ident> {
     }
 }
 
-/// Explains violated demands of the postfixes after an operand, in order.
+/// Explains violated requirements of the postfix operators after an operand, in order.
 pub(crate) fn explain_chain(
     teller: &mut Teller,
     scope: &mut Scope<'_>,
@@ -195,7 +196,8 @@ pub(crate) fn explain_chain(
     }
 }
 
-/// Returns true if the fault is at the beginning of a chain of postfixes, or at a field's name.
+/// Returns true if the fault is at the beginning of a chain of postfix operators, or at a field's
+/// name in it.
 fn is_in_chain(teller: &Teller, start: Span, postfixes: &[Postfix]) -> bool {
     let mut is_here = teller.is_at(start);
     for postfix in postfixes {
@@ -206,7 +208,7 @@ fn is_in_chain(teller: &Teller, start: Span, postfixes: &[Postfix]) -> bool {
     is_here
 }
 
-/// Explains a violated demand of a postfix, which names this field or is an index, on the pointer found and on its target. The target then
+/// Explains a violated requirement of a postfix operator (a field or an index) on the pointer found and on its target. The target then
 /// becomes the value found.
 fn explain_postfix(teller: &mut Teller, scope: &Scope<'_>, start: Span, field: Option<Ident>) {
     match field {
@@ -230,7 +232,8 @@ fn explain_field_name(teller: &mut Teller, scope: &Scope<'_>, name: Ident) {
 
 // ---- binary operators
 
-/// Explains violated demands of the operators of a chain on the value to the left of each. All results except pointer sums are ints.
+/// Explains violated requirements of the operators of a chain on the value to the left of each operator. All results except pointer
+/// sums are ints.
 pub(crate) fn explain_binary(
     teller: &mut Teller,
     scope: &mut Scope<'_>,
@@ -246,8 +249,8 @@ pub(crate) fn explain_binary(
     }
 }
 
-/// Explains a violated demand of an operation on its left operand, in a chain that begins at this place. The operation's own type then
-/// becomes the type found.
+/// Explains a violated requirement of an operation on its left operand, in a chain that begins at this source position. The
+/// operation's own type then becomes the type found.
 fn explain_operation(
     teller: &mut Teller,
     scope: &mut Scope<'_>,
@@ -269,7 +272,7 @@ fn is_null(found: &Option<ValueType>) -> bool {
     matches!(found, Some(ValueType::Null))
 }
 
-/// Explains two values that cannot be compared, if both types are known.
+/// Explains two values that cannot be compared, if the types of both values are known.
 fn explain_compared(teller: &mut Teller, span: Span) {
     if matches!(teller.notes.wanted, Some(_)) {
         let is_left = given(&teller.notes.found).is_pointer();

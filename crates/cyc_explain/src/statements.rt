@@ -1,4 +1,4 @@
-//! Explains violated demands of items and statements on their parts.
+//! This file explains violated requirements of items and statements on their parts.
 use crate::expressions::{explain_key, explain_name, explain_place};
 use cyc_check::place_type;
 use cyc_explain_texts::messages::Message;
@@ -17,7 +17,8 @@ use cyc_words::{Code, Span};
 
 // ---- statements
 
-/// Explains an exception that is not declared, or that is written with an int although it has none, or without although it has one.
+/// Explains an exception that is not declared, or that is written with an int although its declaration has none, or without an int
+/// although its declaration has one.
 pub(crate) fn explain_exception(teller: &mut Teller, scope: &Scope<'_>, exception: Ident) {
     explain_unknown(teller, scope, Sort::Exception, exception);
     if let Some(known) = scope.exception(exception.name.number) {
@@ -39,7 +40,7 @@ pub(crate) fn result_type(scope: &Scope<'_>) -> Option<Ty> {
     }
 }
 
-/// Explains a `return` without a value, or with one in a function without result.
+/// Explains a `return` without a value, or a `return` with a value in a function without a result.
 pub(crate) fn explain_return(teller: &mut Teller, scope: &Scope<'_>, span: Span, has_value: bool) {
     if has_value {
         if matches!(scope.result_type(), None) {
@@ -69,13 +70,13 @@ pub(crate) fn explain_swap(teller: &mut Teller, scope: &mut Scope<'_>, left: &Ex
 
 // ---- items
 
-/// Returns a written type in which omitted regions become `left_out`.
+/// Returns a written type in which each omitted region is replaced by `left_out`.
 pub(crate) fn type_here(scope: &Scope<'_>, written: &WrittenType, left_out: Region) -> Option<Ty> {
     let (structs, names) = (scope.structs(), scope.names());
     type_written(scope.alloc(), structs, names, left_out, written).ok()
 }
 
-/// Explains a fault in a type that is written in a body.
+/// Explains a fault in a type that is written in a function's body.
 pub(crate) fn explain_written_here(teller: &mut Teller, scope: &Scope<'_>, written: &WrittenType) {
     explain_written(teller, written);
     if let BaseType::Struct { name, .. } = &written.base {
@@ -91,7 +92,8 @@ pub(crate) fn explain_opened(teller: &mut Teller, scope: &Scope<'_>, region: Ide
     explain_key(teller, scope, key);
 }
 
-/// Explains a fault in an alias, whose type is that of its source except for the region.
+/// Explains a fault in an alias; the type of an alias is the type of its source except for the
+/// region.
 pub(crate) fn explain_alias(
     teller: &mut Teller,
     scope: &Scope<'_>,
@@ -121,7 +123,7 @@ pub(crate) fn explain_alias(
     }
 }
 
-/// Returns the type of an alias with this region, for a pointer of this type.
+/// Returns the type of an alias with this region, for a source pointer of this type.
 fn type_lent(of_type: &Ty, region: Region) -> Option<Ty> {
     match of_type.share() {
         Ok(Ty::Pointer { kind, target, .. }) => Some(Ty::Pointer {

@@ -1,4 +1,4 @@
-//! Explains values that may not be used in their role.
+//! This file explains values that may not be used in their role.
 use crate::calls::explain_call;
 use crate::statements::{result_type, type_here};
 use crate::types::find;
@@ -16,7 +16,8 @@ use cyc_syntax::{Declaration, Expr, Ident, Postfix, PrefixOperator};
 use cyc_types::{Region, Ty};
 use cyc_words::Span;
 
-/// Returns the region of the type of a local with this initial value if the type omits it.
+/// Returns the region that the type of a local with this initial value gets if the type omits the
+/// region.
 fn left_out_of(value: Given<'_>) -> Region {
     match value {
         Given::Value(Ty::Pointer { region, .. }) => *region,
@@ -24,7 +25,7 @@ fn left_out_of(value: Given<'_>) -> Region {
     }
 }
 
-/// Returns the type that a value is converted to, if it is known.
+/// Returns the type to which a value is converted, if this type is known.
 fn type_wanted(scope: &mut Scope<'_>, role: &Role<'_>, found: Given<'_>) -> Option<Ty> {
     match role {
         Role::Operand(_) | Role::Argument(..) => None,
@@ -58,7 +59,7 @@ pub(crate) fn explain_value(
     }
 }
 
-/// Explains a fault in the conversion of the value at this place to a type.
+/// Explains a fault in the conversion of the value at this source position to a type.
 fn explain_converted(teller: &mut Teller, scope: &mut Scope<'_>, role: &Role<'_>, span: Span) {
     let wanted = type_wanted(scope, role, given(&teller.notes.found));
     if teller.want_type(wanted) {
@@ -67,7 +68,7 @@ fn explain_converted(teller: &mut Teller, scope: &mut Scope<'_>, role: &Role<'_>
     }
 }
 
-/// Returns the message on the role of a value, and notes its names.
+/// Returns the message about the role of a value, and notes the names for the message.
 fn note_target(notes: &mut Notes, scope: &Scope<'_>, role: &Role<'_>) -> Message {
     match role {
         Role::Local(name, _) => {
@@ -85,7 +86,7 @@ fn note_target(notes: &mut Notes, scope: &Scope<'_>, role: &Role<'_>) -> Message
     }
 }
 
-/// Returns the message on a value assigned to this lvalue, and notes its names.
+/// Returns the message about a value assigned to this lvalue, and notes the names for the message.
 fn note_assigned(notes: &mut Notes, target: &Expr) -> Message {
     match target {
         Expr::Bracketed { inner, .. } => note_assigned(notes, inner),
@@ -105,7 +106,7 @@ fn note_assigned(notes: &mut Notes, target: &Expr) -> Message {
     }
 }
 
-/// Returns the name of a variable with at most one postfix.
+/// Returns the name of a variable with at most one postfix operator.
 fn only_name(base: &Expr, postfixes: &[Postfix]) -> Option<Ident> {
     match base {
         Expr::Variable { name } if postfixes.len() < 2 => Some(*name),
@@ -113,7 +114,8 @@ fn only_name(base: &Expr, postfixes: &[Postfix]) -> Option<Ident> {
     }
 }
 
-/// Notes the name that a message refers to, and returns the message; without a name, `Nothing`.
+/// Notes the name to which a message refers, and returns the message; if there is no name, returns
+/// `Nothing`.
 fn note_name(notes: &mut Notes, name: Option<Ident>, message: Message) -> Message {
     match name {
         Some(name) => {

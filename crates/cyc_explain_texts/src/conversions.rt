@@ -12,7 +12,8 @@ use cyc_words::{Code, Span};
 
 // ---- regions that are not live
 
-/// Returns the last end, before the fault, of a block that opens the dynamic region of this name.
+/// Returns the last end, before the fault, of a block that opens the dynamic region with the given
+/// name.
 fn last_end(teller: &Teller, name: usize) -> Option<Span> {
     let mut last = None;
     for ending in &teller.endings {
@@ -23,7 +24,7 @@ fn last_end(teller: &Teller, name: usize) -> Option<Span> {
     last
 }
 
-/// Writes why a region is not live.
+/// Writes the reason why a region is not live.
 pub fn say_closed(teller: &mut Teller, region: Region) {
     teller.notes.regions.0 = region;
     match teller.notes.homes.find(region) {
@@ -59,7 +60,7 @@ pub fn say_closed(teller: &mut Teller, region: Region) {
     }
 }
 
-/// Explains a pointer or a handle at this place whose region is not live.
+/// Explains a pointer or a handle at the given source position whose region is not live.
 pub fn explain_closed(teller: &mut Teller, scope: &Scope<'_>, span: Span) {
     let region = given(&teller.notes.found).region();
     if teller.is_fault(Code::RegionNotLive, span) && !scope.is_live(region) {
@@ -70,7 +71,7 @@ pub fn explain_closed(teller: &mut Teller, scope: &Scope<'_>, span: Span) {
 
 // ---- regions that do not outlive others
 
-/// Returns the message on the origin of a region with this home, if there is more to say than its name.
+/// Returns the message about a region's origin, or `None` if only the region's name is known.
 fn beginning_of(region: Region, home: Option<Home>) -> Option<Message> {
     match home {
         Some(home) => match home.origin {
@@ -87,7 +88,8 @@ fn beginning_of(region: Region, home: Option<Home>) -> Option<Message> {
     }
 }
 
-/// Writes the origin of a region after a mark. Returns true if the region's origin gives anything to write.
+/// Writes a region's origin, introduced by the message `mark`. Returns true if there was an origin to
+/// write.
 fn say_beginning(teller: &mut Teller, mark: Message, region: Region) -> bool {
     let home = teller.notes.homes.find(region);
     let beginning = beginning_of(region, home);
@@ -105,7 +107,8 @@ fn say_beginning(teller: &mut Teller, mark: Message, region: Region) -> bool {
     }
 }
 
-/// Writes on a separate line which region does not outlive which other one, and where both begin, and then the advice.
+/// Writes, on a separate line, that `region` does not outlive `other`, where the two regions begin, and then the
+/// advice.
 pub fn say_shorter(teller: &mut Teller, region: Region, other: Region) {
     teller.notes.regions = (region, other);
     teller.say(Message::NotOutlived);
@@ -137,7 +140,8 @@ pub fn say_shorter(teller: &mut Teller, region: Region, other: Region) {
     }
 }
 
-/// Returns the advice about a region of the current function that does not outlive another.
+/// Returns the advice about a region of the current function that does not outlive the region
+/// `other`.
 fn advice_on_regions(home: Home, other: Region, other_home: Option<Home>) -> Message {
     match other {
         Region::Unique => Message::Nothing,
@@ -168,7 +172,7 @@ fn advice_between(home: Home, other: Home) -> Message {
 
 // ---- conversions
 
-/// Returns true if two types are equal except for regions.
+/// Returns true if two types are equal when regions are ignored.
 fn has_shape(of_type: &Ty, wanted: &Ty) -> bool {
     match (of_type, wanted) {
         (Ty::Int, Ty::Int)
@@ -194,7 +198,7 @@ fn has_shape(of_type: &Ty, wanted: &Ty) -> bool {
     }
 }
 
-/// Returns a further message about a value whose type differs from the wanted one.
+/// Returns a second message about a value whose type differs from the required type.
 fn more_on(given: Given<'_>, wanted: &Ty) -> Message {
     match (given, wanted) {
         (Given::Void, _) => Message::VoidUsed,
@@ -214,8 +218,8 @@ fn more_on(given: Given<'_>, wanted: &Ty) -> Message {
     }
 }
 
-/// Returns a further message about pointers to different types. The outer marks of the pointer types do not matter, since only the targets
-/// cannot be converted.
+/// Returns a second message about pointers with different target types. The outer marks of the pointer types do not matter, because only
+/// the targets cannot be converted.
 fn more_on_targets(target: &Ty, wanted: &Ty) -> Message {
     match (target, wanted) {
         _ if has_shape(target, wanted) => Message::OtherRegions,
@@ -256,7 +260,8 @@ fn is_named(homes: &Homes, region: Region) -> bool {
     }
 }
 
-/// Returns the advice if the type found differs from the wanted one, for this first message and a further one, if there is any.
+/// Returns the advice about a value whose type differs from the required type, from the first message and the second one, if
+/// there is a second.
 fn better(notes: &Notes, lead: Message, more: Message) -> Message {
     match more {
         Message::OtherRegions | Message::OtherTarget => better_on_regions(notes, lead, more),
@@ -267,7 +272,7 @@ fn better(notes: &Notes, lead: Message, more: Message) -> Message {
     }
 }
 
-/// Returns the number of the struct that a pointer refers to.
+/// Returns the number of the struct that a pointer value points to.
 fn struct_after(value: &Option<ValueType>) -> Option<usize> {
     match value {
         Some(
@@ -279,8 +284,8 @@ fn struct_after(value: &Option<ValueType>) -> Option<usize> {
     }
 }
 
-/// Returns true if the wanted type is that of a new struct at this place. Returns true also if the value found, for a field of a new
-/// struct, refers to a new struct itself.
+/// Returns true if the required type is that of a new struct. Also returns true if a value for a field of a new struct points to the
+/// same new struct.
 fn is_of_new(notes: &Notes, lead: Message) -> bool {
     match lead {
         Message::FieldType => struct_after(&notes.found).is_some_and(|number| notes
@@ -291,7 +296,8 @@ fn is_of_new(notes: &Notes, lead: Message) -> bool {
     }
 }
 
-/// Returns true if a pointer refers to a struct whose regions are all the heap, as when they are omitted.
+/// Returns true if a pointer points to a struct whose region arguments are all the heap, as they are when
+/// omitted.
 fn is_of_heap(value: &Option<ValueType>) -> bool {
     match value {
         Some(
@@ -319,7 +325,7 @@ fn are_heap(regions: &[Region]) -> bool {
     true
 }
 
-/// Returns the number of the struct that a type is.
+/// Returns the number of the struct if the type is a struct type.
 fn struct_of(of_type: &Ty) -> Option<usize> {
     match of_type {
         Ty::Struct { number, .. } => Some(*number),
@@ -327,7 +333,8 @@ fn struct_of(of_type: &Ty) -> Option<usize> {
     }
 }
 
-/// Returns true if two types are pointers of any kind to targets that are equal except for regions.
+/// Returns true if two types are pointers of any kind whose targets are equal when regions are
+/// ignored.
 fn lead_alike(of_type: &Ty, wanted: &Ty) -> bool {
     match (of_type, wanted) {
         (
@@ -341,7 +348,8 @@ fn lead_alike(of_type: &Ty, wanted: &Ty) -> bool {
     }
 }
 
-/// Returns true if the targets of the types found and wanted are pointers that differ only in their marks.
+/// Returns true if the targets of the found type and of the required type are pointers that differ only in
+/// their marks.
 fn is_of_other_mark(notes: &Notes) -> bool {
     match (&notes.found, &notes.wanted) {
         (
@@ -363,7 +371,7 @@ fn is_of_other_mark(notes: &Notes) -> bool {
     }
 }
 
-/// Returns the advice if regions inside the types differ, or the targets do.
+/// Returns the advice about types whose targets or inner regions differ.
 fn better_on_regions(notes: &Notes, lead: Message, more: Message) -> Message {
     let is_written = match &notes.found {
         Some(ValueType::Value { of_type }) => has_names(&notes.homes, of_type),
@@ -387,7 +395,7 @@ fn better_on_regions(notes: &Notes, lead: Message, more: Message) -> Message {
     }
 }
 
-/// Returns the advice if a new object is given for an int.
+/// Returns the advice about a new object that is used as an int.
 fn better_on_made(lead: Message) -> Message {
     match lead {
         Message::LocalType | Message::VariableType => Message::PointerMade,
@@ -395,7 +403,7 @@ fn better_on_made(lead: Message) -> Message {
     }
 }
 
-/// Returns the advice if an int is given for a pointer.
+/// Returns the advice about an int that is used as a pointer.
 fn better_on_null(notes: &Notes, lead: Message) -> Message {
     match lead {
         Message::VariableType => Message::ThroughWanted,
@@ -404,7 +412,7 @@ fn better_on_null(notes: &Notes, lead: Message) -> Message {
     }
 }
 
-/// Returns the demand that is violated when the type found is converted to the wanted one, and a further message about the types.
+/// Returns the demand that converting the found type to the required type violates, and a second message about the types.
 fn broken(notes: &Notes, scope: &Scope<'_>, span: Span) -> Option<(Code, Message)> {
     if let Some(ValueType::Value { of_type }) = &notes.wanted {
         let found = given(&notes.found);
@@ -417,7 +425,7 @@ fn broken(notes: &Notes, scope: &Scope<'_>, span: Span) -> Option<(Code, Message
     None
 }
 
-/// Explains a value at this place whose type cannot be converted to the wanted one. `lead` is the message on the value's role.
+/// Explains a value whose type cannot be converted to the required type. The message `lead` describes the value's role.
 pub fn explain_conversion(teller: &mut Teller, scope: &Scope<'_>, span: Span, lead: Message) {
     if let Some((code, more)) = broken(&teller.notes, scope, span) {
         if teller.is_fault(code, span) {

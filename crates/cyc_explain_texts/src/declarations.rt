@@ -22,7 +22,7 @@ pub fn explain_declarations(teller: &mut Teller, declarations: &[Declaration]) {
     }
 }
 
-/// Explains a missing `main` if some function has a similar name.
+/// Explains a missing `main`; if some function has a similar name, the message says so.
 fn explain_no_main(teller: &mut Teller, declarations: &[Declaration]) {
     let mut message = Message::MainMissing;
     for declaration in declarations {
@@ -36,7 +36,7 @@ fn explain_no_main(teller: &mut Teller, declarations: &[Declaration]) {
     teller.tell(message, Span { line: 1, column: 1 });
 }
 
-/// Explains structs with equal names, or globals and functions with equal names.
+/// Explains two structs with equal names, or two globals or functions with equal names.
 fn explain_names(teller: &mut Teller, declarations: &[Declaration], is_struct: bool) {
     teller.declared.clear();
     for declaration in declarations {
@@ -84,7 +84,7 @@ fn explain_constructors(teller: &mut Teller, constructors: &[Constructor]) {
     }
 }
 
-/// Explains a fault in a struct, apart from its name.
+/// Explains a fault in the parts of a struct declaration, but not in the struct's name.
 fn explain_struct(teller: &mut Teller, regions: &[Ident], fields: &[Member]) {
     for region in regions {
         teller.declare(*region);
@@ -99,7 +99,7 @@ fn explain_struct(teller: &mut Teller, regions: &[Ident], fields: &[Member]) {
     explain_members(teller, fields);
 }
 
-/// Explains a fault in the types and names of members.
+/// Explains a fault in the types or names of struct fields.
 fn explain_members(teller: &mut Teller, members: &[Member]) {
     for member in members {
         explain_written(teller, &member.of_type);
@@ -126,7 +126,7 @@ fn explain_function(
     explain_asked(teller, parameters);
 }
 
-/// Explains a fault in the names of a function's effect and constraints.
+/// Explains a fault in the region names of a function's effect and constraints.
 fn explain_asked(teller: &mut Teller, parameters: &Parameters) {
     for constraint in &parameters.constraints {
         explain_constrained(teller, constraint.longer);
@@ -140,13 +140,13 @@ fn explain_asked(teller: &mut Teller, parameters: &Parameters) {
     }
 }
 
-/// Explains a fault in a region of a constraint.
+/// Explains a fault in a region name of a constraint.
 fn explain_constrained(teller: &mut Teller, region: Ident) {
     explain_region(teller, region);
     teller.tell_name(Message::NoConstraint, region);
 }
 
-/// Returns the message on the part of a declaration of `main` that is not allowed.
+/// Returns the message about the part of a declaration of `main` that the rules forbid.
 fn message_on_main(returned: &Option<WrittenType>, parameters: &Parameters) -> Message {
     if !members(parameters).is_empty() {
         Message::MainParameters
@@ -161,7 +161,7 @@ fn message_on_main(returned: &Option<WrittenType>, parameters: &Parameters) -> M
 
 // ---- globals
 
-/// Returns the place and the type message of a global's initial value.
+/// Returns the source position of a global's initial value and the message about its type.
 fn initial(written: &WrittenType, value: Option<GlobalValue>) -> (Span, Message) {
     match value {
         None => (written.span, Message::FoundNoValue),
@@ -174,7 +174,8 @@ fn initial(written: &WrittenType, value: Option<GlobalValue>) -> (Span, Message)
     }
 }
 
-/// Explains a global of a type that no global may have, or whose initial value does not have its type.
+/// Explains a global whose type no global may have, or whose initial value does not have the global's
+/// type.
 fn explain_global(
     teller: &mut Teller,
     name: Ident,

@@ -1,12 +1,12 @@
-//! The explanation of a fault.
+//! The explanation of a fault: text lines and a source position.
 use cyc_words::Span;
 
-/// The explanation of a fault.
+/// The explanation of a fault, as text lines, with the last source position that they mention.
 #[derive(Drop)]
 pub struct Explanation {
-    /// The violated rule with the names, types or regions involved, in lines without the last line feed. A last line that begins with
-    /// `hint: ` is the advice, which replaces the general advice for the code.
+    /// The lines state the violated rule with the names, types or regions involved; the last line has no line feed. If the last line
+    /// begins with `hint: `, it is advice that replaces the general advice for the code.
     pub lines: Vec<u8>,
-    /// The last place that the lines of the explanation name, if they name one.
+    /// The last source position that the lines of the explanation mention, if they mention one.
     pub place: Option<Span>,
 }

@@ -1,5 +1,5 @@
-//! The forms of a body (items, statements, expressions) as a list in the order of the text, each after its parts; code that visits the list
-//! needs no recursion.
+//! The forms of a function's body (items, statements, expressions) as a list in source order, each form after its parts. Code that visits
+//! the list needs no recursion.
 use crate::wanted::{Wanted, wanted_by, wanted_of};
 use cyc_operands::span_of;
 use cyc_syntax::{
@@ -8,32 +8,34 @@ use cyc_syntax::{
 use cyc_words::Span;
 use std::alloc::Global;
 
-/// More forms than any text has.
+/// A number larger than the number of forms in any source text.
 const MOST: usize = 1_000_000;
 
 /// The position in which the value of an expression is used.
 #[derive(Clone, Copy)]
 pub enum Role<'b> {
-    /// The value is the operand of this demand.
+    /// The value is an operand that must satisfy this demand.
     Operand(Wanted),
-    /// The value is assigned to this lvalue.
+    /// The value is assigned to the given lvalue.
     Assigned(&'b Expr),
-    /// The value initialises a local of this name and type.
+    /// The value initialises the local with the given name and written type.
     Local(Ident, &'b WrittenType),
     Returned,
-    /// The value initialises the field of this number, of a struct of this name with these regions.
+    /// The value initialises the field with the given number, of a struct with the given name and
+    /// regions.
     Field(Ident, &'b [Ident], usize),
-    /// The value is the argument of this number, in a call of this name with these arguments.
+    /// The value is the argument with the given number, in a call of the given function with the
+    /// given arguments.
     Argument(Ident, &'b [Expr], usize),
 }
 
 impl Role<'_> {
-    /// Returns true if there is a demand on the value.
+    /// Returns true if the role puts a demand on the value.
     pub fn is_asked(&self) -> bool {
         !matches!(self, Role::Operand(Wanted::Nothing))
     }
 
-    /// Returns true if the value is only examined, so that a unique pointer is not moved.
+    /// Returns true if the role only examines the value, so that a unique pointer is not moved.
     pub fn is_looked_at(&self) -> bool {
         match self {
             Role::Operand(wanted) => wanted.is_looked_at(),
@@ -42,14 +44,14 @@ impl Role<'_> {
     }
 }
 
-/// A form that may have demands, without its parts.
+/// A form of a function's body that may have demands; the form's parts are separate list entries.
 #[derive(Clone, Copy)]
 pub enum Form<'b> {
     Expression {
         expression: &'b Expr,
         role: Role<'b>,
     },
-    /// A statement, and the end of the enclosing block; none for that of a function.
+    /// A statement, and the end of the enclosing block; the end is `None` for a function's body.
     Statement {
         statement: &'b Stmt,
         end: Option<Span>,
@@ -58,33 +60,34 @@ pub enum Form<'b> {
         item: &'b Item,
         end: Option<Span>,
     },
-    /// The beginning of a block's items.
+    /// The start of the items of a block.
     Items {
         items: &'b Vec<Item>,
     },
-    /// The beginning of a clause's items.
+    /// The start of the items of a catch clause.
     Clause {
         clause: &'b Clause,
     },
-    /// The beginning of a block, with its name or else its place.
+    /// The beginning of a block, with the block's label and its source position.
     Begin {
         label: Option<Ident>,
         span: Span,
     },
 }
 
-/// A list of forms under construction.
+/// The list of a body's forms while it is being built.
 #[derive(Drop)]
 pub struct Forms<'b> {
-    /// The forms still to be split into their parts, the next one last.
+    /// The forms that still have to be split into their parts; the next form to split is the last.
     pending: Vec<Form<'b>>,
-    /// The forms that were split: each form before its parts, and the parts from last to first.
+    /// The forms that were already split: each form precedes its parts, and the parts are listed
+    /// from last to first.
     pub listed: Vec<Form<'b>>,
-    /// True if memory did not run out, so that no form is missing.
+    /// True if memory never ran out, so the list lacks no form.
     pub is_whole: bool,
 }
 
-/// Returns the forms of a function's body.
+/// Returns the list of the forms of a function's body.
 pub fn forms_of<'b>(alloc: Global, body: &'b Block) -> Forms<'b> {
     let mut forms = Forms {
         pending: Vec::new(alloc),
@@ -101,7 +104,8 @@ pub fn forms_of<'b>(alloc: Global, body: &'b Block) -> Forms<'b> {
 }
 
 impl<'b> Forms<'b> {
-    /// Lists the next form, if there is one, and adds its parts to the pending ones.
+    /// Moves the next pending form, if there is one, to the list, and adds its parts to the pending
+    /// forms.
     fn take_next(&mut self) -> bool {
         match self.pending.pop() {
             Some(form) => {
@@ -113,7 +117,7 @@ impl<'b> Forms<'b> {
         }
     }
 
-    /// Adds the parts of a form to the list.
+    /// Adds the parts of a form to the pending forms.
     fn add_parts_of(&mut self, form: &Form<'b>) {
         match form {
             Form::Expression { expression, .. } => self.add_parts(expression),
@@ -136,7 +140,7 @@ impl<'b> Forms<'b> {
         }
     }
 
-    /// Adds the parts of an item.
+    /// Adds the parts of an item to the pending forms.
     fn add_in_item(&mut self, item: &'b Item, end: Option<Span>) {
         match item {
             Item::Statement { statement } => self.add_statement(statement, end),
@@ -155,7 +159,7 @@ impl<'b> Forms<'b> {
         self.add(Form::Statement { statement, end });
     }
 
-    /// Adds the parts of a statement.
+    /// Adds the parts of a statement to the pending forms.
     fn add_inner(&mut self, statement: &'b Stmt, end: Option<Span>) {
         match statement {
             Stmt::If {
@@ -194,7 +198,8 @@ impl<'b> Forms<'b> {
         }
     }
 
-    /// Adds the parts of a statement that contains no other statement, or of a block.
+    /// Adds the parts of a block, or of a statement that contains no other statement, to the
+    /// pending forms.
     fn add_plain(&mut self, statement: &'b Stmt) {
         match statement {
             Stmt::Block { block } => self.add_block(None, block),
@@ -228,7 +233,8 @@ impl<'b> Forms<'b> {
         }
     }
 
-    /// Adds the items of the default clause of a statement at this place.
+    /// Adds the items of a default clause to the pending forms; `around` is the position of the
+    /// statement that has the clause.
     fn add_default(&mut self, items: &'b Vec<Item>, around: Span, end: Option<Span>) {
         self.add_begin(None, start_of(items, around));
         self.add_items(items, end);
@@ -248,7 +254,7 @@ impl<'b> Forms<'b> {
         self.add_expression(expression, Role::Operand(wanted));
     }
 
-    /// Adds the parts of an expression.
+    /// Adds the parts of an expression to the pending forms.
     fn add_parts(&mut self, expression: &'b Expr) {
         match expression {
             Expr::Call {
@@ -276,7 +282,7 @@ impl<'b> Forms<'b> {
         }
     }
 
-    /// Adds the operand of an expression that has exactly one.
+    /// Adds the operand of an expression with exactly one operand to the pending forms.
     fn add_only_operand(&mut self, expression: &'b Expr) {
         match expression {
             Expr::Bracketed { inner, .. } => self.add_operand(inner, Wanted::Nothing),
@@ -342,7 +348,8 @@ impl<'b> Forms<'b> {
     }
 }
 
-/// Returns the beginning of a default clause's items. A default clause stores no place, so the beginning of its statement is used.
+/// Returns the source position where a default clause's items begin. A default clause stores no source position, so the beginning
+/// of the enclosing statement is used if there are no items.
 fn start_of(items: &Vec<Item>, around: Span) -> Span {
     match items.first() {
         Some(Item::Local { of_type, .. }) => of_type.span,

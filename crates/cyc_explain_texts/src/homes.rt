@@ -1,25 +1,26 @@
-//! The origins and names of a function's regions.
+//! The origins and names of the regions of a function.
 use cyc_syntax::{BaseType, Ident, Member, WrittenType};
 use cyc_types::{Region, RegionNames};
 use cyc_words::Span;
 use std::alloc::Global;
 
-/// The origin of a region.
+/// The kind of construct that a region originates from.
 #[derive(Clone, Copy)]
 pub enum Origin {
-    /// The region is provided by the caller.
+    /// The caller of the function provides the region.
     Caller,
-    /// The region is opened by a block, possibly the function's body.
+    /// A block, possibly the function's body, opens the region.
     Block,
-    /// The region is opened by an item.
+    /// A `region` item opens the region.
     Item,
-    /// The region is introduced by an alias.
+    /// An alias declaration introduces the region.
     Alias,
-    /// The region is dynamic: declared by an item, or provided by the caller.
+    /// The region is dynamic: an item declares it, or the caller provides it.
     Dynamic,
 }
 
-/// A region: its name, if it has one, and the place of its declaration or of its block.
+/// The origin of a region, its name, if it has one, and the source position of its declaration or
+/// of its block.
 #[derive(Clone, Copy)]
 pub struct Home {
     pub name: Option<usize>,
@@ -27,11 +28,12 @@ pub struct Home {
     pub origin: Origin,
 }
 
-/// The regions of a function up to the fault, indexed by their numbers.
+/// The origins of a function's regions that are declared before the fault, indexed by region
+/// numbers.
 #[derive(Drop)]
 pub struct Homes {
     pub all: Vec<Home>,
-    /// True if memory did not run out, so that no region is missing.
+    /// True if memory never ran out, so the list lacks no region.
     pub is_whole: bool,
 }
 
@@ -43,7 +45,7 @@ impl Homes {
         }
     }
 
-    /// Returns the home of a region.
+    /// Returns the origin of a region, or `None` for the heap and the unique region.
     pub fn find(&self, region: Region) -> Option<Home> {
         match region {
             Region::Variable(number) => self.all.get(number).copied(),
@@ -51,7 +53,8 @@ impl Homes {
         }
     }
 
-    /// Returns the place of the region of this name, except the function's own region.
+    /// Returns the source position of the region with the given name, except the function's own
+    /// region.
     pub fn find_named(&self, name: usize) -> Option<Span> {
         let mut found = None;
         for i in 1..self.all.len() {
@@ -62,7 +65,7 @@ impl Homes {
         found
     }
 
-    /// Adds the next region to the homes.
+    /// Adds the origin of the region with the next number.
     pub fn add(&mut self, name: Option<Ident>, span: Span, origin: Origin) {
         let name = match name {
             Some(name) => Some(name.name.number),
@@ -74,7 +77,7 @@ impl Homes {
 
     // ---- the signature
 
-    /// Adds the regions of a function of this name: its own, and those that its parameters name or omit.
+    /// Adds the origins of a function's regions: its own, and those that its parameters name or omit.
     pub fn add_parameters(&mut self, names: &RegionNames, own: Ident, members: &[Member]) {
         self.add(Some(own), own.span, Origin::Block);
         for member in members {
@@ -83,7 +86,7 @@ impl Homes {
         }
     }
 
-    /// Adds the regions of a type before its marks.
+    /// Adds the origins of the regions that a type contains before its pointer marks.
     fn add_base(&mut self, names: &RegionNames, base: &BaseType) {
         match base {
             BaseType::Int | BaseType::Char => {}
@@ -109,7 +112,7 @@ impl Homes {
         }
     }
 
-    /// Adds the region of this name, unless it is predefined or already known.
+    /// Adds the origin of the named region, unless the name is predefined or already known.
     fn add_named(&mut self, names: &RegionNames, name: Ident) {
         let number = name.name.number;
         let is_fixed = matches!(names.find(number), Some(Region::Heap | Region::Unique));
@@ -118,7 +121,7 @@ impl Homes {
         }
     }
 
-    /// Notes that a parameter is the key of the region of this name.
+    /// Records that a parameter is the key of the named region.
     fn set_key(&mut self, name: Ident) {
         for i in 1..self.all.len() {
             if self.all[i].name == Some(name.name.number) {

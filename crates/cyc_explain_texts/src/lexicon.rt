@@ -1,19 +1,19 @@
-//! The names and structs of a program, apart from its tree: a struct that refers to a tree would make every function that receives it more
-//! expensive to prove.
+//! The names and structs of a program, stored apart from its tree. A struct that refers to a tree would make every function that receives
+//! it more expensive to prove.
 use cyc_syntax::{Declaration, Ident, Name, Names, Tree};
 use std::alloc::Global;
 
-/// Stands for the absence of a name.
+/// The number that represents the absence of a name.
 pub const NO_NAME: usize = usize::MAX;
 
-/// The beginning and end of a text within the common buffer.
+/// The beginning and end of a name's text within the common buffer.
 #[derive(Clone, Copy)]
 struct Entry {
     start: usize,
     end: usize,
 }
 
-/// A struct: the number of its name, and its number of region parameters.
+/// A struct of the program: the number of its name, and its number of region parameters.
 #[derive(Clone, Copy)]
 struct Known {
     name: usize,
@@ -25,7 +25,7 @@ pub struct Lexicon {
     bytes: Vec<u8>,
     entries: Vec<Entry>,
     structs: Vec<Known>,
-    /// True if memory did not run out.
+    /// True if memory never ran out, so that no name or struct is missing.
     pub is_whole: bool,
 }
 
@@ -62,12 +62,12 @@ impl Lexicon {
         self.is_whole = self.is_whole && is_added;
     }
 
-    /// Returns the number of names.
+    /// Returns the number of names in the lexicon.
     pub fn len(&self) -> usize {
         self.entries.len()
     }
 
-    /// Returns the text of a name; for `NO_NAME` it is empty.
+    /// Returns the text of a name; the text of `NO_NAME` is empty.
     pub fn text(&self, number: usize) -> &[u8] {
         match self.entries.get(number) {
             Some(entry) => match self.bytes.get(entry.start..entry.end) {
@@ -78,7 +78,7 @@ impl Lexicon {
         }
     }
 
-    /// Returns the number of the name of the struct of this number.
+    /// Returns the number of the name of a struct, from the struct's number.
     pub fn struct_name(&self, number: usize) -> usize {
         match self.structs.get(number) {
             Some(known) => known.name,
@@ -86,7 +86,7 @@ impl Lexicon {
         }
     }
 
-    /// Returns the number of region parameters of the struct of this name.
+    /// Returns the number of region parameters of the struct with the given name.
     pub fn region_count(&self, name: Ident) -> Option<usize> {
         for known in &self.structs {
             if known.name == name.name.number {

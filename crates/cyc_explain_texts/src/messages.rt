@@ -1,6 +1,8 @@
-//! The messages: the text of each, and the code of the fault for a message that begins an explanation.
+//! The messages of explanations: the text of each message. A message that begins an explanation also
+//! has the code of its fault.
 //!
-//! In a text a `%` and a letter form a placeholder, which the latest note for it fills (`Notes`):
+//! In the text of a message, a `%` and a letter form a placeholder, which is replaced by the latest
+//! recorded value (`Notes`):
 //!
 //! | Placeholder | Content |
 //! |---|---|
@@ -22,7 +24,7 @@ use cyc_words::Code;
 
 #[derive(Clone, Copy)]
 pub enum Message {
-    // The messages of code 20.
+    // The messages about faults with code 20.
     NearName,
     NearPutchar,
     NearGetchar,
@@ -38,14 +40,14 @@ pub enum Message {
     NoStruct,
     NoException,
     NoField,
-    // The messages of code 21.
+    // The messages about faults with code 21.
     FirstDeclared,
     RegionFirstDeclared,
     RegionOfEach,
     RegionOfFunction,
     InEachProgram,
     ClauseBefore,
-    // The messages of code 22.
+    // The messages about faults with code 22.
     NoContent,
     NoInt,
     NotTested,
@@ -71,20 +73,20 @@ pub enum Message {
     ValueTooMany,
     SwappedTypes,
     AliasType,
-    // The messages of code 27.
+    // The messages about faults with code 27.
     UniqueStays,
     FieldStays,
     GlobalStays,
     GlobalLent,
     AddressKept,
-    // The messages of code 28.
+    // The messages about faults with code 28.
     HandleAssigned,
     CounterAssigned,
     FunctionAssigned,
     ResultAssigned,
     OperationAssigned,
     NoAddress,
-    // The messages of code 29.
+    // The messages about faults with code 29.
     UniqueRegionAlone,
     NoKey,
     KeyAddress,
@@ -101,7 +103,7 @@ pub enum Message {
     AlwaysOpen,
     NoConstraint,
     NoEffect,
-    // The messages of code 30.
+    // The messages about faults with code 30.
     MainMissing,
     MainNear,
     MainVariable,
@@ -110,7 +112,7 @@ pub enum Message {
     MainVoid,
     MainType,
 
-    // Further messages, which follow another message: first those on operands.
+    // Messages that follow another message; the first of these messages are about operands.
     VoidUsed,
     NullAsContent,
     NullTested,
@@ -167,7 +169,7 @@ pub enum Message {
     FoundInt,
     FoundNull,
     MayOutlive,
-    // Messages on regions that are not live.
+    // Messages about regions that are not live.
     ClosedRegion,
     NotInEffect,
     AddToEffect,
@@ -176,7 +178,7 @@ pub enum Message {
     OpenBefore,
     OpenAgain,
     NotLive,
-    // Messages on regions that do not outlive others.
+    // Messages about regions that do not outlive others.
     NotOutlived,
     FirstBeginning,
     NextBeginning,
@@ -385,7 +387,7 @@ the constraint %a > %b of `%n` does not hold
 %/
 ";
 
-/// Returns the code of the fault that a message is about, if it begins an explanation.
+/// Returns the code of the fault that a message describes, if the message begins an explanation.
 pub fn code_of(message: Message) -> Code {
     match message {
         Message::NearName

@@ -1,4 +1,4 @@
-//! Explains names that are not declared, possibly with a similar one nearby, and names that are declared twice.
+//! Explains undeclared names, possibly with a similar declared name, and names that are declared twice.
 use crate::lexicon::Lexicon;
 use crate::messages::Message;
 use crate::teller::Teller;
@@ -6,18 +6,18 @@ use cyc_scope::{Field, Meaning, Scope};
 use cyc_syntax::{Ident, Name};
 use cyc_words::Code;
 
-/// The kind of use of a name.
+/// The way in which a name is used.
 #[derive(Clone, Copy)]
 pub enum Sort {
     Value,
     Function,
     Struct,
     Exception,
-    /// A field of the struct of this number.
+    /// The name of a field of the struct with this number.
     Field(usize),
 }
 
-/// Returns true if a name used in this way is declared.
+/// Returns true if a name with this kind of use is declared.
 fn is_known(scope: &Scope<'_>, sort: Sort, name: Ident) -> bool {
     let number = name.name.number;
     match sort {
@@ -60,7 +60,7 @@ pub fn is_near(a: &[u8], b: &[u8]) -> bool {
     shortest > 2 && alike.saturating_add(most) >= a.len().max(b.len())
 }
 
-/// Returns a declared name that is similar to this one.
+/// Returns a declared name with the same kind of use and a similar text.
 fn near(lexicon: &Lexicon, scope: &Scope<'_>, sort: Sort, name: Ident) -> Option<Ident> {
     let text = lexicon.text(name.name.number);
     for number in 0..lexicon.len() {
@@ -77,7 +77,7 @@ fn near(lexicon: &Lexicon, scope: &Scope<'_>, sort: Sort, name: Ident) -> Option
     None
 }
 
-/// Returns the message on a name of this use that is not declared.
+/// Returns the message about an undeclared name with this kind of use.
 fn message_on_unknown(sort: Sort) -> Message {
     match sort {
         Sort::Value => Message::NoName,
@@ -88,7 +88,7 @@ fn message_on_unknown(sort: Sort) -> Message {
     }
 }
 
-/// Explains a name that is not declared.
+/// Explains the use of an undeclared name.
 pub fn explain_unknown(teller: &mut Teller, scope: &Scope<'_>, sort: Sort, name: Ident) {
     if teller.is_fault(Code::UnknownName, name.span) {
         teller.notes.name = name.name.number;
@@ -106,7 +106,7 @@ pub fn explain_unknown(teller: &mut Teller, scope: &Scope<'_>, sort: Sort, name:
     }
 }
 
-/// Says the names that could stand in place of this one, which is near to none that the program declares.
+/// Writes the names that could replace an undeclared name if the name resembles no declared name.
 fn say_known(teller: &mut Teller, scope: &Scope<'_>, sort: Sort, name: Ident) {
     match sort {
         Sort::Value | Sort::Function => {
@@ -123,7 +123,8 @@ fn say_known(teller: &mut Teller, scope: &Scope<'_>, sort: Sort, name: Ident) {
     }
 }
 
-/// Returns a message if the name is similar to a built-in function, which a text need not mention elsewhere.
+/// Returns a message if the name resembles that of a built-in function, which the program need not mention
+/// elsewhere.
 fn near_of_each(lexicon: &Lexicon, name: Ident) -> Message {
     let text = lexicon.text(name.name.number);
     if is_near(text, b"putchar") {
@@ -135,14 +136,14 @@ fn near_of_each(lexicon: &Lexicon, name: Ident) -> Message {
     }
 }
 
-/// Explains the name of a struct used as a value.
+/// Explains a struct's name that is used as a value.
 pub fn explain_struct_name(teller: &mut Teller, scope: &Scope<'_>, name: Ident) {
     if is_known(scope, Sort::Struct, name) {
         teller.tell_name(Message::StructAsValue, name);
     }
 }
 
-/// Explains a region that is declared in a function which already has one of this name.
+/// Explains a region declaration whose name another region of the same function already has.
 pub fn explain_region_twice(teller: &mut Teller, name: Ident) {
     if teller.is_fault(Code::DeclaredTwice, name.span) {
         explain_own_region(teller, name);
@@ -154,7 +155,7 @@ pub fn explain_region_twice(teller: &mut Teller, name: Ident) {
     }
 }
 
-/// Explains a region that is declared with the name of its function.
+/// Explains a region declaration whose name is the name of its function.
 fn explain_own_region(teller: &mut Teller, name: Ident) {
     if teller.notes.function == name.name.number {
         teller.tell_name(Message::RegionOfFunction, name);

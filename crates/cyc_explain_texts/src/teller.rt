@@ -1,4 +1,5 @@
-//! The writer of explanations: it writes once, at the fault. The notes that fill the placeholders are collected before.
+//! The writer of explanations. The teller writes only once, at the fault; the values of placeholders in its messages
+//! are recorded before.
 use crate::explanation::Explanation;
 use crate::homes::Homes;
 use crate::lexicon::{Lexicon, NO_NAME};
@@ -11,27 +12,27 @@ use cyc_words::{Code, Fault, Span};
 use std::alloc::Global;
 use std::mem::replace;
 
-/// The end of a block that opens the dynamic region of this name.
+/// The end of a block that opens the dynamic region with this name.
 #[derive(Clone, Copy)]
 pub struct Ending {
     pub name: usize,
     pub span: Span,
 }
 
-/// The lines of an explanation, and the data for its placeholders.
+/// The lines of an explanation, and the values of its placeholders.
 #[derive(Drop)]
 pub struct Teller {
     pub alloc: Global,
     pub fault: Fault,
     pub notes: Notes,
-    /// The message on a region name that is not in scope.
+    /// The message about a region name that is not in scope.
     pub unknown: Message,
-    /// The ends of blocks that open a dynamic region.
+    /// The ends of the blocks that open a dynamic region.
     pub endings: Vec<Ending>,
     pub words: Words,
-    /// The names declared in the same scope, to find a second declaration.
+    /// The names declared so far in the current scope, used to find a second declaration.
     pub declared: Vec<Ident>,
-    /// True if memory did not run out.
+    /// True if memory never ran out, so that the explanation is complete.
     pub is_whole: bool,
 }
 
@@ -73,7 +74,8 @@ impl Teller {
         }
     }
 
-    /// Takes the explanation out of the teller, if there is one.
+    /// Returns the explanation that the teller has written, if there is one, and removes it from
+    /// the teller.
     pub fn take_words(&mut self) -> Option<Explanation> {
         let is_known = self.notes.lexicon.is_whole && self.notes.homes.is_whole;
         let is_said = self.words.is_whole && !self.words.bytes.is_empty();
@@ -90,19 +92,19 @@ impl Teller {
 
     // ---- the fault
 
-    /// Returns true if the fault is at this place and is not explained yet.
+    /// Returns true if the fault is at the given source position and is not explained yet.
     pub fn is_at(&self, span: Span) -> bool {
         self.fault.line == span.line
             && self.fault.column == span.column
             && self.words.bytes.is_empty()
     }
 
-    /// Returns true if the fault is this one and is not explained yet.
+    /// Returns true if the fault has the given code and source position and is not explained yet.
     pub fn is_fault(&self, code: Code, span: Span) -> bool {
         self.fault.code == code && self.is_at(span)
     }
 
-    /// Returns true if the fault is at this place or after it.
+    /// Returns true if the fault is at the given source position or after it.
     pub fn is_from(&self, span: Span) -> bool {
         let fault = self.fault;
         span.line < fault.line || span.line == fault.line && span.column <= fault.column
@@ -110,7 +112,7 @@ impl Teller {
 
     // ---- declared names
 
-    /// Notes that a block opens the dynamic region of this name, and where it ends.
+    /// Records the end of a block that opens the dynamic region with the given name.
     pub fn note_opened(&mut self, name: Ident, end: Option<Span>) {
         if let Some(span) = end {
             let name = name.name.number;
@@ -118,7 +120,7 @@ impl Teller {
         }
     }
 
-    /// Declares a name, and explains a second declaration if that is the fault.
+    /// Records a declared name, and explains a second declaration of the name if that is the fault.
     pub fn declare(&mut self, name: Ident) {
         if self.is_fault(Code::DeclaredTwice, name.span) {
             if let Some(first) = first_of(&self.declared, name) {
@@ -133,14 +135,14 @@ impl Teller {
 
     // ---- messages
 
-    /// Writes a message if its fault is at this place.
+    /// Writes a message if the fault that it describes is at the given source position.
     pub fn tell(&mut self, message: Message, span: Span) {
         if self.is_fault(code_of(message), span) {
             self.say(message);
         }
     }
 
-    /// Writes a message about a name if its fault is at the name.
+    /// Writes a message about a name if the fault that it describes is at the name.
     pub fn tell_name(&mut self, message: Message, name: Ident) {
         if self.is_at(name.span) {
             self.notes.name = name.name.number;
@@ -148,12 +150,12 @@ impl Teller {
         }
     }
 
-    /// Writes the text of a message, with its placeholders filled.
+    /// Writes the text of a message, with the values of its placeholders.
     pub fn say(&mut self, message: Message) {
         self.words.say(&self.notes, message);
     }
 
-    /// Writes a message about two numbers.
+    /// Writes a message that mentions two numbers: the required one and the found one.
     pub fn say_count(&mut self, message: Message, wanted: usize, found: usize) {
         self.notes.counts = (wanted, found);
         self.say(message);
@@ -161,7 +163,7 @@ impl Teller {
 
     // ---- types found and wanted
 
-    /// Records the type found.
+    /// Records the type of the value found. Returns true if the type is known.
     pub fn find_type(&mut self, of_type: Option<Ty>) -> bool {
         self.notes.found = value_of(of_type);
         self.notes.variable = NO_NAME;
@@ -169,14 +171,14 @@ impl Teller {
         matches!(self.notes.found, Some(_))
     }
 
-    /// Records the wanted type.
+    /// Records the required type. Returns true if the type is known.
     pub fn want_type(&mut self, of_type: Option<Ty>) -> bool {
         self.notes.wanted = value_of(of_type);
         matches!(self.notes.wanted, Some(_))
     }
 }
 
-/// Returns a value of this type, if it is known.
+/// Returns a value type with the given type, if the type is known.
 fn value_of(of_type: Option<Ty>) -> Option<ValueType> {
     match of_type {
         Some(of_type) => Some(ValueType::Value { of_type }),
@@ -184,7 +186,7 @@ fn value_of(of_type: Option<Ty>) -> Option<ValueType> {
     }
 }
 
-/// Returns the place of the first of these names that equals this one.
+/// Returns the source position of the first declared name that equals the given name.
 fn first_of(declared: &[Ident], name: Ident) -> Option<Span> {
     for first in declared {
         if first.name == name.name {

@@ -1,4 +1,4 @@
-//! The demand on a single value, and the message about a violation.
+//! A demand on a single value, and the message about its violation.
 use crate::conversions::explain_closed;
 use crate::homes::{Home, Origin};
 use crate::messages::Message;
@@ -13,33 +13,33 @@ use cyc_words::{Code, Span};
 
 #[derive(Clone, Copy)]
 pub enum Wanted {
-    /// No demand, or one that depends on more than the value.
+    /// There is no demand on the value, or one that depends on more than the value.
     Nothing,
-    /// A value with a type, to initialise a new object.
+    /// The value must have a type, because it initialises a new object.
     Content,
     Int,
-    /// The operand of a unary minus.
+    /// The value is the operand of a unary minus.
     Negated,
-    /// A right operand of an addition.
+    /// The value is a right operand of an addition.
     Added,
-    /// A value that is compared by size, or subtracted.
+    /// The value is compared by size, or is an operand of a subtraction.
     Measured,
-    /// A value that is tested for zero or null.
+    /// The value is tested for zero or null.
     Tested,
-    /// A value that is compared for equality.
+    /// The value is compared for equality.
     Compared,
-    /// An int, or a fat pointer that pointer arithmetic moves.
+    /// The value must be an int, or a fat pointer on which pointer arithmetic is performed.
     Moved,
     Pointer,
     Fat,
-    /// A thin pointer to a struct, whose field is accessed.
+    /// The value must be a thin pointer to a struct, because a field of the struct is accessed.
     Members,
-    /// The expression must be a pointer that is freed.
+    /// The expression must be a unique pointer, because it is freed.
     Freed,
     Handle,
 }
 
-/// Returns true if a value is an int, or a char that is used as one.
+/// Returns true if a value is an int, or a char, which is used as an int.
 fn is_number(given: Given<'_>) -> bool {
     given.is_int() || given.is_char()
 }
@@ -64,7 +64,7 @@ fn has_members(given: Given<'_>) -> bool {
 }
 
 impl Wanted {
-    /// Returns the message on a value that violates the demand.
+    /// Returns the message about a value that violates this demand.
     fn message(self) -> Message {
         match self {
             Wanted::Nothing => Message::Nothing,
@@ -80,7 +80,7 @@ impl Wanted {
         }
     }
 
-    /// Returns the advice on a value that violates the demand, if there is any.
+    /// Returns the advice about a value that violates this demand, if there is any.
     fn advice(self, given: Given<'_>) -> Message {
         match (self, given) {
             (_, Given::Void) => Message::VoidUsed,
@@ -115,7 +115,7 @@ impl Wanted {
         }
     }
 
-    /// Returns true if an operand with this demand is only examined, so that a unique pointer is not moved.
+    /// Returns true if this demand only examines its operand, so that a unique pointer is not moved.
     pub fn is_looked_at(self) -> bool {
         matches!(
             self,
@@ -123,7 +123,7 @@ impl Wanted {
         )
     }
 
-    /// Returns true if a value of this type satisfies the demand.
+    /// Returns true if a value of the given type satisfies this demand.
     fn allows(self, given: Given<'_>) -> bool {
         match self {
             Wanted::Nothing => true,
@@ -169,7 +169,7 @@ pub fn wanted_by(operator: BinaryOperator) -> (Wanted, Wanted) {
     }
 }
 
-/// Returns the message on a region or a key that may not be used in this way.
+/// Returns the message about a misused region or key.
 fn misused(teller: &Teller, wanted: Wanted) -> Message {
     match wanted {
         Wanted::Freed => {
@@ -188,7 +188,8 @@ fn misused(teller: &Teller, wanted: Wanted) -> Message {
     }
 }
 
-/// Explains a value at this place whose type violates the demand, or whose region is not live.
+/// Explains a value at the given source position whose type violates a demand, or whose region is
+/// not live.
 pub fn explain_found(teller: &mut Teller, scope: &Scope<'_>, wanted: Wanted, span: Span) {
     let found = given(&teller.notes.found);
     if teller.is_fault(Code::TypeMismatch, span) && !wanted.allows(found) {
@@ -201,8 +202,8 @@ pub fn explain_found(teller: &mut Teller, scope: &Scope<'_>, wanted: Wanted, spa
     explain_closed(teller, scope, span);
 }
 
-/// Explains a cell that is read as a whole at this place although it is a struct or a unique pointer. The cell is the field of this name if
-/// there is one.
+/// Explains a memory cell that is read as a whole although it holds a struct or a unique pointer. If the cell is a field, `field` is the
+/// field's name.
 pub fn explain_content(teller: &mut Teller, field: Option<Ident>, span: Span) {
     let found = given(&teller.notes.found);
     let is_struct = matches!(found, Given::Value(Ty::Struct { .. }));
@@ -216,7 +217,8 @@ pub fn explain_content(teller: &mut Teller, field: Option<Ident>, span: Span) {
     }
 }
 
-/// Returns the message on a unique pointer that is read in place, in the field of this name if there is one.
+/// Returns the message about a unique pointer that may not be read from its memory cell. If the cell is a
+/// field, `field` is the field's name.
 fn message_on_unique(notes: &mut Notes, field: Option<Ident>) -> Message {
     match field {
         Some(name) => {

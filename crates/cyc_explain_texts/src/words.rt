@@ -1,5 +1,5 @@
-//! Lines of words: texts whose placeholders are filled with names, places, regions and types in the program's notation. If memory runs out
-//! nothing is written. The writing functions of this file never fail, so callers need no error path.
+//! The lines of an explanation: texts whose placeholders are filled with names, source positions, regions and types in the program's
+//! notation. If memory runs out, no line is written. The writing functions in this file never fail, so callers need no error path.
 use crate::homes::{Home, Homes, Origin};
 use crate::lexicon::{Lexicon, NO_NAME};
 use crate::messages::{Message, TEXTS};
@@ -13,60 +13,63 @@ use std::mem::replace;
 
 const DIGITS: &[u8] = b"0123456789";
 
-/// The most bytes that fill a placeholder: a longer name or type is cut and ends in three dots.
+/// The maximum number of bytes that fill a placeholder: a longer name or type is cut and ends in
+/// three dots.
 const MOST_FILLED: usize = 160;
 
-/// The most bytes that fill a placeholder once `MOST_WHOLE` bytes are written, so that lines with many placeholders stay short.
+/// The maximum number of bytes that fill a placeholder once `MOST_WHOLE` bytes are written; thus lines with many placeholders
+/// stay short.
 const LEAST_FILLED: usize = 12;
 
-/// The number of bytes after which placeholders get less room.
+/// The number of bytes after which placeholders are limited to `LEAST_FILLED` bytes.
 const MOST_WHOLE: usize = 1200;
 
-/// The contents of the placeholders, as last recorded.
+/// The values of the placeholders, as last recorded.
 #[derive(Drop)]
 pub struct Notes {
     pub lexicon: Lexicon,
     /// The number of the current function's name; `NO_NAME` if there is none.
     pub function: usize,
-    /// The regions of the current function, and those of the called one.
+    /// The regions of the current function, and the regions of the called function.
     pub homes: Homes,
     pub theirs: Homes,
-    /// The number of the current name, and of another one.
+    /// The number of the name that a message is about, and of a second name.
     pub name: usize,
     pub other: usize,
     pub place: Span,
-    /// The type found, if it is known, and the wanted one.
+    /// The type of the value found, if it is known, and the required type.
     pub found: Option<ValueType>,
-    /// The message on the role of the value found.
+    /// The message about the role of the value found.
     pub lead: Message,
-    /// The variable whose value was found, if any, and whether the value is a newly made object.
+    /// The variable whose value was found, if any; and true if the value is a newly made object.
     pub variable: usize,
     pub is_new: bool,
     pub wanted: Option<ValueType>,
-    /// Two regions of the current function, and two of the called one.
+    /// Two regions of the current function, and two regions of the called function.
     pub regions: (Region, Region),
     pub their_regions: (Region, Region),
-    /// The numbers wanted and found.
+    /// The required number and the found number.
     pub counts: (usize, usize),
 }
 
-/// The lines written so far.
+/// The lines of an explanation that are written so far.
 #[derive(Drop)]
 pub struct Words {
     pub bytes: Vec<u8>,
-    /// The text written for each region, if there is one.
+    /// The text written in place of each region, if it is not empty.
     pub stand_in: &'static [u8],
-    /// The number of bytes left for the current placeholder; unlimited outside placeholders.
+    /// The number of bytes that the current placeholder may still take; unlimited outside
+    /// placeholders.
     pub room: usize,
-    /// True if a part of the placeholder's content was left out.
+    /// True if a part of the current placeholder's content was left out.
     pub is_cut: bool,
-    /// The last place that the lines of this text name, if any.
+    /// The last source position that the lines mention, if any.
     pub place: Option<Span>,
-    /// True if memory did not run out.
+    /// True if memory never ran out, so that no byte is missing.
     pub is_whole: bool,
 }
 
-/// Returns a type as the typing rules see it; an unknown one has no value.
+/// Returns a type in the form that the typing rules use; an unknown type is treated as no value.
 pub fn given(value: &Option<ValueType>) -> Given<'_> {
     match value {
         Some(ValueType::Value { of_type }) => Given::Value(of_type),
@@ -93,7 +96,8 @@ fn text_on_place(origin: Origin) -> &'static [u8] {
 impl Words {
     // ---- texts of messages
 
-    /// Writes the text of a message, in which each `%` and the letter after it are a placeholder.
+    /// Writes the text of a message. Each `%` in the text forms a placeholder with the letter after
+    /// it.
     pub fn say(&mut self, notes: &Notes, message: Message) {
         let wanted = message as usize;
         let mut line = 0usize;
@@ -107,7 +111,8 @@ impl Words {
         }
     }
 
-    /// Writes a byte of a text, which may be the letter of a placeholder. Returns true if the next byte is one.
+    /// Writes a byte of a text, or fills the placeholder that the byte denotes. Returns true if the next byte
+    /// denotes a placeholder.
     fn say_byte(&mut self, notes: &Notes, byte: u8, is_gap: bool) -> bool {
         if is_gap {
             self.begin_gap();
@@ -119,13 +124,13 @@ impl Words {
         byte == b'%' && !is_gap
     }
 
-    /// Begins a placeholder: the following bytes fill it.
+    /// Begins a placeholder: the bytes written next fill the placeholder.
     fn begin_gap(&mut self) {
         let is_long = self.bytes.len() > MOST_WHOLE;
         self.room = if is_long { LEAST_FILLED } else { MOST_FILLED };
     }
 
-    /// Ends a placeholder, with dots for the part that was left out.
+    /// Ends a placeholder; three dots replace the part that was left out.
     fn end_gap(&mut self) {
         self.room = usize::MAX;
         if replace(&mut self.is_cut, false) {
@@ -133,7 +138,7 @@ impl Words {
         }
     }
 
-    /// Fills the placeholder denoted by this letter.
+    /// Fills the placeholder that the given letter denotes.
     fn fill(&mut self, notes: &Notes, letter: u8) {
         match letter {
             b'n' => self.put_name(&notes.lexicon, notes.name),
@@ -148,7 +153,7 @@ impl Words {
         }
     }
 
-    /// Fills the placeholder of a text to be written.
+    /// Fills a placeholder whose content is program text for the user to write.
     fn fill_written(&mut self, notes: &Notes, letter: u8) {
         match letter {
             b'g' => self.put_declared(notes),
@@ -162,7 +167,7 @@ impl Words {
         }
     }
 
-    /// Fills the placeholder of a region.
+    /// Fills a placeholder whose content is a region.
     fn fill_region(&mut self, notes: &Notes, letter: u8) {
         match letter {
             b'r' => self.put_of(notes, &notes.homes, notes.regions.0),
@@ -172,7 +177,7 @@ impl Words {
         }
     }
 
-    /// Fills the placeholder of a number or a text.
+    /// Fills a placeholder whose content is a number or a fixed text.
     fn fill_plain(&mut self, notes: &Notes, letter: u8) {
         match letter {
             b'c' => self.put_number(notes.counts.0),
@@ -187,7 +192,7 @@ impl Words {
         self.put(&[byte]);
     }
 
-    /// Writes as many bytes as there is room for.
+    /// Writes the first bytes of `bytes`, as many as the current placeholder may still take.
     fn put(&mut self, bytes: &[u8]) {
         let length = bytes.len().min(self.room);
         self.is_cut = self.is_cut || length < bytes.len();
@@ -219,14 +224,15 @@ impl Words {
         self.put_number(span.column as usize);
     }
 
-    /// Writes the name of this number.
+    /// Writes the name with the given number.
     fn put_name(&mut self, lexicon: &Lexicon, number: usize) {
         self.put(lexicon.text(number));
     }
 
     // ---- regions
 
-    /// Writes a region by its name, or else, if requested, by its place.
+    /// Writes a region by its name; a region without a name is written by its source position, if
+    /// requested.
     fn put_region(
         &mut self,
         lexicon: &Lexicon,
@@ -246,7 +252,7 @@ impl Words {
         }
     }
 
-    /// Writes the name of a region, which depends on its home.
+    /// Writes a region, as described by its origin, name and source position.
     fn put_home(&mut self, lexicon: &Lexicon, home: Home, is_placed: bool) {
         if let Some(name) = home.name {
             self.put_byte(b'`');
@@ -257,12 +263,12 @@ impl Words {
         }
     }
 
-    /// Writes a region of the function with these regions.
+    /// Writes a region of the function whose regions are `homes`.
     fn put_of(&mut self, notes: &Notes, homes: &Homes, region: Region) {
         self.put_region(&notes.lexicon, region, homes.find(region), true);
     }
 
-    /// Writes the regions of a type, one after another.
+    /// Writes regions separated by commas.
     fn put_regions(&mut self, notes: &Notes, regions: &[Region]) {
         let mut is_first = true;
         for region in regions {
@@ -274,14 +280,14 @@ impl Words {
         }
     }
 
-    /// Writes a region by its name, if it has one.
+    /// Writes a region by its name; a region without a name is omitted.
     fn put_unplaced(&mut self, notes: &Notes, region: Region) {
         self.put_region(&notes.lexicon, region, notes.homes.find(region), false);
     }
 
     // ---- types
 
-    /// Writes the type found, and the variable that has it.
+    /// Writes the type of the value found, and the name of the variable that has it.
     fn put_found(&mut self, notes: &Notes) {
         self.put_value(notes, &notes.found);
         if notes.variable != NO_NAME {
@@ -291,7 +297,7 @@ impl Words {
         }
     }
 
-    /// Writes the type found, as a pointer of the wanted kind.
+    /// Writes the type found, with the pointer mark of the required type.
     fn put_declared(&mut self, notes: &Notes) {
         match (&notes.found, &notes.wanted) {
             (
@@ -314,7 +320,8 @@ impl Words {
         }
     }
 
-    /// Writes the struct to be made, in the notation after `new`: the wanted one for the value itself, or the one found for a field.
+    /// Writes the struct type to be made, in the notation after `new`: the required type for the value itself, or the type found for
+    /// a field.
     fn put_made(&mut self, notes: &Notes) {
         let made = if notes.is_new {
             &notes.wanted
@@ -337,7 +344,7 @@ impl Words {
         }
     }
 
-    /// Writes a type with this text for each region.
+    /// Writes a type with the same given text for each region.
     fn put_in_one(&mut self, notes: &Notes, value: &Option<ValueType>, region: &'static [u8]) {
         self.stand_in = region;
         self.put_value(notes, value);
@@ -352,7 +359,7 @@ impl Words {
         }
     }
 
-    /// Writes a type in the program's notation, with nameless regions omitted.
+    /// Writes a type in the program's notation; regions without a name are omitted.
     fn put_type(&mut self, notes: &Notes, of_type: &Ty) {
         match of_type {
             Ty::Pointer {
@@ -368,7 +375,7 @@ impl Words {
         }
     }
 
-    /// Writes a type that is no pointer.
+    /// Writes a type that is not a pointer.
     fn put_base(&mut self, notes: &Notes, of_type: &Ty) {
         match of_type {
             Ty::Int | Ty::Pointer { .. } => self.put(b"int"),
@@ -384,7 +391,7 @@ impl Words {
         self.put_instance(notes, number, regions);
     }
 
-    /// Writes a struct's name with its regions, if it has any.
+    /// Writes a struct's name with its region arguments, if it has any.
     fn put_instance(&mut self, notes: &Notes, number: usize, regions: &[Region]) {
         self.put_name(&notes.lexicon, notes.lexicon.struct_name(number));
         if !regions.is_empty() {
@@ -402,7 +409,7 @@ impl Words {
 
     // ---- what is declared
 
-    /// The names of some fields, one after the other.
+    /// Writes the names of fields, separated by commas.
     pub fn put_fields(&mut self, lexicon: &Lexicon, fields: &[Field]) {
         let mut is_first = true;
         for field in fields {
@@ -413,7 +420,7 @@ impl Words {
         }
     }
 
-    /// A name, after a comma if it is not the first.
+    /// Writes a name; a comma precedes the name unless it is the first.
     fn put_separated(&mut self, lexicon: &Lexicon, name: usize, is_first: bool) {
         if !is_first {
             self.put(b", ");
@@ -421,7 +428,8 @@ impl Words {
         self.put_name(lexicon, name);
     }
 
-    /// The name of a function and its parameters, each with its type as it is written.
+    /// Writes the name of a function and its parameters, each with its type as written in the
+    /// source.
     pub fn put_head(&mut self, lexicon: &Lexicon, function: Ident, members: &[Member]) {
         self.begin_gap();
         self.put_name(lexicon, function.name.number);
@@ -438,7 +446,7 @@ impl Words {
         self.end_gap();
     }
 
-    /// A parameter as it is written; the regions of a struct are left out.
+    /// Writes a parameter as in the source; the region arguments of a struct are left out.
     fn put_parameter(&mut self, lexicon: &Lexicon, member: &Member) {
         self.put_written_base(lexicon, &member.of_type.base);
         if member.of_type.marks.is_empty() {
@@ -455,7 +463,8 @@ impl Words {
         self.put_name(lexicon, member.name.name.number);
     }
 
-    /// Writes the type of a global in the program's notation, where omitted regions are the heap.
+    /// Writes the type of a global in the program's notation; an omitted region is written as the
+    /// heap.
     pub fn put_written(&mut self, lexicon: &Lexicon, written: &WrittenType) {
         self.begin_gap();
         self.put_written_base(lexicon, &written.base);
@@ -466,7 +475,7 @@ impl Words {
         self.end_gap();
     }
 
-    /// Writes the part of a written type before its marks.
+    /// Writes the part of a written type that precedes its pointer marks.
     fn put_written_base(&mut self, lexicon: &Lexicon, base: &BaseType) {
         match base {
             BaseType::Int => self.put(b"int"),
@@ -483,7 +492,8 @@ impl Words {
         }
     }
 
-    /// Writes the name of a region after a mark.
+    /// Writes the name of the region after a pointer mark; an omitted region is written as the
+    /// heap.
     fn put_mark_region(&mut self, lexicon: &Lexicon, region: Option<Ident>) {
         self.put_byte(b'`');
         match region {

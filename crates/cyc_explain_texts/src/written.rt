@@ -1,11 +1,11 @@
-//! Explains faults in types as written.
+//! Explains faults in types as written in the source.
 use crate::messages::Message;
 use crate::names::explain_region;
 use crate::teller::Teller;
 use cyc_syntax::{BaseType, Ident, PointerKind, WrittenType};
 use cyc_words::Code;
 
-/// Explains a struct that is written with a wrong number of regions.
+/// Explains a struct type with a wrong number of region arguments.
 fn explain_number(teller: &mut Teller, name: Ident, found: usize) {
     if let Some(count) = teller.notes.lexicon.region_count(name) {
         if found > 0 && found != count {
@@ -15,7 +15,7 @@ fn explain_number(teller: &mut Teller, name: Ident, found: usize) {
     }
 }
 
-/// Explains why no value can have the written type.
+/// Explains why the written type is not allowed: no value can have it.
 fn explain_shape(teller: &mut Teller, written: &WrittenType) {
     match &written.base {
         BaseType::Int | BaseType::Char | BaseType::Handle { .. } => {}
@@ -42,7 +42,7 @@ pub fn explain_arguments(teller: &mut Teller, regions: &[Ident]) {
     }
 }
 
-/// Explains a fault in a region of a type before its marks.
+/// Explains a fault in a region that a written type names before its pointer marks.
 fn explain_base(teller: &mut Teller, base: &BaseType) {
     match base {
         BaseType::Int | BaseType::Char => {}
@@ -58,7 +58,7 @@ fn explain_base(teller: &mut Teller, base: &BaseType) {
     }
 }
 
-/// Explains a written type that is invalid.
+/// Explains a fault in a written type.
 pub fn explain_written(teller: &mut Teller, written: &WrittenType) {
     explain_base(teller, &written.base);
     for mark in &written.marks {

@@ -1,5 +1,5 @@
--- the lemmas that the crates above cite
+-- the lemmas that proofs of other crates cite
 pub mod Loops
--- the lemmas that the proofs of this crate cite
+-- the lemmas that proofs of this crate cite
 pub mod Chains
 pub mod Arms

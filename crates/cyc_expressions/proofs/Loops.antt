@@ -1,14 +1,15 @@
--- A list that the code visits in a loop: the result for the first elements, and that for the remaining ones.
+-- Lemmas about a list that the code visits in a loop: the results for the first elements and for the
+-- remaining elements give the result for the list.
 use Rattle.std.proofs.Common.{◌≡◌, List, [], ◌∷◌, ◌++◌, Ok, Err, refl, sym, ap}
 use Rattle.cyc_types.specs.Rules.{Checked, and_then}
 
 module _ {X Y B : Type 0} (view : X → Y) (add : Y → B → B) where
-  -- items before a list
+  -- adds the views of some items in front of a list
   abbrev pub onto : List X → B → B
   onto [] b = b
   onto (x ∷ xs) b = add (view x) (onto xs b)
 
-  -- the result so far, followed by that for the remaining items
+  -- the result of adding the items checked so far in front of the result for the remaining items
   abbrev pub with_front : List X → Checked B → Checked B
   with_front front checked = and_then checked (λ b. Ok (onto front b))
 

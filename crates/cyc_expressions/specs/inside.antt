@@ -1,2 +1,2 @@
--- the contracts between the functions of the walk
+-- the contracts between the functions that check expressions
 pub mod Walks

@@ -1,6 +1,6 @@
-//! The walk over expressions.
-//! The walk checks the parts of an expression in order of evaluation, and then the demands of its own form (`cyc_calls`, `cyc_typing`).
-//! Each operand is checked once: as a used value, as a peek, or as a place.
+//! Checks expressions by a recursive traversal. The traversal checks the parts of an expression in order of evaluation, and then the
+//! demands of the expression's own form (`cyc_calls`, `cyc_typing`). Each operand is checked once: as a used value, as a peek, or as an
+//! lvalue.
 ghost use Rattle.std.specs.Prelude.{◌≡◌, ◌≢◌, [], ◌∷◌, map, option_map, Ok, OnOk, IfErr};
 ghost use Rattle.cyc_words.specs.declared.fault.Code.TheVariants as codes;
 ghost use Rattle.cyc_syntax.specs.inside.TreeView.{place_of_span, view_name, view_initial, view_expression, expressions_of, postfixes_of, operations_of};
@@ -34,7 +34,8 @@ use cyc_typing::{
 };
 use cyc_words::{Code, Span};
 
-/// Returns the name that the expression is, ignoring brackets.
+/// Returns the variable name that an expression consists of, ignoring parentheses, or `None` for
+/// any other expression.
 fn name_in(expression: &Expr) -> Option<Ident>
     ensures { option_map view_name result ≡ name_in (view_expression expression.now) }
 {
@@ -45,7 +46,7 @@ fn name_in(expression: &Expr) -> Option<Ident>
     }
 }
 
-/// Returns true if these operations only peek at their first operand.
+/// Returns true if the first operation of a chain only peeks at its left operand.
 fn is_looking_first(operations: &[Operation]) -> bool
     ensures { result ≡ is_looking_first (operations_of operations.now) }
 {
@@ -55,7 +56,7 @@ fn is_looking_first(operations: &[Operation]) -> bool
     }
 }
 
-/// Checks that there is at least one postfix after an operand at this place.
+/// Checks that an operand has at least one postfix; `span` is the operand's source position.
 fn has_postfixes(postfixes: &[Postfix], span: Span) -> Result<(), Stop>
     ensures ok { OnOk result (postfixes.now ≢ []) }
     ensures stops { IfErr result (λ e. e ≡ stops.Refused (fault_at codes.NotAPlace (place_of_span span)) × (postfixes.now ≡ [])) }
@@ -66,14 +67,15 @@ fn has_postfixes(postfixes: &[Postfix], span: Span) -> Result<(), Stop>
     Ok(())
 }
 
-/// The operations of a chain, and the type of the whole.
+/// The operations of a chain, and the type of the complete chain.
 #[derive(Drop)]
 struct Chain {
     operations: Vec<typed::Operation>,
     of_type: Ty,
 }
 
-/// Returns the left operand of an operation: the first operand, or the result of the previous operations, which is not a peek.
+/// Returns the left operand of an operation: the chain's first operand, or the result of the previous operations, which is not
+/// a peek.
 fn left_of<'a>(first: Left<'a>, of_type: &'a Option<Ty>) -> Left<'a>
     ensures span { result.span ≡ first.entry.span }
     ensures peeked { result.peeked ≡ peeked_after first.entry.peeked of_type.now }
@@ -89,7 +91,8 @@ fn left_of<'a>(first: Left<'a>, of_type: &'a Option<Ty>) -> Left<'a>
     }
 }
 
-/// Returns the type of a chain that begins at this place: that of its last operation, or of its only operand.
+/// Returns the type of a chain: the type of its last operation's result, or of its only operand. The chain
+/// begins at position `span`.
 fn whole_type(first: Given<'_>, of_type: Option<Ty>, span: Span) -> Result<Ty, Stop>
     ensures { Gives view_ty result (run (Own (value_wanted (left_of (view_given first.entry) of_type) (place_of_span span) ∷ [])
         (tests.value_of (left_of (view_given first.entry) of_type)))) }
@@ -108,7 +111,8 @@ fn whole_type(first: Given<'_>, of_type: Option<Ty>, span: Span) -> Result<Ty, S
     }
 }
 
-/// Returns the target of the pointer at the second place, as a value that is named at the first one.
+/// Returns the target of a pointer as a value. The expression begins at `span`, and the pointer at
+/// `pointer_span`.
 fn through(
     scope: &Scope<'_>,
     span: Span,
@@ -121,7 +125,7 @@ fn through(
     loaded(scope.alloc(), span, cell)
 }
 
-/// Returns the target of the pointer at the second place, as a place that is named at the first one.
+/// Returns the target of a pointer as an lvalue; the pointer is at position `pointer_span`.
 fn place_through(
     scope: &Scope<'_>,
     pointer_span: Span,
@@ -133,7 +137,7 @@ fn place_through(
     as_place(scope.alloc(), cell)
 }
 
-/// Returns the typed tree of an expression, or its first fault by the typing rules.
+/// Returns the typed tree of an expression, or the first fault by the typing rules.
 #[cycle(expression)]
 pub fn check_expression(scope: &mut Scope<'_>, expression: &Expr) -> Result<Box<typed::Expr>, Stop>
     ensures gives { Gives view_boxed result (run (rule scope.old (view_expression expression.now))) }
@@ -201,7 +205,7 @@ pub fn check_expression(scope: &mut Scope<'_>, expression: &Expr) -> Result<Box<
     }
 }
 
-/// Checks an operand as a peek.
+/// Checks an operand that is only peeked at.
 #[cycle(expression)]
 pub fn check_looked(scope: &mut Scope<'_>, expression: &Expr) -> Result<Box<typed::Expr>, Stop>
     ensures gives { Gives view_boxed result (run (rule_looked scope.old (view_expression expression.now) (rule scope.old (view_expression expression.now)))) }
@@ -213,7 +217,7 @@ pub fn check_looked(scope: &mut Scope<'_>, expression: &Expr) -> Result<Box<type
     }
 }
 
-/// Checks an operand as a peek or as a used value.
+/// Checks an operand as a peek if `is_looking` is true, otherwise as a used value.
 #[cycle(expression)]
 fn check_operand(
     scope: &mut Scope<'_>,
@@ -231,7 +235,7 @@ fn check_operand(
     }
 }
 
-/// Checks the values of a list.
+/// Checks a list of expressions, each as a used value.
 #[cycle(expression)]
 fn check_values(scope: &mut Scope<'_>, expressions: &[Expr]) -> Result<Vec<typed::Converted>, Stop>
     ensures gives { Gives (λ v. map value_in v.items) result (run (rule_all scope.old (expressions_of expressions.now))) }
@@ -245,7 +249,7 @@ fn check_values(scope: &mut Scope<'_>, expressions: &[Expr]) -> Result<Vec<typed
     Ok(values)
 }
 
-/// Checks the call of a name.
+/// Checks the call of a named function.
 #[cycle(expression)]
 fn check_call(
     scope: &mut Scope<'_>,
@@ -303,7 +307,7 @@ fn check_prefixed(
     }
 }
 
-/// Checks an expression, which begins at this position, as a place.
+/// Checks an expression as an lvalue; the expression begins at position `span`.
 #[cycle(expression)]
 pub fn check_place(scope: &mut Scope<'_>, expression: &Expr, span: Span) -> Result<Box<Found>, Stop>
     ensures gives { Gives view_found result (run (rule_place scope.old (place_of_span span) (view_expression expression.now)
@@ -350,7 +354,8 @@ pub fn check_place(scope: &mut Scope<'_>, expression: &Expr, span: Span) -> Resu
     }
 }
 
-/// Checks the parts of an expression that is not a place, and then rejects it.
+/// Checks the parts of an expression that is used as an lvalue but is not one, and then rejects the
+/// expression.
 #[cycle(expression)]
 fn check_no_place(scope: &mut Scope<'_>, expression: &Expr, span: Span) -> Result<Box<Found>, Stop>
     ensures gives { Gives view_found result (run (rule_no_place scope.old (place_of_span span) (view_expression expression.now))) }
@@ -360,7 +365,7 @@ fn check_no_place(scope: &mut Scope<'_>, expression: &Expr, span: Span) -> Resul
     Err(refused(Code::NotAPlace, span))
 }
 
-/// Checks one postfix after an operand that begins at this place.
+/// Checks one postfix after an operand; the operand begins at position `span`.
 #[cycle(expression)]
 fn check_postfix(
     scope: &mut Scope<'_>,
@@ -380,7 +385,8 @@ fn check_postfix(
     }
 }
 
-/// Returns the cell that postfixes lead to, after an operand that begins at this place.
+/// Returns the memory cell that an operand with postfixes denotes; the operand begins at position
+/// `span`.
 #[cycle(expression)]
 fn check_postfixes(
     scope: &mut Scope<'_>,
@@ -402,7 +408,7 @@ fn check_postfixes(
     Ok(cell)
 }
 
-/// Returns the value that postfixes lead to.
+/// Returns the value in the memory cell that an operand with postfixes denotes.
 #[cycle(expression)]
 fn check_selection(
     scope: &mut Scope<'_>,
@@ -418,7 +424,7 @@ fn check_selection(
     loaded(scope.alloc(), span, cell)
 }
 
-/// Returns the target of the pointer at the second place, as a place that is named at the first one.
+/// Returns the memory cell that an operand with postfixes denotes, as an lvalue.
 #[cycle(expression)]
 fn check_cell(
     scope: &mut Scope<'_>,
@@ -434,8 +440,8 @@ fn check_cell(
     as_place(scope.alloc(), cell)
 }
 
-/// Checks one operation of a chain after a left operand and adds it to the previous ones. The type of the left operand becomes the type of
-/// the operation's result.
+/// Checks one operation of a chain after a left operand, and adds the operation to the previous ones. Returns the type of the operation's
+/// result, which is the type of the next operation's left operand.
 #[cycle(expression)]
 fn check_operation(
     scope: &mut Scope<'_>,
@@ -453,7 +459,7 @@ fn check_operation(
     join(scope, so_far, left, operation.operator, right, operand)
 }
 
-/// Returns the operations of a chain after its first operand, and the type of the whole.
+/// Returns the operations of a chain after its first operand, and the type of the complete chain.
 #[cycle(expression)]
 fn check_operations(
     scope: &mut Scope<'_>,
@@ -477,7 +483,7 @@ fn check_operations(
     })
 }
 
-/// Checks a chain, whose first operand begins at this place.
+/// Checks a chain of operations; its first operand begins at position `span`.
 #[cycle(expression)]
 fn check_chain(
     scope: &mut Scope<'_>,
@@ -498,7 +504,7 @@ fn check_chain(
     binary(scope.alloc(), left, chain.operations, chain.of_type)
 }
 
-/// Returns the content of a new object.
+/// Checks and returns the initial content of a new object.
 #[cycle(expression)]
 fn check_made(scope: &mut Scope<'_>, initial: &Initial) -> Result<Box<Made>, Stop>
     ensures gives { GivesOne IsMade result (run (rule_made scope.old (view_initial initial.now))) }
@@ -536,7 +542,7 @@ fn check_made(scope: &mut Scope<'_>, initial: &Initial) -> Result<Box<Made>, Sto
     }
 }
 
-/// Checks the fields of a new struct.
+/// Checks the field values of a new struct.
 #[cycle(expression)]
 fn check_fields(
     scope: &mut Scope<'_>,
@@ -551,7 +557,7 @@ fn check_fields(
     fields_made(scope, name, regions, expressions, values)
 }
 
-/// Checks the element of a `for` with this variable.
+/// Checks the element expression of an array `for` with the given counter variable.
 #[cycle(expression)]
 fn check_element(
     scope: &mut Scope<'_>,
@@ -568,7 +574,8 @@ fn check_element(
     Ok(value)
 }
 
-/// Returns the region of a new object, from the argument of `rnew` at this place.
+/// Returns the placement of a new object, from the argument of `rnew`; `span` is the argument's
+/// source position.
 #[cycle(expression)]
 fn check_placement(
     scope: &mut Scope<'_>,
@@ -601,7 +608,8 @@ fn check_placement(
     }
 }
 
-/// Checks the handle at this place, and returns its region for a new object.
+/// Checks the region handle of a new object and returns the placement in its region; `span` is the
+/// handle's source position.
 #[cycle(expression)]
 fn check_by_handle(
     scope: &mut Scope<'_>,

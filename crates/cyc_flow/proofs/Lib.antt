@@ -1,10 +1,10 @@
 -- sets of numbers
 pub mod Sets
--- the state of each local
+-- the flow state of each local variable
 pub mod Tables
 pub mod States
 -- undoing of changes
 pub mod Trails
--- nodes of typed trees, and the lists in these nodes
+-- nodes of typed trees that contain lists, and the flow states after these lists
 pub mod Walks
 pub mod KeptNodes

@@ -1,4 +1,4 @@
--- Sets of numbers, represented by the bits of words.
+-- Sets of numbers, represented by the bits of a list of words.
 use Rattle.std.proofs.Common.{◌≡◌, ◌≢◌, ℕ, zero, suc, ◌+◌, ◌/◌, ◌%◌, ◌<◌, ◌≤◌, min, max, Bool, true, false, ◌==◌, ◌||◌, List, [], ◌∷◌, ◌++◌, length, take, drop, replicate, get_or, set, refl, sym, ap, subst, ◌∙◌, arith, inl, inr}
 use Rattle.std.specs.Prelude.{bit_or}
 use Rattle.std.specs.Int.{bit_at}
@@ -25,17 +25,17 @@ or_turned true false = refl
 or_turned false true = refl
 or_turned false false = refl
 
--- words with one more bit represent one more number
+-- If one more bit is set in the words, they represent a set with one more number.
 pub stand_more : (vs ws ns : List ℕ) (m : ℕ) → Stand ws ns → ((n : ℕ) → has_number vs n ≡ ((n == m) || has_number ws n)) → Stand vs (ns ++ m ∷ [])
 stand_more vs ws ns m h is n =
     is n ∙ ap (λ (b : Bool). (n == m) || b) (h n) ∙ or_turned (n == m) (is_among n ns) ∙ sym (among_both n ns (m ∷ []))
 
--- words with the bits of two sets represent the union
+-- Words that have the bits of two sets represent the union of these sets.
 pub stand_both : (us vs ws ns ms : List ℕ) → Stand vs ns → Stand ws ms → ((n : ℕ) → has_number us n ≡ (has_number vs n || has_number ws n)) → Stand us (ns ++ ms)
 stand_both us vs ws ns ms h k is n =
     is n ∙ ap (λ (b : Bool). b || has_number ws n) (h n) ∙ ap (λ (b : Bool). is_among n ns || b) (k n) ∙ sym (among_both n ns ms)
 
--- no words represent the empty set
+-- An empty list of words represents the empty set.
 pub stand_none : (ws ns : List ℕ) → ws ≡ [] → ns ≡ [] → Stand ws ns
 stand_none ws ns d e n =
     ap (λ (vs : List ℕ). has_number vs n) d ∙ ap (λ (b : ℕ). b == 1) (bit_at-zero (n % 64)) ∙ sym (ap (is_among n) e)
@@ -57,7 +57,8 @@ taken_and_rest zero xs = refl
 taken_and_rest (suc n) [] = refl
 taken_and_rest (suc n) (x ∷ xs) = ap (λ ys. x ∷ ys) (taken_and_rest n xs)
 
--- the first elements are changed, and the remaining elements are unchanged
+-- `Changed` says that the first `i` elements of a list are changed already, and the remaining ones
+-- are still unchanged.
 abbrev pub Changed : {X : Type 0} → (X → ℕ → X) → List X → List ℕ → ℕ → (whole : List X) → Type 0
 Changed f xs ws i whole = take i xs ++ with_words f (drop i xs) (drop i ws) ≡ whole
 
@@ -67,7 +68,7 @@ changed_all f xs whole ws i n d e k =
     let none : min (length (drop n xs)) (length (drop n ws)) ≡ 0 = omega (arith, length-drop n xs, length-drop n ws, e) in
     sym (taken_and_rest n xs) ∙ ap (λ ys. take n xs ++ ys) (sym (none_changes f (drop n xs) (drop n ws) none)) ∙ h
 
--- one more element is changed
+-- The loop invariant `Changed` is kept when one more element is changed.
 changed_next : {X : Type 0} (f : X → ℕ → X) (xs whole : List X) (ws : List ℕ) (i : ℕ) (x : X) (w : ℕ) → i < length xs → i < length ws → x ≡ get_or xs i x → w ≡ get_or ws i w
     → Changed f xs ws i whole → Changed f (set xs i (f x w)) ws (suc i) whole
 changed_next f [] whole ws i x w below less read found h = absurd (omega (arith, below))
@@ -121,7 +122,7 @@ after_zeros [] (suc k) (suc i) = after_zeros [] k i
 after_zeros (w ∷ ws) k zero = refl
 after_zeros (w ∷ ws) k (suc i) = after_zeros ws k i
 
--- extending words by zeros keeps their bits
+-- Extending a list of words by zeros leaves the represented set unchanged.
 pub has_grown : (vs ws : List ℕ) (m k : ℕ) → length ws ≤ m → vs ≡ take m ws ++ replicate k 0 → (n : ℕ) → has_number vs n ≡ has_number ws n
 has_grown vs ws m k few are n =
     ap (λ (v : ℕ). has_bit v (n % 64))
@@ -142,7 +143,7 @@ module _ (vs ws : List ℕ) (m v w : ℕ) (same_bits : (n : ℕ) → has_number 
     | inr there ↦ ap (λ (u : ℕ). has_bit u (n % 64)) (get_or-set_other vs (m / 64) (n / 64) w 0 there)
   ]
 
-  -- setting the bit of a number keeps the other bits
+  -- Setting the bit of a number leaves the bits of all other numbers unchanged.
   pub has_inserted : (n : ℕ) → has_number (set vs (m / 64) w) n ≡ ((n == m) || has_number ws n)
   has_inserted n = elim (eqb_tells n m) [
     | inl same_number ↦

@@ -1,11 +1,11 @@
--- Unreachable code, and the state at the start of a function.
+-- The flow state of unreachable code, and the flow state at the start of a function.
 use Rattle.std.proofs.Common.{◌≡◌, ℕ, ◌+◌, List, [], ◌∷◌, ◌++◌, length, drop, map, replicate, refl, ap, ◌∙◌, arith}
 use Rattle.std.proofs.lemmas.List.{drop-replicate}
 use Rattle.cyc_types.specs.Types.{Ty}
 use Rattle.cyc_types.specs.flow.States.{Fullness, Vacant, Full, Unreached, with_each, emptied}
 use Rattle.cyc_types.specs.flow.Programs.{each_is}
 
--- unreachable code keeps no state
+-- In unreachable code, emptying locals leaves the flow state unreachable.
 pub emptied_unreached : (ns : List ℕ) → emptied ns Unreached ≡ Unreached
 emptied_unreached [] = refl
 emptied_unreached (n ∷ ns) = emptied_unreached ns
@@ -20,7 +20,7 @@ each_known : {X : Type 0} (view : X → Ty) (a : Fullness) (ts : List X) → rep
 each_known view a [] = refl
 each_known view a (t ∷ ts) = ap (λ as'. a ∷ as') (each_known view a ts)
 
--- the first locals are full, and the others are empty
+-- At the start of a function, the first locals (its parameters) are full, and the others are empty.
 pub start_known : {X : Type 0} (view : X → Ty) (ts us : List X) (n m : ℕ) → n ≡ length ts → m ≡ length us → (start filled : List Fullness)
     → start ≡ replicate (n + m) Vacant → filled ≡ replicate n Full ++ drop n start
     → filled ≡ each_is Full (map view ts) ++ each_is Vacant (map view us)

@@ -1,4 +1,4 @@
--- The meaning of the bits of words for locals.
+-- The bits of a table of words represent the fullness of each local variable.
 use Rattle.std.proofs.Common.{◌≡◌, ◌≢◌, ℕ, zero, suc, ◌+◌, ◌*◌, ◌/◌, ◌%◌, ◌<◌, ◌≤◌, min, Bool, true, false, ◌==◌, ◌&&◌, ◌||◌, if◌then◌else◌, List, [], ◌∷◌, ◌++◌, length, take, drop, replicate, get_or, set, refl, sym, ap, subst, ◌∙◌, arith, inl, inr}
 use Rattle.std.specs.Prelude.{bit_and, bit_or, bit_xor}
 use Rattle.std.specs.Int.{bit_at}
@@ -31,7 +31,7 @@ same_each (suc n) f g each =
     ap (λ a. a ∷ each_below n (λ i. f (suc i))) (each 0 (omega arith))
     ∙ ap (λ as'. g 0 ∷ as') (same_each n (λ i. f (suc i)) (λ i. g (suc i)) (λ i below. each (suc i) (omega (arith, below))))
 
--- changing the value at one index
+-- Changing a function at one number changes the list of its values at the same index.
 pub set_each : (n : ℕ) (f g : ℕ → Fullness) (i : ℕ) (a : Fullness) → ((j : ℕ) → j < n → j ≢ i → g j ≡ f j) → (i < n → g i ≡ a) → each_below n g ≡ set (each_below n f) i a
 set_each zero f g i a other same = refl
 set_each (suc n) f g zero a other same =
@@ -60,7 +60,7 @@ as_full_below (suc n) f g each = both (is_as_full (f 0) (g 0)) (each 0 (omega ar
     both true h k = k
     both false h k = absurd (let e : false ≡ true = h in cc)
 
--- lists of different lengths do not compare
+-- Two states with different numbers of locals are never comparable.
 pub unequal : (xs ys : List Fullness) → (length xs ≡ length ys → ⊥) → are_as_full xs ys ≡ false
 unequal [] [] n = absurd (n refl)
 unequal [] (y ∷ ys) n = refl
@@ -155,7 +155,7 @@ covered_bit zero (suc (suc z)) small less h = absurd (omega (arith, less))
 covered_bit (suc zero) z small less h = refl
 covered_bit (suc (suc x)) z small less h = absurd (omega (arith, small))
 
--- the missing bits of one kind
+-- A bit is missing in the first word if it is set in the second word but not in the first.
 lacking : (a b i : ℕ) → bit_at (bit_xor (bit_and a b) b) i ≡ (min (bit_at a i) (bit_at b i) + bit_at b i) % 2
 lacking a b i = bit_at_xor (bit_and a b) b i ∙ ap (λ (x : ℕ). (x + bit_at b i) % 2) (bit_at_and a b i)
 
@@ -171,7 +171,7 @@ covers_marked m o i h =
 
 -- ---- tables
 
--- the fullness of a local, read from its marks
+-- The two bits stored for a local in the table determine its fullness.
 pub known_read : (t : Table) (n : ℕ) (m : Marks) → n < table_length t → m ≡ get_or t.marks.items (n / 64) m
     → marked m (n % 64) ≡ get_or (view_table t) n Vacant
 known_read t n m below read =
@@ -181,7 +181,7 @@ known_read t n m below read =
 pub known_past : (t : Table) (n : ℕ) → table_length t ≤ n → Vacant ≡ get_or (view_table t) n Vacant
 known_past t n past = sym (get_or_past (view_table t) n Vacant (omega (arith, past, length-each_below (table_length t) (known_at t.marks.items))))
 
--- changing the marks of one local
+-- Changing the bits of one local changes only the fullness of this local.
 module _ (ms : List Marks) (n : ℕ) (m o : Marks) (a : Fullness) (within : n / 64 < length ms) (read : m ≡ get_or ms (n / 64) m)
     (same : marked o (n % 64) ≡ a) (other : (i : ℕ) → i < 64 → i ≢ n % 64 → marked o i ≡ marked m i) where
   at_place : marks_at (set ms (n / 64) o) (n / 64) ≡ o
@@ -257,7 +257,8 @@ none_met [] os h = refl
 none_met (m ∷ ms) [] h = refl
 none_met (m ∷ ms) (o ∷ os) h = absurd (omega (arith, h))
 
--- the first marks are the meet, and the remaining marks are unchanged
+-- `Met` says that the first `i` words of bits are the meet of two tables of local states, and the
+-- remaining words are still unchanged.
 abbrev pub Met : (ms os : List Marks) → ℕ → (whole : List Marks) → Type 0
 Met ms os i whole = take i ms ++ met_each (drop i ms) (drop i os) ≡ whole
 
@@ -276,7 +277,7 @@ met_all ms os whole i n d e k =
 abbrev CoverEach : List Marks → List Marks → Type 0
 CoverEach ms os = (p : ℕ) → p < length ms → p < length os → Covers (marks_at ms p) (marks_at os p)
 
--- no bit is missing in the first words
+-- `LacksBelow` says that if no bit is missing in `w`, then none is missing in the first `n` words.
 abbrev pub LacksBelow : List Marks → List Marks → (word : ℕ) → ℕ → Type 0
 LacksBelow ms os w n = (i : ℕ) → bit_at w i ≡ 0 → (p : ℕ) → p < n → bit_at (missing (marks_at ms p) (marks_at os p)) i ≡ 0
 
@@ -289,7 +290,8 @@ lacks_more ms os w n r is h i none p under = elim (cases_eq p n) [
   | inr apart ↦ h i (omega (arith, bit_at_or w r i, none)) p (omega (arith, under, apart))
 ]
 
--- no bit is missing in any word
+-- If the word of missing bits is zero after all words are visited, then no bit is missing in any
+-- word.
 pub lacks_none : (ms os : List Marks) (w n : ℕ) → w ≡ 0 → min (length ms) (length os) ≤ n → LacksBelow ms os w n → CoverEach ms os
 lacks_none ms os w n none past h p below less i = h i (ap (λ (v : ℕ). bit_at v i) none ∙ bit_at-zero i) p (omega (arith, below, less, past))
 
@@ -311,7 +313,7 @@ length_known t n e = length-each_below (table_length t) (known_at t.marks.items)
 
 -- ---- emptied locals
 
--- the fullness after emptying a local, unless it is lent, if the condition holds
+-- Returns the fullness of a local after it is emptied, unless it is lent, if the condition holds.
 abbrev emptied_if : Bool → Fullness → Fullness
 emptied_if true a = if is_locked a then a else Vacant
 emptied_if false a = a
@@ -387,7 +389,7 @@ emptied_twice true true Full = refl
 emptied_twice true false x = refl
 emptied_twice false b x = refl
 
--- emptying the locals one by one equals emptying them at once
+-- Emptying the locals one by one has the same result as emptying them all at once.
 emptied_below : (ns : List ℕ) (c : ℕ) (f : ℕ → Fullness) → emptied ns (Reached (each_below c f)) ≡ Reached (each_below c (λ i. emptied_if (is_among i ns) (f i)))
 emptied_below [] c f = refl
 emptied_below (n ∷ ns) c f =

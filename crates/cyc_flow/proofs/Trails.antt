@@ -1,4 +1,5 @@
--- Undoing the changes of a state, and the meet with the state before them.
+-- Undoing the recorded changes of a flow state, and computing its meet with the state before these
+-- changes.
 use Rattle.std.proofs.Common.{◌≡◌, ℕ, zero, suc, true, false, List, [], ◌∷◌, ◌++◌, get_or, set, refl, sym, ap, ◌∙◌}
 use Rattle.std.proofs.lemmas.List.{set-get_or}
 use Rattle.cyc_types.specs.flow.States.{Fullness, Vacant, Locked, Full, State, Unreached, Reached, lower, lower_each, meet, fullness, with_fullness, is_vacant}
@@ -21,7 +22,8 @@ restored : (f : State) (n : ℕ) (a : Fullness) → with_fullness (fullness f n)
 restored Unreached n a = refl
 restored (Reached as') n a = ap Reached (set_twice as' n a (get_or as' n Vacant) ∙ set-get_or as' n Vacant)
 
--- a change of a local is recorded with the local's earlier state
+-- If a change of a local is recorded with the local's earlier state, undoing the changes yields the
+-- same initial state.
 pub noted_begun : (cs : List Change) (c : Change) (f : State) (a : Fullness) → view_fullness c.before ≡ fullness f c.number → undone (cs ++ c ∷ []) (with_fullness a f c.number) ≡ undone cs f
 noted_begun cs c f a e =
     undone_append cs (c ∷ []) (with_fullness a f c.number)
@@ -31,7 +33,8 @@ pub lowered_append : (cs ds : List Change) (f : State) → lowered (cs ++ ds) f 
 lowered_append [] ds f = refl
 lowered_append (c ∷ cs) ds f = lowered_append cs ds (with_fullness (lower (fullness f c.number) (view_fullness c.before)) f c.number)
 
--- the present state of a changed local is recorded
+-- Lowering locals to recorded states continues to agree when the present state of one more changed
+-- local is recorded.
 pub noted_now : (g : State) (vs : List Change) (v c : Change) (cs : List Change) (f : State) → v.number ≡ c.number → view_fullness v.before ≡ fullness g c.number
     → lowered_to g cs (lowered (vs ++ v ∷ []) f) ≡ lowered_to g (c ∷ cs) (lowered vs f)
 noted_now g vs v c cs f n e =
@@ -70,7 +73,7 @@ set_lower [] n a b = refl
 set_lower (d ∷ as') zero a b = refl
 set_lower (d ∷ as') (suc n) a b = ap (λ bs. d ∷ bs) (set_lower as' n a b)
 
--- setting one local to a lower state commutes with lowering another local
+-- Setting one local to a lower state commutes with lowering another local.
 swapped : (as' : List Fullness) (now : ℕ → Fullness) (n m : ℕ) (a : Fullness) → lower a (now n) ≡ a
     → set (set as' n a) m (lower (get_or (set as' n a) m Vacant) (now m)) ≡ set (set as' m (lower (get_or as' m Vacant) (now m))) n a
 swapped [] now n m a h = refl
@@ -79,7 +82,7 @@ swapped (d ∷ as') now zero (suc m) a h = refl
 swapped (d ∷ as') now (suc n) zero a h = refl
 swapped (d ∷ as') now (suc n) (suc m) a h = ap (λ bs. d ∷ bs) (swapped as' (λ k. now (suc k)) n m a h)
 
--- undoing changes, on lists of states
+-- Returns the list of local states after the recorded changes are undone.
 abbrev undone_list : List Change → List Fullness → List Fullness
 undone_list [] bs = bs
 undone_list (c ∷ cs) bs = set (undone_list cs bs) c.number (view_fullness c.before)
@@ -124,7 +127,7 @@ lowered_reached : (bs : List Fullness) (cs : List Change) (as' : List Fullness) 
 lowered_reached bs [] as' = refl
 lowered_reached bs (c ∷ cs) as' = lowered_reached bs cs (set as' c.number (lower (get_or as' c.number Vacant) (known_now bs c.number)))
 
--- The meet of the present state with the state before the changes: only the changed locals are lowered.
+-- The meet of the present flow state with the state before the changes lowers only the changed locals.
 pub meet_undone : (cs : List Change) (g : State) → meet (undone cs g) g ≡ lowered_to g cs (undone cs g)
 meet_undone cs Unreached =
     ap (λ (f : State). meet f Unreached) (undone_unreached cs) ∙ sym (ap (lowered_to Unreached cs) (undone_unreached cs) ∙ lowered_unreached Unreached cs)
@@ -153,7 +156,8 @@ met_emptied (c ∷ cs) bs h =
     ∙ ap (λ a. set bs n a) (vacant_lower b now (and_left (is_vacant now) (are_emptied cs (Reached bs)) h))
     ∙ set-get_or bs n Vacant
 
--- The meet equals the present state, since each changed local is empty in it.
+-- If each changed local is empty in the present flow state, the meet with the state before the
+-- changes is the present state.
 pub meet_emptied : (cs : List Change) (g : State) → are_emptied cs g ≡ true → meet (undone cs g) g ≡ g
 meet_emptied cs Unreached h = ap (λ (f : State). meet f Unreached) (undone_unreached cs)
 meet_emptied cs (Reached bs) h = ap (λ (f : State). meet f (Reached bs)) (undone_reached cs bs) ∙ ap Reached (met_emptied cs bs h)

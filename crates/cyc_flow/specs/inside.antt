@@ -1,4 +1,5 @@
--- The contract of `flow` uses only the definitions of `cyc_types`. The modules below are the contracts between the functions of this crate.
+-- The contract of `flow` uses only the definitions of `cyc_types`. The modules below contain the contracts between the functions of this
+-- crate.
 pub mod Bits
 pub mod Code
 pub mod Numbers

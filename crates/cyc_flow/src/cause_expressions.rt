@@ -1,10 +1,12 @@
-//! The walk that finds a local's change for a diagnostic: the effects on that local, and expressions.
+//! Traverses expressions to find a local's change for a diagnostic, and records the effects on that
+//! local.
 use crate::cause::{Cause, Change};
 use crate::cause_state::{Found, Known};
 use cyc_types::typed::{Converted, Dereference, Expr, Initial, Lvalue, Operation, Placement};
 use cyc_words::{Fault, Span};
 
-/// The enclosing loop: the place of the loop's keyword, and the state at the loop's head.
+/// The enclosing loop: the source position of the loop's keyword, and the local's state at the
+/// loop's head.
 #[derive(Clone, Copy)]
 pub(crate) struct Around {
     pub(crate) span: Span,
@@ -14,16 +16,16 @@ pub(crate) struct Around {
 #[derive(Drop)]
 pub(crate) struct Walk {
     pub(crate) fault: Fault,
-    /// The number of the local.
+    /// The number of the local whose change is sought.
     pub(crate) number: usize,
-    /// The pending peek of the local, if any.
+    /// The peek of the local that is still in use, if any.
     pub(crate) waiting: Option<Cause>,
-    /// The effect of the innermost enclosing `try`'s body on the local.
+    /// The effect that the body of the innermost enclosing `try` has on the local.
     pub(crate) touched: Option<Cause>,
     /// True if an item has locked the local since the start of the enclosing loop's body.
     pub(crate) is_locked: bool,
     pub(crate) around: Option<Around>,
-    /// The meet of the states at the breaks that leave the enclosing loop.
+    /// The meet of the local's states at the breaks that leave the enclosing loop.
     pub(crate) breaks: Known,
 }
 
@@ -31,7 +33,8 @@ fn is_at(span: Span, fault: Fault) -> bool {
     span.line == fault.line && span.column == fault.column
 }
 
-/// Returns the local whose peek a place is reached through, and the place of that peek.
+/// Returns the local whose peek yields the dereferenced pointer, and the source position of that
+/// peek.
 pub(crate) fn peek_after(place: &Dereference) -> Option<(usize, Span)> {
     match place {
         Dereference::Target { pointer, .. } => peek_of(pointer),
@@ -62,7 +65,7 @@ impl Walk {
 
     // ---- effects on the local
 
-    /// Visits a name of the local at this place, which may be the place of the fault.
+    /// Visits a use of the local's name at this source position, which may be that of the fault.
     fn name(&self, span: Span, number: usize, known: Known) -> Result<(), Found> {
         if number == self.number && is_at(span, self.fault) {
             return Err(Found(known.cause().or(self.waiting)));
@@ -77,7 +80,7 @@ impl Walk {
         }
     }
 
-    /// Records an effect of a `try` body: the first move, or else the first change.
+    /// Records an effect of a `try` body on the local: the first move, or else the first change.
     fn touch(&mut self, cause: Cause) {
         let is_said = match self.touched {
             None => true,
@@ -117,7 +120,8 @@ impl Walk {
         }
     }
 
-    /// Visits an item that declares one local and locks another, named at this place.
+    /// Visits an item that declares one local and locks another one, whose name is at this source
+    /// position.
     pub(crate) fn lock(
         &mut self,
         number: usize,
@@ -138,7 +142,7 @@ impl Walk {
         Ok(known.set(Known::Locked(cause)))
     }
 
-    /// Visits the declaration of a local with a value.
+    /// Visits the declaration of a local with an initial value.
     pub(crate) fn declare(&self, number: usize, known: Known) -> Known {
         if number == self.number {
             known.set(Known::Full)
@@ -147,7 +151,8 @@ impl Walk {
         }
     }
 
-    /// Starts a pending peek of this local, if there is one. Returns the peek that was pending before this one.
+    /// Records that a peek of the local is in use from now on, if the operand is one. Returns the peek that was
+    /// in use before.
     pub(crate) fn wait(&mut self, peeked: Option<(usize, Span)>) -> Option<Cause> {
         let before = self.waiting;
         match peeked {
@@ -162,7 +167,8 @@ impl Walk {
         before
     }
 
-    /// Returns to the head of the loop with this keyword, which may be the place of the fault.
+    /// Visits the end of a loop's body, where control returns to the head of the loop with this
+    /// keyword. The keyword may be the position of the fault.
     pub(crate) fn go_back(&self, span: Span, head: Known, end: Known) -> Result<(), Found> {
         if is_at(span, self.fault) && end.is_emptier(head) {
             return Err(Found(end.cause()));

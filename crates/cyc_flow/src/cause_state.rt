@@ -1,22 +1,23 @@
-//! The state of one local during the walk that finds its change.
+//! The state of one local during the traversal that finds its change for a diagnostic.
 use crate::cause::Cause;
 
-/// The state of the local, and the change that caused it.
+/// The state of the local, and the change that brought it into this state.
 #[derive(Clone, Copy)]
 pub(crate) enum Known {
     /// The program point is unreachable.
     Unreached,
     Full,
     Locked(Cause),
-    /// The local is empty: it never had a value, or the given change emptied it.
+    /// The local is empty: it never had a value, or this change emptied it.
     Vacant(Option<Cause>),
 }
 
-/// The walk has reached the place of the fault; this is the change to report, if any.
+/// Says that the traversal has reached the position of the fault, and holds the change to report,
+/// if any.
 pub(crate) struct Found(pub(crate) Option<Cause>);
 
 impl Known {
-    /// Returns the state at the join of two branches: the lower of the two.
+    /// Returns the local's state at the join of two branches: the lower of the two states.
     pub(crate) fn meet(self, other: Known) -> Known {
         match (self, other) {
             (Known::Unreached, _) => other,
@@ -43,7 +44,7 @@ impl Known {
         }
     }
 
-    /// Sets the state, unless the point is unreachable.
+    /// Sets the local's state, unless the program point is unreachable.
     pub(crate) fn set(self, known: Known) -> Known {
         match self {
             Known::Unreached => Known::Unreached,
@@ -51,7 +52,8 @@ impl Known {
         }
     }
 
-    /// Returns the state after a block that has locked the local, if it has.
+    /// Returns the local's state after a block: full if the block had locked the local, otherwise
+    /// unchanged.
     pub(crate) fn unlocked(self, is_locked: bool) -> Known {
         if is_locked {
             self.set(Known::Full)

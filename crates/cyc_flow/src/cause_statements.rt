@@ -1,4 +1,4 @@
-//! The walk that finds a local's change for a diagnostic: statements.
+//! Traverses statements to find a local's change for a diagnostic.
 use crate::cause_expressions::{Around, Walk, peek_after};
 use crate::cause_state::{Found, Known};
 use cyc_types::typed::{Clause, Converted, Expr, Item, Side, Stmt};
@@ -128,7 +128,8 @@ impl Walk {
         }
     }
 
-    /// Visits the body of a `try`. Returns the state at the start of the clauses, and the state after the body.
+    /// Visits the body of a `try`. Returns the local's state at the start of the clauses, and its state after
+    /// the body.
     #[cycle(statement)]
     fn check_body(&mut self, body: &Stmt, known: Known) -> Result<(Known, Known), Found> {
         let before = self.touched;

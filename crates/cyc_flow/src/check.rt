@@ -1,4 +1,4 @@
-//! The flow check of a program.
+//! Checks that a program satisfies the flow rules.
 ghost use Rattle.std.specs.Prelude.{◌≡◌, ℕ, List, map, None, Err, IfOk, IfSome};
 ghost use Rattle.cyc_words.specs.Decision.{Decides};
 ghost use Rattle.cyc_syntax.specs.Trees.{Declaration};
@@ -22,16 +22,19 @@ use cyc_types::{Flowed, TypedTree};
 use cyc_words::{Code, Fault};
 use std::alloc::{AllocError, Global};
 
-/// Checks that a typed tree satisfies the flow rules. Each variable holds a value when it is used; no variable is used or assigned while
-/// its value is lent or peeked at. No loop body leaves a local emptier than at the loop's head. A catch clause relies on no local that the
-/// body of its `try` may have emptied. No path through a function with a result reaches the function's end.
+/// Checks that a typed tree satisfies the flow rules. Each variable holds a value when it is used, and no variable is used or assigned
+/// while its value is lent or peeked at. At the end of a loop body, no local is emptier than at the loop's head. A catch clause relies on
+/// no local that the body of its `try` may have emptied. No path through a function with a result reaches the function's end.
 ///
-/// Returns the first fault, in execution order. Any copy of a state may fail for lack of memory.
+/// Returns the first flow fault, in execution order. Any copy of a flow state may fail for lack of
+/// memory.
 pub fn flow(alloc: Global, tree: TypedTree) -> Result<Flowed, Fault>
-    // An accepted tree satisfies the rules and is returned; a rejected tree has this fault.
+    // A typed tree that `flow` accepts satisfies the flow rules and is returned. For a rejected
+    // tree, the rules have the returned fault.
     ensures decides { Decides (λ (_ : Unit {0}). IsAllowedProgram (view_program tree)) (λ _ v. v.tree ≡ tree) (IsStoppedProgram (view_program tree))
         (IsStoppedProgram (view_program tree)) result }
-    // If the typing rules derive the tree from a text, no step of any run of an accepted tree is dead or wrong, for any input.
+    // If the typing rules derive the tree from a text and `flow` accepts it, no step of any run reads freed memory or does
+    // what the rules forbid, for any input.
     ensures sound { IfOk result (λ _. (texts : List (List ℕ)) (declarations : List Declaration)
         → IsTypedProgram texts declarations (view_program tree) → IsSound (view_program tree)) }
 {
@@ -39,7 +42,7 @@ pub fn flow(alloc: Global, tree: TypedTree) -> Result<Flowed, Fault>
     Ok(Flowed { tree })
 }
 
-/// A flow fault, and the place that brought its variable into the faulty state, if known.
+/// A flow fault, and the source position that brought its variable into the faulty state, if known.
 #[derive(Clone, Copy)]
 pub struct Diagnosis {
     pub fault: Fault,
@@ -82,7 +85,7 @@ fn check_function(alloc: Global, function: &Function) -> Result<(), Stop>
     check_end(function, &end.state)
 }
 
-/// Returns the state at the start of a function: its parameters are full.
+/// Returns the flow state at the start of a function: its parameters are full.
 fn start_of(alloc: Global, function: &Function) -> Result<State, AllocError>
     ensures { IfOk result (λ s. view_state s ≡ start_of (view_function function.now)) }
 {
@@ -92,7 +95,7 @@ fn start_of(alloc: Global, function: &Function) -> Result<State, AllocError>
     Ok(State::Reached(locals))
 }
 
-/// Checks that the end of a function with a result is unreachable.
+/// Checks that control cannot reach the end of a function with a result.
 fn check_end(function: &Function, state: &State) -> Result<(), Stop>
     ensures { Ends result (settled None (end_demanded (view_function function.now).result (view_function function.now).end (view_state state.now))) }
 {

@@ -1,4 +1,5 @@
-//! A walk through an expression. The search is a second walk for one local, used only for diagnostics.
+//! The flow state during the traversal of an expression. The search for a fault's cause is a second
+//! traversal for one local, used only for diagnostics.
 ghost use Rattle.std.specs.Prelude.{◌≡◌, ◌++◌, [], IfOk};
 ghost use Rattle.cyc_types.specs.flow.States.{meet, with_fullness};
 ghost use Rattle.cyc_types.specs.flow.Touched.{and_local};
@@ -9,16 +10,17 @@ use crate::state::{Change, Fullness, State};
 use crate::touched::Touched;
 use std::alloc::{AllocError, Global};
 
-/// The state at a program point in an expression, and the locals touched before it.
+/// The flow state at a program point in an expression, and the locals touched before this point.
 #[derive(Drop)]
 pub(crate) struct Evaluation {
     pub(crate) state: State,
     pub(crate) touched: Touched,
-    /// The changes since the start of the expression, or of the innermost enclosing operand of `&&` or `||`, in order.
+    /// The changes of locals since the start of the expression, or of the innermost enclosing operand of `&&` or `||`,
+    /// in order.
     pub(crate) trail: Vec<Change>,
 }
 
-/// Returns the present state of each changed local.
+/// Returns the present state of each changed local, as a list of changes.
 #[tactic(auto, using(std::proofs::lemmas::List::drop_more, crate::proofs::Trails::noted_now))]
 fn changed(alloc: Global, state: &State, trail: &[Change]) -> Result<Vec<Change>, AllocError>
     ensures { IfOk result (λ v. Notes v.items (view_state state.now) trail.now) }
@@ -33,7 +35,7 @@ fn changed(alloc: Global, state: &State, trail: &[Change]) -> Result<Vec<Change>
     Ok(changed)
 }
 
-/// Returns true if each changed local may be empty now.
+/// Returns true if each changed local may be empty in the present flow state.
 #[tactic(auto, using(std::proofs::lemmas::List::drop_more))]
 fn are_emptied(state: &State, trail: &[Change]) -> bool
     ensures { result ≡ are_emptied trail.now (view_state state.now) }
@@ -68,7 +70,7 @@ impl Evaluation {
         }
     }
 
-    /// Sets the state of one local. If the state does not change, nothing is recorded, so `&&` and `||` visit only real changes.
+    /// Sets the state of one local. A state that stays the same is not recorded, so `&&` and `||` visit only real changes.
     pub(crate) fn set(&mut self, number: usize, fullness: Fullness) -> Result<(), AllocError>
         ensures state { IfOk result (λ _. view_state self.new.state ≡ with_fullness (view_fullness fullness) (view_state self.old.state) number) }
         ensures touched { IfOk result (λ _. self.new.touched.numbers.list ≡ self.old.touched.numbers.list) }
@@ -83,7 +85,7 @@ impl Evaluation {
         Ok(())
     }
 
-    /// Records that a local is consumed or assigned.
+    /// Records that a local is consumed or assigned in the expression.
     pub(crate) fn touch(&mut self, number: usize) -> Result<(), AllocError>
         ensures state { IfOk result (λ _. view_state self.new.state ≡ view_state self.old.state) }
         ensures touched { IfOk result (λ _. self.new.touched.numbers.list ≡ and_local number self.old.touched.numbers.list) }
@@ -93,7 +95,8 @@ impl Evaluation {
         Ok(())
     }
 
-    /// Restores the state at the start.
+    /// Restores the flow state at the start of the expression, and undoes the changes recorded
+    /// since.
     fn undo(&mut self)
         ensures state { view_state self.new.state ≡ begun self.old }
         ensures touched { self.new.touched.numbers.list ≡ self.old.touched.numbers.list }
@@ -104,7 +107,7 @@ impl Evaluation {
         }
     }
 
-    /// Lowers each of these locals to its recorded state.
+    /// Lowers each changed local to its recorded state.
     #[tactic(auto, using(std::proofs::lemmas::List::drop_more))]
     fn lower(&mut self, changes: &[Change]) -> Result<(), AllocError>
         ensures state { IfOk result (λ _. view_state self.new.state ≡ lowered changes.now (view_state self.old.state)) }
@@ -119,7 +122,8 @@ impl Evaluation {
     }
 
     /// Replaces the state by its meet with the state at the start. If an operand has only consumed locals, the result is the present state;
-    /// this keeps nested operators cheap, since they would visit those changes again.
+    /// skipping the meet in this case keeps nested operators cheap, since each of them would visit
+    /// the same changes again.
     #[tactic(auto, using(crate::proofs::Trails::meet_undone, crate::proofs::Trails::meet_emptied))]
     pub(crate) fn meet_start(&mut self, alloc: Global) -> Result<(), AllocError>
         ensures state { IfOk result (λ _. view_state self.new.state ≡ meet (begun self.old) (view_state self.old.state)) }
@@ -134,7 +138,7 @@ impl Evaluation {
         self.lower(&changed)
     }
 
-    /// Ends an operand of `&&` or `||`, and restores the changes recorded before it.
+    /// Ends an operand of `&&` or `||`, and adds its changes to those recorded before the operand.
     #[tactic(auto, using(crate::proofs::Trails::undone_append))]
     pub(crate) fn resume(&mut self, outer: Vec<Change>) -> Result<(), AllocError>
         ensures state { IfOk result (λ _. view_state self.new.state ≡ view_state self.old.state) }

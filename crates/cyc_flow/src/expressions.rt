@@ -1,5 +1,6 @@
-//! The state after an expression that satisfies the flow rules. Each method changes the state before into the state after, and takes the
-//! locals with a pending peek. The state is changed in place: expressions nest deepest, so no stack frame holds a state.
+//! The flow state after an expression that satisfies the flow rules. Each method changes the state before the expression into the state
+//! after it, and receives the locals whose peeks are in use. The state is changed in place: expressions nest deepest, so no stack frame
+//! contains a state.
 ghost use Rattle.std.specs.Prelude.{◌≡◌, ◌++◌, IfOk, Some, Ok, option_map};
 ghost use Rattle.cyc_syntax.specs.inside.TreeView.{place_of_span};
 ghost use Rattle.cyc_types.specs.Rules.{run, fault_at};
@@ -27,7 +28,8 @@ use cyc_words::{Code, Span};
 use std::alloc::{AllocError, Global};
 use std::mem;
 
-/// The state at a program point, and the locals (unique pointers and keys) that were consumed, assigned or locked before it.
+/// The flow state at a program point, and the locals (unique pointers and keys) that were consumed, assigned or locked
+/// before this point.
 #[derive(Drop)]
 pub(crate) struct Tracked {
     pub(crate) state: State,
@@ -44,7 +46,7 @@ fn peek_of(operand: &Expr) -> Option<usize>
     }
 }
 
-/// Returns the local whose peek a place is reached through, if any.
+/// Returns the local whose peek yields the dereferenced pointer, if any.
 pub(crate) fn peek_after(place: &Dereference) -> Option<usize>
     ensures { result ≡ peek_after (view_dereference place.now) }
 {
@@ -55,7 +57,7 @@ pub(crate) fn peek_after(place: &Dereference) -> Option<usize>
     }
 }
 
-/// Returns the pending peeks, extended by this local if there is one.
+/// Returns the locals whose peeks are in use, extended by this local if there is one.
 pub(crate) fn and_peeked(
     alloc: Global,
     waiting: &[usize],
@@ -71,7 +73,7 @@ pub(crate) fn and_peeked(
 }
 
 impl Tracked {
-    /// Returns the given state except for one local, which gets this fullness.
+    /// Returns the flow state in which one local has this fullness and all others are unchanged.
     pub(crate) fn with_fullness(mut self, number: usize, fullness: Fullness) -> Tracked
         ensures state { view_state result.state ≡ with_fullness (view_fullness fullness) (view_state self.state) number }
         ensures touched { result.touched.numbers.list ≡ self.touched.numbers.list }
@@ -89,7 +91,8 @@ impl Tracked {
         Ok(())
     }
 
-    /// Returns the state after the body of a `try`, before which these locals were touched.
+    /// Returns the flow state after the body of a `try`, with the locals touched before the body
+    /// and in it.
     pub(crate) fn after_body(self, touched: Touched) -> Tracked
         ensures state { view_state result.state ≡ view_state self.state }
         ensures touched { result.touched.numbers.list ≡ touched.numbers.list ++ self.touched.numbers.list }
@@ -102,7 +105,7 @@ impl Tracked {
 }
 
 impl Evaluation {
-    /// Checks a peek of a local.
+    /// Checks that a peek at a local is allowed: the local holds a value that is not lent.
     fn look(&self, span: Span, number: usize) -> Result<(), Stop>
         ensures { Leads result self.now (run (looked (place_of_span span) number (view_state self.now.state))) self.now.touched.numbers.list (begun self.now) }
     {
@@ -111,7 +114,7 @@ impl Evaluation {
         settled.end()
     }
 
-    /// Checks a use of a variable that keeps its value.
+    /// Checks a use of a variable that leaves its value in the variable.
     fn use_variable(&self, waiting: &[usize], variable: Lvalue) -> Result<(), Stop>
         ensures { Leads result self.now (run (used waiting.now (view_lvalue variable) (view_state self.now.state))) self.now.touched.numbers.list
             (begun self.now) }
@@ -124,7 +127,7 @@ impl Evaluation {
         settled.end()
     }
 
-    /// Checks a use of a local's value that leaves the local empty.
+    /// Checks a use that moves the value out of a local and leaves the local empty.
     fn consume(&mut self, waiting: &[usize], span: Span, number: usize) -> Result<(), Stop>
         ensures { Leads result self.new (run (moved waiting.now (place_of_span span) number (view_state self.old.state)))
             (and_local number self.old.touched.numbers.list) (begun self.old) }
@@ -137,7 +140,7 @@ impl Evaluation {
         Ok(())
     }
 
-    /// Checks an assignment to a variable, whose value has this type.
+    /// Checks an assignment of a value of this type to a variable.
     fn assign(
         &mut self,
         waiting: &[usize],
@@ -214,7 +217,7 @@ impl Evaluation {
         }
     }
 
-    /// Checks a place that a pointer leads to.
+    /// Checks the evaluation of a dereference or of another place in memory.
     #[cycle(expression)]
     pub(crate) fn find(
         &mut self,
@@ -236,7 +239,8 @@ impl Evaluation {
         }
     }
 
-    /// Checks the handle of the region in which an object is allocated, if there is one.
+    /// Checks the expression of the region handle with which an object is allocated, if there is
+    /// one.
     #[cycle(expression)]
     fn place(&mut self, alloc: Global, waiting: &[usize], placement: &Placement) -> Result<(), Stop>
         ensures { Leads result self.new (run (rule_placement waiting.now (view_placement placement.now) (view_state self.old.state)))
@@ -249,7 +253,8 @@ impl Evaluation {
         }
     }
 
-    /// Checks the initial contents of a new object. An array may have no elements, and its last element must keep the state at the first.
+    /// Checks the initial contents of a new object. An array may have no elements, and the flow state after its last element must be that
+    /// at the first.
     #[cycle(expression)]
     fn initialise(
         &mut self,
@@ -281,7 +286,7 @@ impl Evaluation {
         }
     }
 
-    /// Checks an expression whose value is converted.
+    /// Checks an expression whose value is then converted.
     #[cycle(expression)]
     pub(crate) fn convert(
         &mut self,
@@ -345,7 +350,7 @@ impl Evaluation {
         }
     }
 
-    /// Checks the rest of a chain.
+    /// Checks the remaining operators of a chain, with their operands.
     #[cycle(expression)]
     #[tactic(auto, using(std::proofs::lemmas::List::drop_more, crate::proofs::Walks::operation_run, crate::proofs::Walks::operation_touched))]
     fn apply_operations(

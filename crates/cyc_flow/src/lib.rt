@@ -1,4 +1,5 @@
-//! The flow check: whether a typed tree satisfies the flow rules, by the state of each local at each program point.
+//! The flow check decides that a typed tree satisfies the flow rules, by computing the state of each local variable
+//! at each program point.
 #![tactic(auto)]
 
 pub use cause::{Cause, Change};

@@ -1,4 +1,4 @@
-//! The numbers of the touched locals, as contracts and proofs see them.
+//! The numbers of the touched locals, in a ghost list that only contracts and proofs read.
 
 ghost use Rattle.std.specs.Prelude.{◌≡◌, ℕ, List, [], ◌++◌};
 ghost use Rattle.std.specs.Borrow.{ftrue};
@@ -6,14 +6,14 @@ ghost use Rattle.cyc_types.specs.flow.Touched.{and_local};
 
 use std::marker::Model;
 
-/// A touch of a local.
+/// A touch of a local: the local is consumed, assigned or locked.
 #[derive(Clone, Copy)]
 pub(crate) struct Touch {
     pub(crate) number: usize,
 }
 
-/// The numbers of touched locals in the order of the walk, with repetitions, which only contracts read. The numbers of touched locals take
-/// no memory, and their functions do nothing at run time.
+/// The numbers of the touched locals, in the order of the traversal and with repetitions. Only contracts read the list of these numbers.
+/// The list of these numbers takes no memory, and its functions do nothing at run time.
 #[derive(Drop)]
 pub(crate) struct Numbers {
     pub(crate) ghost list: { List ℕ },
@@ -24,21 +24,21 @@ impl Model for Numbers {
 }
 
 impl Numbers {
-    /// Returns the empty list of numbers.
+    /// Returns the empty list of touched locals.
     pub(crate) fn none() -> Numbers
         ensures { result.list ≡ [] }
     {
         Numbers {}
     }
 
-    /// Returns the list with one more number.
+    /// Returns the list of touched locals extended by the touched one.
     pub(crate) fn with(_before: &Numbers, _touch: &Touch) -> Numbers
         ensures { result.list ≡ and_local _touch.now.number _before.now.list }
     {
         Numbers {}
     }
 
-    /// Returns the first list followed by the second.
+    /// Returns the concatenation of two lists of touched locals.
     pub(crate) fn joined(_before: &Numbers, _more: &Numbers) -> Numbers
         ensures { result.list ≡ _before.now.list ++ _more.now.list }
     {

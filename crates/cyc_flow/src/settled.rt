@@ -1,5 +1,5 @@
-//! The demands of a construct, checked in order. Of several broken demands, the one with the lowest code is reported, and the first if
-//! several have that code.
+//! The requirements of a construct are checked in order. Of several violated ones, the fault with the lowest code is reported, and the
+//! first if several have that code.
 ghost use Rattle.std.specs.Prelude.{◌≡◌, None};
 ghost use Rattle.cyc_syntax.specs.inside.TreeView.{place_of_span};
 ghost use Rattle.cyc_types.specs.Rules.{demand, noted, settled};
@@ -12,7 +12,7 @@ use cyc_words::{Code, Fault, Span};
 
 #[derive(Clone, Copy)]
 pub(crate) struct Settled {
-    /// The fault so far, if any.
+    /// The fault found so far, if any.
     known: Option<Fault>,
     /// The local that the fault concerns, if any. No rule depends on this local.
     number: usize,
@@ -47,7 +47,7 @@ impl Settled {
         self.number = number;
     }
 
-    /// Demands that the local named here holds a value that is not lent.
+    /// Requires that the local named here holds a value that is not lent.
     pub(crate) fn look(&mut self, state: &State, span: Span, number: usize)
         ensures { self.new.known ≡ settled self.old.known (full_demanded (place_of_span span) number (view_state state.now)) }
     {
@@ -56,7 +56,8 @@ impl Settled {
         self.demand(Code::LockedVariable, span, number, !fullness.is_locked());
     }
 
-    /// Demands that the local named here holds a value that is not lent, and that no peek of it is pending.
+    /// Requires that the local named here holds a value that is not lent, and that no peek of this local is
+    /// in use.
     pub(crate) fn use_local(&mut self, waiting: &[usize], state: &State, span: Span, number: usize)
         ensures { self.new.known ≡ settled self.old.known (use_demanded waiting.now (place_of_span span) number (view_state state.now)) }
     {
@@ -69,7 +70,7 @@ impl Settled {
         );
     }
 
-    /// Demands that the assigned local is not lent, and that no peek of it is pending.
+    /// Requires that the assigned local is not lent, and that no peek of this local is in use.
     pub(crate) fn store_local(
         &mut self,
         waiting: &[usize],
@@ -88,7 +89,7 @@ impl Settled {
         );
     }
 
-    /// Demands that no local is emptier here than at the head of the loop with this keyword.
+    /// Requires that no local is emptier here than at the head of the loop with this keyword.
     pub(crate) fn go_on(&mut self, state: &State, head: &State, span: Span)
         ensures { self.new.known ≡ settled self.old.known (head_demanded (place_of_span span) (view_state state.now) (view_state head.now)) }
     {
@@ -97,7 +98,7 @@ impl Settled {
         self.demand(Code::LoopEmptiesVariable, span, number, kept);
     }
 
-    /// Checks that all demands were satisfied.
+    /// Returns the fault if one of the requirements was violated.
     pub(crate) fn end(&self) -> Result<(), Stop>
         ensures { Ends result self.now.known }
     {

@@ -1,4 +1,4 @@
-//! The state of each local at a program point of a function.
+//! The flow state of a program point of a function: the state of each local.
 ghost use Rattle.std.specs.Prelude.{◌≡◌, IfOk};
 ghost use Rattle.cyc_types.specs.flow.States.{Full, meet, is_at_least, fullness, with_fullness, with_each, emptied, lower, is_as_full, is_vacant};
 ghost use Rattle.cyc_types.specs.flow.States.{is_locked, is_reached};
@@ -9,14 +9,14 @@ use crate::table::Table;
 use crate::touched::Touched;
 use std::alloc::{AllocError, Global};
 
-/// The state of a local, in rising order.
+/// The state of a local. The order of the variants is from empty to full.
 #[derive(Clone, Copy, PartialEq, Eq)]
 pub(crate) enum Fullness {
-    /// The local may be empty.
+    /// The local may be empty, so that it must not be used.
     Vacant,
-    /// The local holds a value that is lent.
+    /// The local holds a value, which is lent out at present.
     Locked,
-    /// The local holds a value.
+    /// The local holds a value, which is not lent out.
     Full,
 }
 
@@ -50,7 +50,7 @@ impl Fullness {
     }
 }
 
-/// The state of a local before a change.
+/// A change of a local, recorded with the local's state before the change.
 #[derive(Clone, Copy)]
 pub(crate) struct Change {
     pub(crate) number: usize,
@@ -61,12 +61,13 @@ pub(crate) struct Change {
 pub(crate) enum State {
     /// The program point is unreachable.
     Unreached,
-    /// The state of each local, by its number.
+    /// The program point is reachable. The table contains the state of each local, indexed by its
+    /// number.
     Reached(Table),
 }
 
 impl State {
-    /// Returns the fullness of a local; in unreachable code each local counts as full.
+    /// Returns the fullness of a local. In unreachable code, each local is taken to be full.
     pub(crate) fn fullness(&self, number: usize) -> Fullness
         ensures { view_fullness result ≡ fullness (view_state self.now) number }
     {
@@ -76,7 +77,8 @@ impl State {
         }
     }
 
-    /// Sets the fullness of one local. At unreachable code no state is kept, so nothing is set.
+    /// Sets the fullness of one local. In unreachable code the call has no effect, since no state
+    /// is stored.
     pub(crate) fn set(&mut self, number: usize, fullness: Fullness)
         ensures { view_state self.new ≡ with_fullness (view_fullness fullness) (view_state self.old) number }
     {
@@ -85,7 +87,7 @@ impl State {
         }
     }
 
-    /// Returns the state in which each of these locals is full.
+    /// Returns the flow state in which each of these locals is full.
     #[tactic(auto, using(crate::proofs::States::each_unreached))]
     pub(crate) fn filled(self, numbers: &[usize]) -> State
         ensures { view_state result ≡ with_each Full numbers.now (view_state self) }
@@ -99,7 +101,7 @@ impl State {
         }
     }
 
-    /// Returns the state in which each of these locals is empty, unless it is lent.
+    /// Returns the flow state in which each of these locals is empty, unless the local is lent.
     #[tactic(auto, using(crate::proofs::States::emptied_unreached))]
     pub(crate) fn emptied(self, touched: &Touched) -> State
         ensures { view_state result ≡ emptied touched.now.numbers.list (view_state self) }
@@ -116,7 +118,7 @@ impl State {
         matches!(self, State::Reached(_))
     }
 
-    /// Returns true if no peek of the local is pending. In unreachable code the function always returns true.
+    /// Returns true if no peek of the local is in use. In unreachable code the function always returns true.
     pub(crate) fn is_free(&self, waiting: &[usize], number: usize) -> bool
         ensures { result ≡ is_free waiting.now number (view_state self.now) }
     {
@@ -126,7 +128,7 @@ impl State {
         }
     }
 
-    /// Returns true if no local is emptier in this state than in the other.
+    /// Returns true if no local is emptier in this flow state than in the other one.
     pub(crate) fn is_at_least(&self, other: &State) -> bool
         ensures { result ≡ is_at_least (view_state self.now) (view_state other.now) }
     {
@@ -137,7 +139,8 @@ impl State {
         }
     }
 
-    /// Returns the first local that is emptier in this state than in the other, or 0 if there is none; only diagnostics use it.
+    /// Returns the first local that is emptier in this flow state than in the other one, or 0 if there is none; only
+    /// diagnostics use it.
     pub(crate) fn first_emptier(&self, other: &State) -> usize {
         let (State::Reached(here), State::Reached(there)) = (self, other) else {
             return 0;
@@ -160,7 +163,7 @@ impl State {
     }
 }
 
-/// Returns the state at the join of two branches.
+/// Returns the flow state at the join of two branches.
 pub(crate) fn meet(one: State, other: State) -> State
     ensures { view_state result ≡ meet (view_state one) (view_state other) }
 {

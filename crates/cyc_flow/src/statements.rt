@@ -1,4 +1,5 @@
-//! The state after a statement that satisfies the flow rules. Each method takes the state before.
+//! The flow state after a statement that satisfies the flow rules. Each method receives the state
+//! before its statement.
 ghost use Rattle.std.specs.Prelude.{◌≡◌, ◌++◌, [], IfOk, None, Ok, option_map};
 ghost use Rattle.cyc_syntax.specs.inside.TreeView.{place_of_span};
 ghost use Rattle.cyc_types.specs.Rules.{and_then, settled, run};
@@ -28,7 +29,7 @@ use std::mem;
 
 // ---- parts of statements
 
-/// Checks an expression that is part of no other expression.
+/// Checks an expression that is not part of another expression.
 fn evaluate(alloc: Global, value: &Expr, tracked: Tracked) -> Result<Tracked, Stop>
     ensures { Gives result (run (rule [] (view_expression value.now) (view_state tracked.state)))
         (touched (view_expression value.now) tracked.touched.numbers.list) }
@@ -38,7 +39,7 @@ fn evaluate(alloc: Global, value: &Expr, tracked: Tracked) -> Result<Tracked, St
     Ok(evaluation.end())
 }
 
-/// Checks an expression without pending peeks, whose value is converted.
+/// Checks an expression whose value is converted, while no peek is in use.
 fn convert(alloc: Global, value: &Converted, tracked: Tracked) -> Result<Tracked, Stop>
     ensures { Gives result (run (rule_converted [] (view_converted value.now) (view_state tracked.state)))
         (touched_converted (view_converted value.now) tracked.touched.numbers.list) }
@@ -93,7 +94,7 @@ fn declare(
     }
 }
 
-/// Returns the state after a statement that never ends.
+/// Returns the flow state after a statement that never ends: unreachable.
 fn left(tracked: Tracked) -> Tracked
     ensures state { view_state result.state ≡ Unreached }
     ensures touched { result.touched.numbers.list ≡ tracked.touched.numbers.list }
@@ -106,7 +107,7 @@ fn left(tracked: Tracked) -> Tracked
 
 // ---- swaps
 
-/// Returns the local whose peek the left side of a swap is reached through, if any.
+/// Returns the local whose peek yields the pointer that a side of a swap dereferences, if any.
 fn peeked_side(side: &Side) -> Option<usize>
     ensures { result ≡ peeked_side (view_side side.now) }
 {
@@ -116,7 +117,7 @@ fn peeked_side(side: &Side) -> Option<usize>
     }
 }
 
-/// Checks a side of a swap, as a place.
+/// Checks the evaluation of one side of a swap, as an assignable expression.
 fn find_side(
     alloc: Global,
     waiting: &[usize],
@@ -136,7 +137,7 @@ fn find_side(
     }
 }
 
-/// Checks the use of a side that is a variable, after both places were evaluated.
+/// Requires that a side of a swap that is a variable may be used, after both sides were evaluated.
 fn use_side(asked: &mut Settled, waiting: &[usize], side: &Side, state: &State)
     ensures { asked.new.known ≡ settled asked.old.known (side_demanded waiting.now (view_side side.now) (view_state state.now)) }
 {
@@ -165,14 +166,14 @@ fn swap(alloc: Global, left: &Side, right: &Side, tracked: Tracked) -> Result<Tr
 
 // ---- statements
 
-/// The enclosing loop: the place of the loop's `while`, and the state at the loop's head.
+/// The enclosing loop: the source position of its `while`, and the flow state at the loop's head.
 #[derive(Drop)]
 pub(crate) struct Loop {
     span: Span,
     head: State,
 }
 
-/// The walk through the statements of a function.
+/// The data of the traversal of a function's statements.
 #[derive(Drop)]
 pub(crate) struct Walk {
     alloc: Global,
@@ -194,7 +195,8 @@ impl Walk {
         }
     }
 
-    /// Checks a `break`, which leaves the enclosing loop.
+    /// Checks a `break`, which leaves the enclosing loop, and adds its flow state to those at the
+    /// loop's breaks.
     fn break_loop(&mut self, tracked: Tracked) -> Tracked
         ensures state { view_state result.state ≡ Unreached }
         ensures touched { result.touched.numbers.list ≡ tracked.touched.numbers.list }
@@ -222,7 +224,8 @@ impl Walk {
         check_head(&at_exit, &around.head, around.span)
     }
 
-    /// Checks an item that declares one local and locks another, named here, to the end of the block.
+    /// Checks an item that declares one local and locks another one, named here, until the end of the
+    /// block.
     fn lock(
         &mut self,
         number: usize,
@@ -245,7 +248,7 @@ impl Walk {
         Ok(following)
     }
 
-    /// Checks a statement, given the enclosing loop, if any.
+    /// Checks a statement. The argument `around` is the enclosing loop, if any.
     #[cycle(statement)]
     fn check_statement(
         &mut self,
@@ -320,7 +323,7 @@ impl Walk {
         }
     }
 
-    /// Checks a loop with its `while` at this place.
+    /// Checks a loop whose `while` is at this source position.
     #[cycle(statement)]
     fn check_loop(
         &mut self,
@@ -353,7 +356,7 @@ impl Walk {
         })
     }
 
-    /// Checks the clauses of a catch, each of which begins with the given state.
+    /// Checks the clauses of a `catch`, each of which begins with the same flow state.
     #[cycle(statement)]
     fn check_clauses(
         &mut self,
@@ -374,7 +377,8 @@ impl Walk {
         Ok(following)
     }
 
-    /// Checks a clause that begins with this state; its int, if it has one, is stored in a local.
+    /// Checks a catch clause that begins with this flow state. The int of the exception, if it has
+    /// one, is stored in a local.
     #[cycle(statement)]
     fn check_clause(
         &mut self,
@@ -405,7 +409,8 @@ impl Walk {
         })
     }
 
-    /// Checks a block. At its end, the locals that its items have locked are full again.
+    /// Checks a block. At the end of the block, the locals that its items have locked are full
+    /// again.
     #[cycle(statement)]
     fn check_block(
         &mut self,
@@ -428,7 +433,7 @@ impl Walk {
         })
     }
 
-    /// Checks the items of a block; the locals that they lock stay locked.
+    /// Checks the items of a block. The locals that the items lock stay locked.
     #[cycle(statement)]
     #[tactic(auto, using(std::proofs::lemmas::List::drop_more, std::proofs::lemmas::List::append_assoc))]
     pub(crate) fn check_items(

@@ -1,4 +1,4 @@
-//! The reasons why a check stops.
+//! The reasons for which the flow check stops.
 ghost use Rattle.std.specs.Prelude.{◌≡◌};
 ghost use Rattle.cyc_flow.specs.declared.stop.Stop.TheVariants.{Memory, Refused};
 ghost use Rattle.cyc_flow.specs.inside.Code.{fault_of};
@@ -10,7 +10,7 @@ use std::alloc::{AllocError, AllocFailed};
 pub(crate) enum Stop {
     /// An allocation failed.
     Memory,
-    /// A broken rule, with the number of the local that it concerns, if any.
+    /// A violated flow rule, with the number of the local that it concerns, if any.
     Refused { fault: Fault, number: usize },
 }
 

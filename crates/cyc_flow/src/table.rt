@@ -1,4 +1,5 @@
-//! The state of each local of a function, as bits of words: a join of two branches processes 64 locals at once.
+//! The flow state of each local of a function, as bits of words, so that the join of two branches processes 64
+//! locals at once.
 ghost use Rattle.std.specs.Prelude.{◌≡◌, ◌≢◌, ◌<◌, ◌≤◌, ◌++◌, IfOk, ℕ, List, true, length, replicate, drop, get_or, slice_set};
 ghost use Rattle.std.specs.Int.{bit_at};
 ghost use Rattle.cyc_types.specs.flow.States.{Vacant, Full, Reached, lower_each, are_as_full, with_each, emptied};
@@ -10,8 +11,8 @@ ghost use Rattle.cyc_flow.specs.inside.Tables.{marked, marks_at, table_length, v
 use crate::state::Fullness;
 use std::alloc::{AllocError, Global};
 
-/// The states of 64 locals. For each, one bit states that it holds a value, and another that the value is not lent. The bit for lending is
-/// meaningless for an empty local.
+/// The flow states of 64 locals. For each local, one bit says that it holds a value, and another that the value is not lent. For an empty
+/// local, the second bit is meaningless.
 #[derive(Clone, Copy)]
 struct Marks {
     held: u64,
@@ -65,14 +66,15 @@ impl Marks {
         }
     }
 
-    /// Returns the bits that are set in the other marks but not in these.
+    /// Returns the bits that are set in the marks `other` but not in these marks. Marks contain two
+    /// bits for each of 64 locals.
     fn missing(self, other: Marks) -> u64
         ensures { result ≡ missing self other }
     {
         (self.held & other.held ^ other.held) | (self.free & other.free ^ other.free)
     }
 
-    /// Empties each local with a set bit in this word, unless it is lent.
+    /// Empties each local whose bit is set in this word, unless the local is lent.
     fn emptied(self, word: u64) -> Marks
         ensures { result ≡ emptied_marks self word }
     {
@@ -83,17 +85,17 @@ impl Marks {
     }
 }
 
-/// The state of each local, by its number.
+/// The flow state of each local, indexed by its number.
 #[derive(Drop)]
 pub(crate) struct Table {
-    /// The number of locals, if every local has marks.
+    /// The number of locals, provided that every local has bits in `marks`.
     count: usize,
-    /// The marks of the first 64 locals, of the next 64, and so on.
+    /// The bits of the first 64 locals, then those of the next 64, and so on.
     marks: Vec<Marks>,
 }
 
 impl Table {
-    /// Returns a table in which each of this many locals is empty.
+    /// Returns a table of `count` locals, all of them empty.
     pub(crate) fn new(alloc: Global, count: usize) -> Result<Table, AllocError>
         ensures { IfOk result (λ t. view_table t ≡ replicate count Vacant) }
     {
@@ -104,7 +106,7 @@ impl Table {
         })
     }
 
-    /// Returns the number of locals.
+    /// Returns the number of locals in the table.
     pub(crate) fn len(&self) -> usize
         ensures { result ≡ table_length self.now }
     {
@@ -126,7 +128,7 @@ impl Table {
         }
     }
 
-    /// Sets the fullness of one local.
+    /// Sets the fullness of one local in the table.
     pub(crate) fn set(&mut self, number: usize, fullness: Fullness)
         ensures { view_table self.new ≡ slice_set (view_table self.old) number (view_fullness fullness) }
     {
@@ -136,7 +138,7 @@ impl Table {
         }
     }
 
-    /// Marks each of these locals as full.
+    /// Sets the state of each of these locals to full.
     #[tactic(auto, using(std::proofs::lemmas::List::drop_more))]
     pub(crate) fn fill_each(&mut self, numbers: &[usize])
         ensures { Reached (view_table self.new) ≡ with_each Full numbers.now (Reached (view_table self.old)) }
@@ -146,7 +148,7 @@ impl Table {
         }
     }
 
-    /// Marks this many of the first locals as full.
+    /// Sets the states of the first `count` locals to full.
     pub(crate) fn fill(&mut self, count: usize)
         requires { count ≤ table_length self.old }
         ensures { view_table self.new ≡ replicate count Full ++ drop count (view_table self.old) }
@@ -165,7 +167,7 @@ impl Table {
         })
     }
 
-    /// Returns the meet of two tables, up to the shorter length.
+    /// Returns the meet of two tables of local states, up to the length of the shorter one.
     pub(crate) fn lower(mut self, other: &Table) -> Table
         ensures { view_table result ≡ lower_each (view_table self) (view_table other.now) }
     {
@@ -174,7 +176,7 @@ impl Table {
         self
     }
 
-    /// Empties each local with a set bit in these words, unless it is lent.
+    /// Empties each local whose bit is set in these words, unless the local is lent.
     pub(crate) fn emptied(mut self, words: &[u64]) -> Table
         ensures { (ns : List ℕ) → Stand words.now ns → Reached (view_table result) ≡ emptied ns (Reached (view_table self)) }
     {
@@ -182,8 +184,8 @@ impl Table {
         self
     }
 
-    /// Returns true if no local is emptier in this table than in the other. If a bit is missing, the locals are compared one by one; this
-    /// happens at most once, since it is then a fault.
+    /// Returns true if no local is emptier in this table than in the other one. If a bit is missing, the locals are compared one by one.
+    /// The comparison one by one happens at most once in a check, since a missing bit is then a fault.
     pub(crate) fn is_as_full(&self, other: &Table) -> bool
         ensures { result ≡ are_as_full (view_table self.now) (view_table other.now) }
     {
@@ -193,7 +195,7 @@ impl Table {
         cover_each(&self.marks, &other.marks) || self.are_as_full(other)
     }
 
-    /// Compares the two tables local by local.
+    /// Compares the two tables of local states, one local after the other.
     fn are_as_full(&self, other: &Table) -> bool
         requires { table_length self.now ≡ table_length other.now }
         ensures { result ≡ are_as_full (view_table self.now) (view_table other.now) }
@@ -207,7 +209,8 @@ impl Table {
     }
 }
 
-/// Returns the bits that are set in both, up to the shorter length.
+/// Returns the bits that are set in both lists of local states, up to the length of the shorter
+/// list.
 fn meet_each(mut one: Vec<Marks>, other: &[Marks]) -> Vec<Marks>
     ensures { result.items ≡ met_each one.items other.now }
 {
@@ -219,7 +222,7 @@ fn meet_each(mut one: Vec<Marks>, other: &[Marks]) -> Vec<Marks>
     one
 }
 
-/// Empties each local with a set bit in these words, unless it is lent.
+/// Empties each local whose bit is set in these words, unless the local is lent.
 #[tactic(auto, using(crate::proofs::Sets::changed_more))]
 fn empty_each(mut marks: Vec<Marks>, words: &[u64]) -> Vec<Marks>
     ensures { result.items ≡ with_words emptied_marks marks.items words.now }
@@ -231,7 +234,8 @@ fn empty_each(mut marks: Vec<Marks>, words: &[u64]) -> Vec<Marks>
     marks
 }
 
-/// Returns true if no bit of the other is missing here. All words are compared without an early exit, so that the loop can be vectorized.
+/// Returns true if each bit set in `other` is set in `one`. All words are compared without an early exit, so that the loop can be
+/// vectorized.
 #[tactic(auto, using(crate::proofs::Tables::lacks_none))]
 fn cover_each(one: &[Marks], other: &[Marks]) -> bool
     ensures { result ≡ true → (p : ℕ) → p < length one.now → p < length other.now → Covers (marks_at one.now p) (marks_at other.now p) }

@@ -1,4 +1,4 @@
-//! The touched locals, as a set: each local is visited once, and 64 at a time.
+//! The set of touched locals. Each local is visited once, and 64 locals at a time.
 ghost use Rattle.std.specs.Prelude.{◌≡◌, ◌==◌, ◌||◌, ℕ, [], ◌++◌, IfOk, bit_or};
 ghost use Rattle.cyc_types.specs.flow.Touched.{and_local};
 ghost use Rattle.cyc_flow.specs.inside.Numbers.{has_number, with_words, Stand};
@@ -8,16 +8,18 @@ use crate::table::with_bit;
 use std::alloc::{AllocError, Global};
 use std::mem;
 
-/// The locals (unique pointers and keys) that were consumed, assigned or locked.
+/// The locals (unique pointers and keys) that were consumed, assigned or locked in a part of a
+/// function.
 #[derive(Drop)]
 pub(crate) struct Touched {
-    /// One bit for each local, 64 in a word. A local beyond the words was not touched.
+    /// One bit for each local, 64 in a word, which is set if the local was touched. Locals beyond
+    /// the last word were not touched.
     words: Vec<u64>,
     pub(crate) numbers: Numbers,
     ghost stand: { Stand words.items numbers.list },
 }
 
-/// Adds this number to the set.
+/// Adds the number of a local to the set.
 fn insert(words: &mut Vec<u64>, number: usize) -> Result<(), AllocError>
     ensures { IfOk result (λ _. (n : ℕ) → has_number words.new.items n ≡ ((n == number) || has_number words.old.items n)) }
 {
@@ -29,7 +31,7 @@ fn insert(words: &mut Vec<u64>, number: usize) -> Result<(), AllocError>
     Ok(())
 }
 
-/// Returns the bits that are set in either, up to the length of the first.
+/// Returns the bits that are set in either list of words, up to the length of the first list.
 #[tactic(auto, using(crate::proofs::Sets::changed_more))]
 fn either_each(mut one: Vec<u64>, other: &[u64]) -> Vec<u64>
     ensures { result.items ≡ with_words bit_or one.items other.now }
@@ -41,7 +43,7 @@ fn either_each(mut one: Vec<u64>, other: &[u64]) -> Vec<u64>
     one
 }
 
-/// Returns the union of two sets.
+/// Returns the union of two sets of locals.
 fn united(one: Vec<u64>, other: Vec<u64>) -> Vec<u64>
     ensures { (n : ℕ) → has_number result.items n ≡ (has_number one.items n || has_number other.items n) }
 {
@@ -63,14 +65,14 @@ impl Touched {
         }
     }
 
-    /// Returns the words of the set, with 64 locals in each.
+    /// Returns the words that represent the set, with 64 locals in each word.
     pub(crate) fn words(&self) -> &[u64]
         ensures { Stand result.now self.now.numbers.list }
     {
         &self.words
     }
 
-    /// Adds one more number.
+    /// Adds the number of one more touched local to the set.
     pub(crate) fn add(&mut self, number: usize) -> Result<(), AllocError>
         ensures { IfOk result (λ _. self.new.numbers.list ≡ and_local number self.old.numbers.list) }
     {
@@ -84,7 +86,8 @@ impl Touched {
         Ok(())
     }
 
-    /// Returns the union; its number list is the first followed by the second.
+    /// Returns the union of two sets of touched locals, whose list of numbers is the first set's
+    /// list followed by the second's.
     pub(crate) fn joined(self, more: Touched) -> Touched
         ensures { result.numbers.list ≡ self.numbers.list ++ more.numbers.list }
     {

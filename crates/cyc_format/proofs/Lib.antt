@@ -1,3 +1,3 @@
--- lemmas for the results of `format` and of the comparison
+-- lemmas about the results of `format` and of the comparison of tokens
 pub mod SameTokens
 pub mod Answering

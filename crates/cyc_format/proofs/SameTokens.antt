@@ -1,4 +1,4 @@
--- Tokens with equal spellings are equal, except for their positions.
+-- If two tokens have equal spellings, they are equal, except for their positions.
 use Rattle.std.proofs.Common.{◌≡◌, ◌∙◌, ◌<◌, ◌+◌, ℕ, List, [], ◌∷◌, ◌++◌, take, drop, get_or, map, length, refl, sym, ap, subst}
 use Rattle.std.specs.Prelude.{All}
 use Rattle.std.proofs.lemmas.List.{take_more, map-append}
@@ -10,12 +10,12 @@ use Rattle.cyc_syntax.specs.TokenRule.{LiesIn}
 use Rattle.cyc_syntax.proofs.PieceLemmas.{one_piece}
 use Rattle.cyc_format.specs.Formatted.{kinds_of}
 
--- The kind of a token, among the pieces of a text.
+-- Returns the kind of a piece that is a token, otherwise the default.
 kind_in : Kind → Piece → Kind
 kind_in other (Lexeme k) = k
 kind_in other _ = other
 
--- Bytes are the spelling of at most one kind.
+-- Bytes spell tokens of at most one kind.
 one_kind : (k m : Kind) (bytes : List ℕ) → SpellsToken k bytes → SpellsToken m bytes → k ≡ m
 unfolding kind_in
 one_kind k m bytes first second = ap (kind_in k) (one_piece (Lexeme k) (Lexeme m) bytes first second)
@@ -31,7 +31,7 @@ module _ (text other : List ℕ) where
       one_kind (kind_of (spelling_of other u) u.kind) (kind_of (spelling_of text t) t.kind) (spelling_of other u) also.spelled
       (subst (SpellsToken (kind_of (spelling_of text t) t.kind)) alike lies.spelled)
 
-  -- Tokens with equal spellings, each in its text, have equal kinds.
+  -- If the tokens of two texts have equal spellings, they have equal kinds.
   pub same_kinds : (ts us : List CodeToken) → All (LiesIn text) ts → All (LiesIn other) us → map (spelling_of text) ts ≡ map (spelling_of other) us
       → kinds_of (map (token_of other) us) ≡ kinds_of (map (token_of text) ts)
   unfolding head_or
@@ -43,7 +43,8 @@ module _ (text other : List ℕ) where
       let rest = same_kinds ts us (All-tail (LiesIn text) t ts lie) (All-tail (LiesIn other) u us also) (ap (drop 1) alike) in
       ap (λ (k : Kind). k ∷ kinds_of (map (token_of other) us)) here ∙ ap (λ (ks : List Kind). kind_of (spelling_of text t) t.kind ∷ ks) rest
 
--- If the next tokens have equal spellings, so have the lists of tokens up to the next ones.
+-- If the next tokens of two texts have equal spellings, the lists of tokens that are extended by
+-- them have equal spellings too.
 pub one_token_more : (text other : List ℕ) (ts us : List CodeToken) (i : ℕ) (d e : CodeToken) → i < length ts → i < length us
     → map (spelling_of text) (take i ts) ≡ map (spelling_of other) (take i us)
     → spelling_of text (get_or ts i d) ≡ spelling_of other (get_or us i e)

@@ -1,2 +1,2 @@
--- the definition that the contract of `format` rests on
+-- the definition on which the contract of `format` depends
 pub mod Formatted

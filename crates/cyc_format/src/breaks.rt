@@ -1,4 +1,4 @@
-//! Decides where lines end.
+//! Decides where the lines of the formatted text end.
 use crate::frames::{Frame, FrameKind};
 use crate::layout::{At, Layout};
 use crate::roles::{
@@ -7,10 +7,10 @@ use crate::roles::{
 };
 use cyc_syntax::{Keyword, Sign, TokenKind};
 
-/// A line of at least this many bytes receives no further call.
+/// The formatter adds no further call to a line of at least this many bytes.
 const WIDE: usize = 80;
 
-/// The kind of the gap between two tokens, without comments.
+/// The kind of the gap between two tokens, apart from comments.
 #[derive(Clone, Copy, Debug, PartialEq, Eq)]
 pub(crate) enum BreakKind {
     Nothing,
@@ -18,13 +18,13 @@ pub(crate) enum BreakKind {
     Line,
 }
 
-/// The gap between two tokens.
+/// The gap that the formatter writes between two tokens.
 #[derive(Clone, Copy)]
 pub(crate) struct Break {
     pub(crate) kind: BreakKind,
-    /// The level of the next line, even if a comment begins that line.
+    /// The indentation level of the next line, even if a comment begins that line.
     pub(crate) level: usize,
-    /// The level of comments on lines of their own.
+    /// The indentation level of comments on lines of their own.
     pub(crate) comment_level: usize,
 }
 
@@ -37,7 +37,7 @@ impl Break {
         }
     }
 
-    /// Returns a gap that ends the line.
+    /// Returns a gap that ends the line, with the indentation level of the next line.
     pub(crate) fn line(level: usize) -> Break {
         Break::new(BreakKind::Line, level)
     }
@@ -54,7 +54,7 @@ impl Break {
 impl<'t> Layout<'t> {
     // ---- constructs that the next token closes
 
-    /// Closes the constructs that the token of this number shows to be complete.
+    /// Closes the open constructs that the token with this number shows to be complete.
     pub(crate) fn resolve(&mut self, number: usize) {
         let kind = self.kind(number);
         if self.frames.ends_with(FrameKind::Regions)
@@ -103,7 +103,8 @@ impl<'t> Layout<'t> {
         self.role = Role::End;
     }
 
-    /// Returns true if a line ends between two operands, which shows that a semicolon is missing.
+    /// Returns true if the text has a line end between two operands, which shows that a semicolon
+    /// is missing.
     fn misses_end(&self, number: usize, kind: Option<TokenKind>) -> bool {
         let is_begun = matches!(
             kind,
@@ -115,7 +116,7 @@ impl<'t> Layout<'t> {
 
     // ---- the gap before a token
 
-    /// Returns the gap before the token of this number.
+    /// Returns the gap before the token with this number.
     pub(crate) fn break_before(&mut self, number: usize) -> Break {
         match self.at {
             At::Statement => self.break_before_statement(number),
@@ -131,7 +132,7 @@ impl<'t> Layout<'t> {
         }
     }
 
-    /// Returns the gap between a condition and the statement that it controls.
+    /// Returns the gap between a condition and the statement that the condition controls.
     fn break_before_nested(&mut self, number: usize) -> Break {
         let kind = self.kind(number);
         let (level, is_else) = match self.frames.last() {
@@ -175,7 +176,7 @@ impl<'t> Layout<'t> {
         }
     }
 
-    /// Returns the gap before the brace that ends a body.
+    /// Returns the gap before the closing brace of a body.
     fn break_before_end(&self, frame: &Frame) -> Break {
         let kind = if frame.is_one_line {
             BreakKind::Space
@@ -205,7 +206,7 @@ impl<'t> Layout<'t> {
         }
     }
 
-    /// Returns the gap between two statements. A call stays on the line of the previous call.
+    /// Returns the gap between two statements. A call may stay on the line of the call before it.
     fn break_after_statement(&self, number: usize, level: usize) -> Break {
         if self.statement.is_call
             && !self.gap.has_line_end
@@ -219,7 +220,7 @@ impl<'t> Layout<'t> {
         }
     }
 
-    /// Returns true if the statement that begins with the token of this number is only a call.
+    /// Returns true if the statement that begins with the token with this number is only a call.
     pub(crate) fn is_call(&self, number: usize) -> bool {
         let open = number.saturating_add(1);
         if !is_name(self.kind(number)) || !is_sign(self.kind(open), Sign::LeftParen) {
@@ -242,7 +243,7 @@ impl<'t> Layout<'t> {
         false
     }
 
-    /// Returns true if the line may end within a statement before the token of this number: after a comma, beside an operator, or after an
+    /// Returns true if a line may end within a statement before the token with this number: after a comma, beside an operator, or after an
     /// opening bracket.
     fn may_end_line(&self, number: usize) -> bool {
         let kind = self.kind(number);
@@ -257,7 +258,7 @@ impl<'t> Layout<'t> {
 
     // ---- comments
 
-    /// Writes the comments of the gap before a token, and the space between them.
+    /// Writes the comments in the gap before a token, and the spaces between them.
     pub(crate) fn put_gap(&mut self, found: &Break, next: Option<TokenKind>) {
         let text = self.text;
         let is_statement = self.at == At::Statement;
@@ -299,7 +300,7 @@ impl<'t> Layout<'t> {
         }
     }
 
-    /// Returns true if a line ends just before the next token, after the last comment of the gap.
+    /// Returns true if a line ends just before the next token, after the last comment in the gap.
     fn ends_line(&self, found: &Break, is_own_line: bool, is_line_comment: bool) -> bool {
         if is_line_comment {
             return true;

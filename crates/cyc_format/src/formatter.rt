@@ -1,4 +1,4 @@
-//! Formats a text, or leaves it unchanged if memory runs out.
+//! Formats a text. If memory runs out, the text stays unchanged.
 ghost use Rattle.cyc_words.specs.Decision.{Decides};
 ghost use Rattle.cyc_lex.specs.Refusals.{IsAccepted, IsRefused};
 ghost use Rattle.cyc_format.specs.Formatted.{HasSameTokens};
@@ -10,11 +10,11 @@ use cyc_syntax::Token;
 use cyc_words::{Code, Fault};
 use std::alloc::Global;
 
-/// The most rounds of formatting to find a layout that formatting leaves unchanged.
+/// The most rounds of formatting in the search for a layout that formatting leaves unchanged.
 const MOST_ROUNDS: usize = 4;
 
-/// Returns a layout of a text with these tokens that formatting leaves unchanged, or the text if none is found; `None` if memory runs out.
-/// For a valid program the first layout is a correct result.
+/// Returns a layout of a text with these tokens that formatting leaves unchanged, or the text itself if none is found. Returns `None` if
+/// memory runs out. For a valid program the first layout is a correct result.
 fn lay_out_settled(alloc: Global, text: &[u8], tokens: &[Token]) -> Option<Vec<u8>> {
     let mut laid = lay_out(alloc, text, tokens)?;
     for _ in 0..MOST_ROUNDS {
@@ -31,10 +31,11 @@ fn lay_out_settled(alloc: Global, text: &[u8], tokens: &[Token]) -> Option<Vec<u
     Vec::from_slice(alloc, text).ok()
 }
 
-/// Formats a text. The result has the tokens of the text; if it would not, or would exceed the size limit of texts, the text is returned
-/// unchanged.
+/// Formats a text. The result has the tokens of the text. If the layout had other tokens or exceeded the size limit of texts, the text
+/// is returned unchanged.
 ///
-/// A text without tokens is rejected as `lex` rejects it. Lack of memory is another error.
+/// If a text has no list of tokens, `format` returns the fault that `lex` returns. The only other
+/// error is lack of memory.
 pub fn format(alloc: Global, text: &[u8]) -> Result<Vec<u8>, Fault>
     ensures { Decides (IsAccepted text.now) (λ tokens answer. HasSameTokens tokens answer.items) (IsRefused text.now) (IsRefused text.now) result }
 {

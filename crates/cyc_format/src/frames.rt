@@ -5,16 +5,16 @@ use std::alloc::Global;
 #[derive(Clone, Copy, Debug, PartialEq, Eq)]
 pub(crate) enum FrameKind {
     Parenthesis,
-    /// The condition of an `if`.
+    /// The condition of an `if`, whose statement has not begun.
     IfHead,
-    /// The condition of a `while`.
+    /// The condition of a `while`, whose statement has not begun.
     WhileHead,
-    /// The handle of an `rnew`.
+    /// The region handle of an `rnew`.
     Handle,
     Bracket,
-    /// Regions between `<` and `>`.
+    /// A list of regions between `<` and `>`.
     Regions,
-    /// Braces around values, regions or a key.
+    /// The braces around values, regions or a key.
     Values,
     /// The braces of a block.
     Block,
@@ -22,9 +22,9 @@ pub(crate) enum FrameKind {
     Fields,
     /// The braces of a list of exceptions.
     Exceptions,
-    /// The braces after `catch`.
+    /// The braces around the clauses of a `catch`.
     Clauses,
-    /// The statements after a `case`.
+    /// The statements of a clause, after its `case`.
     Clause,
     If,
     Else,
@@ -32,15 +32,15 @@ pub(crate) enum FrameKind {
     Try,
 }
 
-/// An open construct, and the levels of its lines.
+/// An open construct, and the indentation levels of its lines.
 #[derive(Clone, Copy)]
 pub(crate) struct Frame {
     pub(crate) kind: FrameKind,
-    /// The level of the statement in which the construct was opened.
+    /// The indentation level of the statement in which the construct was opened.
     pub(crate) outside: usize,
     /// True if the whole construct is on the line on which it was opened.
     pub(crate) is_one_line: bool,
-    /// True if the controlled statement is on a line of its own.
+    /// True if the statement that the construct controls is on a line of its own.
     pub(crate) is_broken: bool,
 }
 
@@ -52,7 +52,7 @@ impl FrameKind {
         )
     }
 
-    /// Returns true if the construct is within a statement.
+    /// Returns true if a construct of this kind is part of a statement, such as a bracket.
     pub(crate) fn is_within(self) -> bool {
         self.is_parenthesis()
             || matches!(
@@ -61,7 +61,7 @@ impl FrameKind {
             )
     }
 
-    /// Returns true if the construct is a condition that controls a statement.
+    /// Returns true if a construct of this kind is a condition that controls a statement.
     pub(crate) fn is_head(self) -> bool {
         matches!(
             self,
@@ -69,7 +69,7 @@ impl FrameKind {
         )
     }
 
-    /// Returns true if the construct contains statements, fields or clauses.
+    /// Returns true if a construct of this kind contains statements, fields or clauses.
     pub(crate) fn is_body(self) -> bool {
         matches!(
             self,
@@ -77,7 +77,7 @@ impl FrameKind {
         )
     }
 
-    /// Returns true if the construct is closed by `}`.
+    /// Returns true if a construct of this kind is closed by `}`.
     pub(crate) fn is_braced(self) -> bool {
         self.is_body() || self == FrameKind::Values
     }
@@ -93,7 +93,7 @@ impl Frame {
         }
     }
 
-    /// Returns the level of the lines in the construct.
+    /// Returns the indentation level of the lines in the construct.
     pub(crate) fn inside(&self) -> usize {
         self.outside.saturating_add(1)
     }
@@ -103,7 +103,7 @@ impl Frame {
 #[derive(Drop)]
 pub(crate) struct Frames {
     all: Vec<Frame>,
-    /// True if memory did not run out.
+    /// True if memory has not run out, so that all open constructs are listed.
     pub(crate) is_whole: bool,
 }
 
@@ -131,7 +131,7 @@ impl Frames {
         self.all.is_empty()
     }
 
-    /// Returns true if the innermost construct is of the given kind.
+    /// Returns true if the innermost open construct is of this kind.
     pub(crate) fn ends_with(&self, kind: FrameKind) -> bool {
         match self.last() {
             Some(frame) => frame.kind == kind,
@@ -139,7 +139,7 @@ impl Frames {
         }
     }
 
-    /// Returns true if the innermost construct is within a statement.
+    /// Returns true if the innermost open construct is part of a statement, such as a bracket.
     pub(crate) fn is_within(&self) -> bool {
         match self.last() {
             Some(frame) => frame.kind.is_within(),
@@ -147,7 +147,7 @@ impl Frames {
         }
     }
 
-    /// Returns true if the innermost construct is a parenthesis.
+    /// Returns true if the innermost open construct is a parenthesis.
     pub(crate) fn is_parenthesis(&self) -> bool {
         match self.last() {
             Some(frame) => frame.kind.is_parenthesis(),
@@ -155,14 +155,14 @@ impl Frames {
         }
     }
 
-    /// Notes that the statement of the innermost construct is on a line of its own.
+    /// Records that the statement of the innermost construct is on a line of its own.
     pub(crate) fn break_last(&mut self) {
         if let Some(frame) = self.all.last_mut() {
             frame.is_broken = true;
         }
     }
 
-    /// Closes conditions from the innermost on, up to one of this kind.
+    /// Closes open conditions from the innermost on, up to one of this kind.
     pub(crate) fn close_heads(&mut self, kept: Option<FrameKind>) {
         for _ in 0..self.all.len() {
             match self.last() {
@@ -174,7 +174,7 @@ impl Frames {
         }
     }
 
-    /// Closes the constructs within a statement.
+    /// Closes the open constructs that are parts of a statement, such as brackets.
     pub(crate) fn close_within(&mut self) {
         for _ in 0..self.all.len() {
             if !self.is_within() {
@@ -184,7 +184,7 @@ impl Frames {
         }
     }
 
-    /// Closes the constructs within a statement, up to braces around values.
+    /// Closes the open constructs that are parts of a statement, up to braces around values.
     pub(crate) fn close_brackets(&mut self) {
         for _ in 0..self.all.len() {
             if !self.is_within() || self.ends_with(FrameKind::Values) {
@@ -194,7 +194,7 @@ impl Frames {
         }
     }
 
-    /// Closes a parenthesis and everything opened in it, and returns it. Open braces are not closed by a parenthesis.
+    /// Closes a parenthesis and everything opened in it, but no open brace, and returns the parenthesis.
     pub(crate) fn close_parenthesis(&mut self) -> Option<Frame> {
         for _ in 0..self.all.len() {
             match self.last() {
@@ -208,7 +208,7 @@ impl Frames {
         None
     }
 
-    /// Closes a bracket and everything opened in it. Open braces are not closed by a bracket.
+    /// Closes a bracket and everything opened in it, but no open brace.
     pub(crate) fn close_bracket(&mut self) {
         for _ in 0..self.all.len() {
             match self.last() {
@@ -224,7 +224,7 @@ impl Frames {
         }
     }
 
-    /// Closes braces and everything opened in them, and returns them.
+    /// Closes braces and everything opened in them, and returns the braces.
     pub(crate) fn close_braces(&mut self) -> Option<Frame> {
         for _ in 0..self.all.len() {
             match self.all.pop() {

@@ -1,7 +1,7 @@
 //! The gap between two tokens: blanks, line ends and comments.
 use std::alloc::Global;
 
-/// A comment in a gap.
+/// A comment in the gap between two tokens.
 #[derive(Clone, Copy)]
 pub(crate) struct Comment {
     pub(crate) start: usize,
@@ -12,23 +12,23 @@ pub(crate) struct Comment {
     pub(crate) lines: usize,
     /// The number of blanks just before the comment on its line.
     pub(crate) blanks: usize,
-    /// The number of bytes before the comment on its line.
+    /// The number of bytes on the comment's line before the comment.
     pub(crate) column: usize,
 }
 
-/// The gap between two tokens.
+/// The gap between two tokens of the original text.
 #[derive(Drop)]
 pub(crate) struct Gap {
     pub(crate) comments: Vec<Comment>,
-    /// The number of line ends after the last comment, or in the whole gap if there is none.
+    /// The number of line ends after the last comment, or in the whole gap if it has no comment.
     pub(crate) lines: usize,
     /// True if the gap contains a line end outside comments.
     pub(crate) has_line_end: bool,
-    /// True if memory did not run out.
+    /// True if memory has not run out, so that all comments of the gap are listed.
     pub(crate) is_whole: bool,
 }
 
-/// Returns the byte at a position, or 0 past the end.
+/// Returns the byte at a byte offset, or 0 past the end of the text.
 pub(crate) fn byte_at(text: &[u8], place: usize) -> u8 {
     match text.get(place) {
         Some(byte) => *byte,
@@ -36,7 +36,7 @@ pub(crate) fn byte_at(text: &[u8], place: usize) -> u8 {
     }
 }
 
-/// Returns the end of the comment that begins at a position with two slashes.
+/// Returns the end of the line comment that begins at a byte offset.
 fn line_end(text: &[u8], start: usize, end: usize) -> usize {
     for place in start..end {
         if byte_at(text, place) == b'\n' {
@@ -46,7 +46,7 @@ fn line_end(text: &[u8], start: usize, end: usize) -> usize {
     end
 }
 
-/// Returns the end of the comment that begins at a position with a slash and a star.
+/// Returns the end of the block comment that begins at a byte offset.
 fn block_end(text: &[u8], start: usize, end: usize) -> usize {
     for place in start.saturating_add(3)..end {
         if byte_at(text, place) == b'/' && byte_at(text, place.saturating_sub(1)) == b'*' {
@@ -56,7 +56,7 @@ fn block_end(text: &[u8], start: usize, end: usize) -> usize {
     end
 }
 
-/// Returns the column after some bytes that begin at this column.
+/// Returns the column after some bytes, the first of which is at this column.
 fn column_after(column: usize, bytes: &[u8]) -> usize {
     let mut column = column;
     for byte in bytes {
@@ -79,7 +79,7 @@ impl Gap {
         }
     }
 
-    /// Reads the gap in these bytes, which begin at this column.
+    /// Reads the gap that these bytes form, the first of which is at this column.
     pub(crate) fn read(&mut self, text: &[u8], start: usize, end: usize, column: usize) {
         self.comments.clear();
         self.lines = 0;
@@ -103,7 +103,7 @@ impl Gap {
         }
     }
 
-    /// Consumes the blank, line end or comment at a position, and returns its end.
+    /// Reads the blank, line end or comment at a byte offset, and returns the offset after it.
     fn take(
         &mut self,
         text: &[u8],

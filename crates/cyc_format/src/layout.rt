@@ -1,4 +1,5 @@
-//! Lays out a text: before each token it decides between a line end, a space and nothing.
+//! Lays out a text: before each token, the formatter decides between a line end, a space and
+//! nothing.
 use crate::breaks::Break;
 use crate::frames::Frames;
 use crate::gap::Gap;
@@ -7,29 +8,30 @@ use crate::sheet::Sheet;
 use cyc_syntax::{Token, TokenKind};
 use std::alloc::Global;
 
-/// The position of the next token in the program.
+/// The position of the next token relative to statements.
 #[derive(Clone, Copy, Debug, PartialEq, Eq)]
 pub(crate) enum At {
-    /// At the beginning of a statement, an item or a declaration, or at the end of a body.
+    /// The next token is at the beginning of a statement, an item or a declaration, or at the end
+    /// of a body.
     Statement,
-    /// After a condition, before the statement that it controls.
+    /// The next token is after a condition, before the statement that the condition controls.
     Nested,
-    /// The state within a statement.
+    /// The next token is within a statement.
     Within,
 }
 
-/// The state of the current statement.
+/// The formatter's state of the current statement.
 #[derive(Clone, Copy)]
 pub(crate) struct Statement {
     /// The indentation level of the statement's first line.
     pub(crate) level: usize,
-    /// True if the statement consists so far of `struct`, a name and regions.
+    /// True if the statement so far consists of `struct`, a name and regions.
     pub(crate) is_struct: bool,
     /// True if the statement began with `case` or `default`.
     pub(crate) is_case: bool,
-    /// True if the statement is only a call.
+    /// True if the statement consists of a single call.
     pub(crate) is_call: bool,
-    /// True if the statement had a body of several lines and continues after it.
+    /// True if the statement has had a body of several lines and continues after this body.
     pub(crate) is_large: bool,
 }
 
@@ -47,9 +49,9 @@ pub(crate) struct Layout<'t> {
     pub(crate) is_operand: bool,
     /// True if the last token closes the handle of an `rnew`.
     pub(crate) is_handle: bool,
-    /// True if the statement is in braces that are on one line.
+    /// True if the statement is between braces that are on one line.
     pub(crate) is_one_line: bool,
-    /// True if an empty line must precede the next one.
+    /// True if an empty line must precede the next statement.
     pub(crate) is_apart: bool,
 }
 
@@ -77,17 +79,17 @@ impl<'t> Layout<'t> {
         }
     }
 
-    /// Returns the kind of the token of this number.
+    /// Returns the kind of the token with this number.
     pub(crate) fn kind(&self, number: usize) -> Option<TokenKind> {
         self.tokens.get(number).map(|token| token.kind)
     }
 
-    /// Returns the kind of the token `distance` before the one of this number.
+    /// Returns the kind of the token that is `distance` tokens before the one with this number.
     pub(crate) fn kind_before(&self, number: usize, distance: usize) -> Option<TokenKind> {
         self.kind(number.checked_sub(distance)?)
     }
 
-    /// Reads the gap before the token of this number.
+    /// Reads the gap before the token with this number.
     fn read_gap(&mut self, number: usize) {
         let (text, tokens) = (self.text, self.tokens);
         let end = match tokens.get(number) {
@@ -107,7 +109,7 @@ impl<'t> Layout<'t> {
         self.gap.read(text, start, end, column);
     }
 
-    /// Writes the token of this number.
+    /// Writes the token with this number and the gap before it.
     fn lay(&mut self, number: usize, token: Token) {
         self.read_gap(number);
         self.resolve(number);
@@ -120,7 +122,7 @@ impl<'t> Layout<'t> {
         self.note(number, token);
     }
 
-    /// Sets the level of the statement that begins after a gap, if one does.
+    /// Sets the indentation level of the statement that begins after a gap, if one does.
     fn begin_at(&mut self, found: &Break) {
         match self.at {
             At::Statement => self.statement.level = found.level,
@@ -157,7 +159,7 @@ impl<'t> Layout<'t> {
     }
 }
 
-/// Returns a text with these tokens, laid out; `None` if memory runs out.
+/// Returns the layout of a text with these tokens, or `None` if memory runs out.
 pub(crate) fn lay_out(alloc: Global, text: &[u8], tokens: &[Token]) -> Option<Vec<u8>> {
     let mut layout = Layout::new(alloc, text, tokens);
     for (number, token) in tokens.iter().enumerate() {

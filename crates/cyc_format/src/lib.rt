@@ -1,4 +1,4 @@
-//! Formats a text, whose tokens and comments stay, in one style.
+//! Formats a text in one style; its tokens and comments stay unchanged.
 #![tactic(auto)]
 
 pub use formatter::format;

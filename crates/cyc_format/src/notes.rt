@@ -1,22 +1,22 @@
-//! The effect of a token on the layout of the tokens after it.
+//! Records the effect of a token on the layout of the tokens after it.
 use crate::frames::{Frame, FrameKind};
 use crate::layout::{At, Layout};
 use crate::roles::{Role, is_case, is_operand, is_region, is_sign, is_word};
 use cyc_syntax::{Keyword, Sign, Token, TokenKind};
 
-/// The state of the formatter before a token.
+/// The formatter's state before a token.
 #[derive(Clone, Copy)]
 struct Before {
     number: usize,
     role: Role,
     is_operand: bool,
-    /// The construct that the token opens, if it is a brace.
+    /// The construct that the token opens, provided that the token is a brace.
     brace: FrameKind,
     last: Option<TokenKind>,
 }
 
 impl<'t> Layout<'t> {
-    /// Notes the effect of the token of this number on the tokens after it.
+    /// Records the effect of the token with this number on the layout of the tokens after it.
     pub(crate) fn note(&mut self, number: usize, token: Token) {
         let before = Before {
             number,
@@ -38,7 +38,7 @@ impl<'t> Layout<'t> {
         }
     }
 
-    /// Notes the effect of a token on its statement, which may begin with it.
+    /// Records the effect of a token on its statement, which may begin with this token.
     fn note_statement(&mut self, number: usize, kind: Option<TokenKind>) {
         if self.at != At::Within {
             if !is_sign(kind, Sign::RightBrace) {
@@ -85,7 +85,8 @@ impl<'t> Layout<'t> {
         self.is_operand = false;
     }
 
-    /// Closes a condition, whose statement continues at its level.
+    /// Closes a condition. The statement that it controls continues at the condition's indentation
+    /// level.
     fn close_head(&mut self, kind: FrameKind) {
         if self.frames.ends_with(kind) {
             if let Some(frame) = self.frames.pop() {
@@ -120,7 +121,7 @@ impl<'t> Layout<'t> {
         }
     }
 
-    /// Returns the role of an operator or of a pointer mark.
+    /// Returns the role of a token that is an operator or a pointer sign.
     fn role_of(&self, sign: Sign, before: &Before) -> Role {
         match sign {
             Sign::At | Sign::Question => Role::Mark,
@@ -131,7 +132,7 @@ impl<'t> Layout<'t> {
         }
     }
 
-    /// Returns true if the tokens before a token are a type.
+    /// Returns true if the tokens before a token form a type.
     fn is_after_type(&self, before: &Before) -> bool {
         match before.role {
             Role::CloseRegions | Role::Mark => true,
@@ -186,7 +187,8 @@ impl<'t> Layout<'t> {
         }
     }
 
-    /// Returns true if a list of exceptions, or of one clause with one statement, is on one line.
+    /// Returns true if the braces opened here are on one line: a list of exceptions, or one clause
+    /// with one statement.
     fn stands_on_one_line(&self, before: &Before, token: Token) -> bool {
         if !matches!(before.brace, FrameKind::Exceptions | FrameKind::Clauses) {
             return false;

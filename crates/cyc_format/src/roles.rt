@@ -1,7 +1,7 @@
-//! The role of a token, which determines the gap before the next one.
+//! The role of a token, which determines the gap before the next token.
 use cyc_syntax::{Keyword, Sign, Token, TokenKind};
 
-/// The role of the last token in its construct.
+/// The role of the last token in its statement or construct.
 #[derive(Clone, Copy, Debug, PartialEq, Eq)]
 pub(crate) enum Role {
     /// The token opened a bracket, or braces around values.
@@ -10,19 +10,19 @@ pub(crate) enum Role {
     OpenBody,
     /// A prefix operator.
     Prefix,
-    /// The mark of a pointer.
+    /// The token is the sign of a pointer type.
     Mark,
-    /// An operator between two operands.
+    /// The token is an operator between two operands.
     Binary,
     Comma,
-    /// The semicolon before a function's effect.
+    /// The token is the semicolon before a function's effect.
     Effect,
-    /// The colon after a label or a `case`.
+    /// The token is the colon after a label or a `case`.
     Label,
-    /// A colon in any other role.
+    /// The token is a colon that follows neither a label nor a `case`.
     Colon,
     Arrow,
-    /// The token opened or closed a list of regions.
+    /// The token opened a list of regions.
     OpenRegions,
     CloseRegions,
     /// The token ended a statement or a declaration.
@@ -63,12 +63,12 @@ pub(crate) fn is_opening(kind: Option<TokenKind>) -> bool {
     )
 }
 
-/// Returns true if the token begins a clause such as `case` or `catch`.
+/// Returns true if the token begins a clause: `case` or `default`.
 pub(crate) fn is_case(kind: Option<TokenKind>) -> bool {
     is_word(kind, Keyword::Case) || is_word(kind, Keyword::Default)
 }
 
-/// Returns true if the token begins a statement or an item, and occurs nowhere else.
+/// Returns true if the token occurs only at the beginning of a statement or an item.
 pub(crate) fn is_starter(kind: Option<TokenKind>) -> bool {
     matches!(
         kind,
@@ -90,7 +90,7 @@ pub(crate) fn is_starter(kind: Option<TokenKind>) -> bool {
     )
 }
 
-/// Returns true if an opening bracket follows the token without a space.
+/// Returns true if an opening bracket after the token follows without a space.
 pub(crate) fn is_called(kind: Option<TokenKind>) -> bool {
     matches!(
         kind,
@@ -146,7 +146,8 @@ fn is_name_byte(byte: u8) -> bool {
     byte.is_ascii_alphanumeric() || byte == b'_'
 }
 
-/// Returns true if two adjacent bytes would be read as one token or as the beginning of a comment, or would look like it.
+/// Returns true if two adjacent bytes would be read as one token or as the beginning of a comment, or would look like
+/// one.
 fn are_one(last: u8, first: u8) -> bool {
     is_name_byte(last) && is_name_byte(first)
         || matches!(
@@ -168,7 +169,7 @@ fn are_one(last: u8, first: u8) -> bool {
         )
 }
 
-/// Returns true if two tokens must be separated, whatever their roles.
+/// Returns true if two tokens must be separated by a space, whatever their roles are.
 pub(crate) fn are_apart(text: &[u8], token: Token, next: Token) -> bool {
     let bytes = text.get(token.start..token.end).unwrap_or(&[]);
     match (bytes.last(), text.get(next.start)) {

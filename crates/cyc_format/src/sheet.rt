@@ -1,26 +1,27 @@
-//! The formatted text as it is written.
+//! The formatted text, as far as it is written.
 use crate::gap::Comment;
 use std::alloc::Global;
 
-/// The most bytes of a text. A longer one is not completed, since it cannot be a result.
+/// The most bytes of a text. A longer formatted text is not completed, since it cannot be a result.
 const MOST_BYTES: usize = 1048576;
 
-/// The deepest level that is indented more than the one above it.
+/// The deepest indentation level; the lines of deeper levels are indented as much as those of this
+/// level.
 const DEEPEST: usize = 40;
 
-/// The number of spaces of a level.
+/// The number of spaces by which each level is indented.
 const STEP: usize = 2;
 
 #[derive(Drop)]
 pub(crate) struct Sheet {
     bytes: Vec<u8>,
-    /// The number of bytes on the last line.
+    /// The number of bytes on the last line written.
     pub(crate) column: usize,
-    /// True if memory did not run out.
+    /// True if memory has not run out, so that the text is complete so far.
     is_whole: bool,
 }
 
-/// Returns the bytes without trailing blanks.
+/// Returns the bytes of a line without trailing blanks.
 fn without_blanks(bytes: &[u8]) -> &[u8] {
     let mut length: usize = 0;
     for (n, byte) in bytes.iter().enumerate() {
@@ -31,7 +32,7 @@ fn without_blanks(bytes: &[u8]) -> &[u8] {
     bytes.get(..length).unwrap_or(bytes)
 }
 
-/// Returns the number of leading blanks.
+/// Returns the number of leading blanks of a line.
 fn blanks_of(bytes: &[u8]) -> usize {
     for (n, byte) in bytes.iter().enumerate() {
         if !matches!(*byte, b' ' | b'\t' | b'\r') {
@@ -54,7 +55,7 @@ impl Sheet {
         self.bytes.is_empty()
     }
 
-    /// Returns the bytes, if memory did not run out.
+    /// Returns the bytes of the formatted text, or `None` if memory ran out.
     pub(crate) fn finish(self) -> Option<Vec<u8>> {
         let Sheet {
             bytes,
@@ -78,7 +79,8 @@ impl Sheet {
         }
     }
 
-    /// Ends the line, if one was begun, and begins the next one at a level, after an empty line if `is_apart`.
+    /// Ends the line, if one was begun, and begins the next line at an indentation level, after an empty line
+    /// if `is_apart`.
     pub(crate) fn end_line(&mut self, level: usize, is_apart: bool) {
         if !self.is_empty() {
             self.put(b"\n");
@@ -90,7 +92,8 @@ impl Sheet {
         self.put_spaces(level.min(DEEPEST).saturating_mul(STEP));
     }
 
-    /// Writes a comment. If the column of a comment changes, the comment's further lines are moved by as much.
+    /// Writes a comment. If the column of the comment changes, its further lines are moved by the same number
+    /// of columns.
     pub(crate) fn put_comment(&mut self, text: &[u8], comment: Comment) {
         let bytes = text.get(comment.start..comment.end).unwrap_or(&[]);
         let (from, to) = (comment.column, self.column);
@@ -106,7 +109,7 @@ impl Sheet {
         }
     }
 
-    /// Writes a further line of a comment that was moved from one column to another.
+    /// Writes a further line of a comment that was moved from the column `from` to the column `to`.
     fn put_moved(&mut self, line: &[u8], from: usize, to: usize) {
         if from == to || line.is_empty() {
             self.put(line);

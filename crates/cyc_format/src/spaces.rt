@@ -1,4 +1,4 @@
-//! Decides where spaces separate two tokens of a line.
+//! Decides where the formatter writes a space between two tokens of a line.
 use crate::breaks::BreakKind;
 use crate::frames::FrameKind;
 use crate::layout::{At, Layout};
@@ -6,7 +6,7 @@ use crate::roles::{Role, are_apart, is_called, is_region, is_sign, is_word};
 use cyc_syntax::{Keyword, Sign};
 
 impl<'t> Layout<'t> {
-    /// Returns the gap before the token of this number, which is within a statement.
+    /// Returns the gap before the token with this number, which is within a statement.
     pub(crate) fn space_before(&self, number: usize) -> BreakKind {
         if self.touches(number) && !self.is_apart_from_last(number) {
             BreakKind::Nothing
@@ -15,7 +15,7 @@ impl<'t> Layout<'t> {
         }
     }
 
-    /// Returns true if a token and the one before it must be separated.
+    /// Returns true if a token and the token before it must be separated by a space.
     fn is_apart_from_last(&self, number: usize) -> bool {
         let Some(last) = number.checked_sub(1) else {
             return false;
@@ -26,7 +26,8 @@ impl<'t> Layout<'t> {
         }
     }
 
-    /// Returns true if the token of this number follows the one before it without a space.
+    /// Returns true if the formatter writes no space between the token with this number and the
+    /// token before it.
     fn touches(&self, number: usize) -> bool {
         match self.role {
             Role::Open | Role::Prefix | Role::Mark | Role::Arrow | Role::OpenRegions => true,
@@ -34,7 +35,7 @@ impl<'t> Layout<'t> {
         }
     }
 
-    /// Returns true if a token of this kind follows the one before it without a space.
+    /// Returns true if the kind of a token says that no space precedes it.
     fn is_joined(&self, number: usize) -> bool {
         let kind = self.kind(number);
         let Some(cyc_syntax::TokenKind::Sign(sign)) = kind else {
@@ -65,12 +66,12 @@ impl<'t> Layout<'t> {
         is_sign(self.kind(number), Sign::Less) && is_region(self.kind(number.saturating_add(1)))
     }
 
-    /// Returns true if the last token is a name, or ends the regions after one.
+    /// Returns true if the last token is a name, or ends the list of regions after a name.
     fn is_named(&self) -> bool {
         self.role == Role::Name || self.role == Role::CloseRegions
     }
 
-    /// Returns the construct that an opening brace opens.
+    /// Returns the kind of the construct that an opening brace opens.
     pub(crate) fn brace(&self, number: usize) -> FrameKind {
         let last = self.kind_before(number, 1);
         if self.frames.is_within() {

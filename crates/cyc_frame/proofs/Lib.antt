@@ -1,2 +1,3 @@
--- the frames are correct, and the reported function is the first whose frame is too large
+-- the proof that the frames are correct and that the reported function is the first whose frame is
+-- too large
 pub mod Sound

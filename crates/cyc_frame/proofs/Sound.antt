@@ -1,4 +1,5 @@
--- The frames are correct, and the reported function is the first whose frame is too large.
+-- The frames that layout returns are correct. If layout reports a function, it is the first whose
+-- frame is too large.
 use Rattle.std.proofs.Common.{◌≡◌, ℕ, zero, suc, ◌+◌, ◌<◌, ◌≤◌, Bool, false, List, [], ◌∷◌, ◌++◌, length, map, Some, None, Result, Ok, Err, refl, sym, ap, subst, ◌∙◌, arith, inl, inr}
 use Rattle.std.specs.Prelude.{if◌then◌else◌, slice_index_or, slice_set, true, ◌⊎◌, Option}
 use Rattle.std.proofs.lemmas.Bool.{cases_eq, cases_lt, lt-ltb}
@@ -26,12 +27,12 @@ use Rattle.cyc_frame.specs.inside.Layout.{AllReturn, AreFirstFrames, AreFrames, 
 abbrev count_at : List Routine → ℕ → ℕ
 count_at routines k = (slice_index_or routines k no_routine).frame_count
 
--- The function at this index is the first whose frame is too large.
+-- `IsFirst` says that the function at this index is the first whose frame is too large.
 abbrev IsFirst : List Routine → ℕ → Type 0
 IsFirst routines k =
     (k < length routines) × (MOST_FRAME_WORDS < count_at routines k) × ((j : ℕ) → j < k → count_at routines j ≤ MOST_FRAME_WORDS)
 
--- The result of the search for a frame that is too large.
+-- `Found` describes the result of the search for the first function whose frame is too large.
 abbrev Found : List Routine → Option Span → Type 0
 Found routines None = (k : ℕ) → k < length routines → count_at routines k ≤ MOST_FRAME_WORDS
 Found routines (Some place) = (k : ℕ) × IsFirst routines k × ((slice_index_or routines k no_routine).name ≡ place)
@@ -80,14 +81,14 @@ some_large program place fault some code line column =
       column = column ∙ sym (ap (λ (s : Span). s.column) name);
     }
 
--- A program with small frames has no function whose frame is too large.
+-- If all frames of a program are within the limit, no function's frame is too large.
 pub not_small_and_large : (program : Program) (fault : Fault) → HasSmallFrames program → IsTooLarge program fault → ⊥
 not_small_and_large program fault small large = omega (arith, small large.function large.is_function, large.large)
 
 same_fault : (f g : Fault) → f.code ≡ g.code → f.line ≡ g.line → f.column ≡ g.column → f ≡ g
 same_fault f g code line column = λ i. record { code = code i; line = line i; column = column i }
 
--- The first function whose frame is too large is unique.
+-- A program has at most one fault for the first function whose frame is too large.
 pub one_first : (program : Program) (f g : Fault) → IsTooLarge program f → IsTooLarge program g → f ≡ g
 one_first program f g a b = elim (cases_lt a.function b.function) [
   | inl before ↦ absurd (omega (arith, b.first a.function before, a.large))
@@ -113,13 +114,13 @@ frame_last : (frames : List Frame) (frame : Frame) → frame_at (frames ++ frame
 frame_last [] frame = refl
 frame_last (f ∷ frames) frame = frame_last frames frame
 
--- A listed frame is found, whatever the default is.
+-- The frame listed for a function is found independently of the default frame.
 pub frame_there : (frames : List Frame) (k : ℕ) (other : Frame) → k < length frames → slice_index_or frames k other ≡ frame_at frames k
 frame_there [] k other below = absurd (omega arith)
 frame_there (f ∷ frames) zero other below = refl
 frame_there (f ∷ frames) (suc k) other below = frame_there frames k other (omega arith)
 
--- Adding one correct frame keeps the invariant.
+-- Adding one more correct frame to the list keeps the loop invariant.
 pub more_frames : (program : Program) (count before most : ℕ) (frames : List Frame) (frame : Frame) (r : Routine) → AreFirstFrames program count before frames → before ≤ most → frame.saved ≤ most
     → r ≡ routine_at program count → IsFrame r frame → AreHomes program r frame.saved frame.homes → AreIdle program r frame.homes frame.idle → AreFillable program r frame.homes frame.fills → AreFirstFrames program (count + 1) most (frames ++ frame ∷ [])
 more_frames program count before most frames frame r are rises saved is framed homes idle fills = record {
@@ -143,11 +144,11 @@ more_frames program count before most frames frame r are rises saved is framed h
 
 -- ---- frames that save more registers
 
--- The default frame for a function without a listed frame.
+-- The default frame, for functions without a frame in the list.
 abbrev no_frame : Frame
 no_frame = record { return_address = 0; saves = false; first_saved = 0; saved = 0; first_slot = 0; parameters = 0; homes = []; idle = []; fills = [] }
 
--- Homes stay correct if the frame saves more registers.
+-- The homes of slots stay correct if the frame saves more registers.
 module _ (program : Program) (most : ℕ) (few : most ≤ MOST_SAVED) where
   more_homes : (r : Routine) (saved : ℕ) (homes : List Home) → saved ≤ most → AreHomes program r saved homes → AreHomes program r most homes
   more_homes r saved homes fewer are = record {
@@ -186,7 +187,7 @@ module _ (program : Program) (most : ℕ) (few : most ≤ MOST_SAVED) where
     returning = returns;
   }
 
-  -- The frames after the one of this function is made to save `most` registers.
+  -- `raising` are the frames after the frame of function `n` is changed to save `most` registers.
   module _ (all : 0 < most → AllReturn program) (frames : List Frame) (are : AreFirstFrames program (length program.functions) most frames) where
     abbrev raising : (n : ℕ) → List Frame
     raising n = slice_set frames n (record (frame_at frames n) { saved = most })
@@ -194,7 +195,8 @@ module _ (program : Program) (most : ℕ) (few : most ≤ MOST_SAVED) where
     at_raised : (n k : ℕ) → n < length frames → k ≡ n → frame_at (raising n) k ≡ record (frame_at frames n) { saved = most }
     at_raised n k below same = ap (frame_at (raising n)) same ∙ get_or-set_same frames n (record (frame_at frames n) { saved = most }) no_frame below
 
-    -- A property of all frames still holds after a frame is made to save more registers.
+    -- A property of all frames still holds after one frame is changed to save more registers, if it
+    -- holds for the changed frame.
     still : (P : ℕ → Frame → Type 0) (n : ℕ) → n < length program.functions → ((k : ℕ) → k < length program.functions → P k (frame_at frames k)) → P n (record (frame_at frames n) { saved = most })
         → (k : ℕ) → k < length program.functions → P k (frame_at (raising n) k)
     still P n known each one k below = elim (cases_eq k n) [
@@ -222,7 +224,7 @@ module _ (program : Program) (most : ℕ) (few : most ≤ MOST_SAVED) where
           omega (arith, before, ap (λ (f : Frame). f.saved) (get_or-set_other frames n k (record (frame_at frames n) { saved = most }) no_frame other))
     ]
 
-    -- The frame of a function that opens no handler is unchanged.
+    -- A function that opens no handler need not save more registers, so the loop invariant is kept.
     pub raised_past : (n : ℕ) → opens_any (routine_at program n).code ≡ false → AreRaised program n most frames → AreRaised program (n + 1) most frames
     raised_past n none so_far k below opens = elim (cases_eq k n) [
       | inl same ↦ absurd (let e : false ≡ true = sym none ∙ (sym (ap (λ (j : ℕ). opens_any (routine_at program j).code) same) ∙ opens) in cc)

@@ -1,4 +1,4 @@
-//! The frames of a program's functions.
+//! The stack frames of a program's functions.
 ghost use Rattle.std.specs.Prelude.{◌≡◌};
 ghost use Rattle.cyc_registers.specs.inside.Interference.{home_of};
 ghost use Rattle.cyc_registers.specs.inside.Fills.{fills_at};
@@ -7,27 +7,32 @@ ghost use Rattle.cyc_registers.specs.inside.Idle.{idle_at};
 use cyc_registers::Home;
 use std::marker::Model;
 
-/// The use of the words of a function's frame, and the homes of its slots. Words are numbered from the frame's lowest address.
+/// The use of the words of a function's frame, and the homes of its slots. Words are numbered from the lowest address of the
+/// frame.
 #[derive(Drop)]
 pub struct Frame {
-    /// The word that keeps the return address while the function calls another.
+    /// The number of the frame's word that keeps the return address while the function calls
+    /// another.
     pub return_address: usize,
     /// True if the function saves its return address in the frame at its entry. A function that does not save its return address never
     /// overwrites the return address register.
     pub saves: bool,
-    /// The word of the first saved callee-saved register. The other saved registers follow in order.
+    /// The word of the frame for the first saved callee-saved register. The words for the other
+    /// saved registers follow in order.
     pub first_saved: usize,
     /// The number of callee-saved registers that the function saves.
     pub saved: usize,
-    /// The word of the function's slot 0. The other slots follow slot 0 in order.
+    /// The word of the frame for the function's slot 0. The words for the other slots follow in
+    /// order.
     pub first_slot: usize,
-    /// The number of parameters, which are the first slots.
+    /// The number of parameters; the first slots of a function are its parameters.
     pub parameters: usize,
     /// The home of each slot, indexed by slot number.
     pub homes: Vec<Home>,
-    /// True for each place of the function's code that is idle: it needs no machine code.
+    /// For each instruction of the function's code, true if it is idle: it needs no machine code.
     pub idle: Vec<bool>,
-    /// True for each place whose word may be computed in the delay slots of the branches to it.
+    /// For each instruction, true if its word may be computed in the delay slots of the branches to
+    /// it.
     pub fills: Vec<bool>,
 }
 
@@ -50,7 +55,7 @@ impl Model for Frame {
 }
 
 impl Frame {
-    /// Returns the home of a slot; memory if there is no such slot.
+    /// Returns the home of a slot, or memory if there is no such slot.
     pub fn home(&self, slot: usize) -> Home
         ensures { result ≡ home_of self.now.homes slot }
     {
@@ -60,7 +65,7 @@ impl Frame {
         }
     }
 
-    /// Returns true if the place at this index is idle.
+    /// Returns true if the instruction at this index is idle: it needs no machine code.
     pub fn is_idle(&self, index: usize) -> bool
         ensures { result ≡ idle_at self.now.idle index }
     {
@@ -70,7 +75,7 @@ impl Frame {
         }
     }
 
-    /// Returns true if the place at this index fills delay slots.
+    /// Returns true if the first line of the instruction at this index may fill delay slots.
     pub fn fills_slots(&self, index: usize) -> bool
         ensures { result ≡ fills_at self.now.fills index }
     {

@@ -1,4 +1,4 @@
-//! The frames of all functions of a program.
+//! The stack frames of all functions of a program.
 ghost use Rattle.std.specs.Prelude.{◌≡◌};
 
 use crate::frame::Frame;

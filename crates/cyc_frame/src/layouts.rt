@@ -1,4 +1,4 @@
-//! Lays out the frames of a program.
+//! Lays out the stack frames of a program's functions.
 
 ghost use Rattle.std.specs.Prelude.{◌≡◌, ◌+◌, ◌<◌, ◌≤◌, ◌⊎◌, true, length, map, IfOk};
 ghost use Rattle.cyc_words.specs.Decision.{Decides};
@@ -38,7 +38,7 @@ fn loses(instruction: Instruction) -> bool
     )
 }
 
-/// Returns true if some instruction of the code opens a handler.
+/// Returns true if some instruction of the code overwrites the return address register.
 fn loses_any(code: &[Instruction]) -> bool
     ensures { result ≡ loses_any code.now }
 {
@@ -50,7 +50,8 @@ fn loses_any(code: &[Instruction]) -> bool
     false
 }
 
-/// Returns true if an instruction is a return, whose code has room to save and restore registers.
+/// Returns true if an instruction is a return, whose size includes words to save and restore
+/// registers.
 fn returns(instruction: Instruction) -> bool
     ensures { result ≡ returns instruction }
 {
@@ -60,7 +61,7 @@ fn returns(instruction: Instruction) -> bool
     )
 }
 
-/// Returns true if some instruction of the code opens a handler.
+/// Returns true if some instruction of the code is a return.
 fn returns_any(code: &[Instruction]) -> bool
     ensures { result ≡ returns_any code.now }
 {
@@ -181,10 +182,10 @@ fn frames_of(alloc: Global, plain: &Plain) -> Result<Vec<Frame>, AllocError>
     Ok(frames)
 }
 
-/// Returns the frame of each function of a program.
+/// Returns the stack frame of each function of a program.
 ///
 /// If some function's frame has more than `MOST_FRAME_WORDS` words, the error is `FrameTooLarge`, at the name of the first such function.
-/// The function returns frames for any other program, unless memory runs out.
+/// For any other program, `layout` returns frames, unless memory runs out.
 pub fn layout(alloc: Global, plain: &Plain) -> Result<Frames, Fault>
     ensures { Decides (IsAccepted plain.now) AreFrames (IsTooLarge plain.now) (IsTooLarge plain.now) result }
 {

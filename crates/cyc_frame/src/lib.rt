@@ -1,4 +1,5 @@
-//! Frame layout: the word of each slot in a function's frame, and the limit of a frame's size.
+//! Frame layout assigns a word of a function's stack frame to each slot, and limits the size of
+//! frames.
 #![tactic(auto)]
 
 mod frame;

@@ -1,4 +1,4 @@
--- The contract of the front end follows from those of its phases.
+-- The contract of the front end follows from the contracts of its phases.
 use Rattle.std.proofs.Common.{◌≡◌, ◌⊎◌, inl, inr, ⊎_elim, ℕ, List, map, Result, Ok, Err, sym, ap, subst, ◌∙◌}
 use Rattle.std.specs.Prelude.{IfOk, IfErr, MatchResult}
 use Rattle.cyc_words.specs.declared.fault.Fault.{Fault}
@@ -21,20 +21,22 @@ use Rattle.cyc_front.specs.declared.front.Phases.{Phases}
 use Rattle.cyc_front.specs.Front.{names_in, IsAcceptedText, IsStoppedText, IsRefusedText, HasFault}
 use Rattle.cyc_front.specs.inside.Phases.{HasTree}
 
--- A phase passed this: it is accepted, nothing else is, and there is no fault.
+-- Says that a phase passed the result a: a is accepted, no other result is accepted, and there is
+-- no fault.
 pub record Passes {A : Type 0} (Accepted : A → Type 0) (Has : Fault → Type 0) (a : A) : Type 0 where
   pub is : Accepted a
   pub only : (b : A) → Accepted b → a ≡ b
   pub no_fault : (f : Fault) → Has f → ⊥
 
--- An accepting decision of a phase means that it passed the result.
+-- If a phase's decision accepts a result, the phase passed the result.
 pub passed : {X A : Type 0} (view : X → A) (Accepted : A → Type 0) (Refused Has : Fault → Type 0) (x : X)
     → Decides Accepted (λ a y. view y ≡ a) Refused Has (Ok x) → Passes Accepted Has (view x)
 passed view Accepted Refused Has x d =
     let (a, is, same) = d.accepted in
     record { is = subst Accepted (sym same) is; only = d.accepts; no_fault = d.refuses }
 
--- The lexer passed these tokens; the parser passed this tree of the tokens; the type checker passed this program of the tree.
+-- Says that the lexer passed the tokens; the next definitions say that the parser passed the tree and the type checker passed
+-- the program.
 abbrev pub Lexed : List ℕ → List Token → Type 0
 Lexed text tokens = Passes (lexer.IsAccepted text) (lexer.IsRefused text) tokens
 
@@ -44,16 +46,17 @@ Parsed OfGrammar text tokens tree = Passes (parser.IsAccepted tokens) (OfGrammar
 abbrev pub Checked : List Token → List Declaration → Program → Type 0
 Checked tokens tree p = Passes (IsTypedProgram (names_in tokens) tree) (IsRefusedProgram (names_in tokens) tree) p
 
--- The statement for the code's tokens in another list.
+-- If the lexer passed the tokens of a list, it passed the tokens of any equal list.
 pub lexed : (text : List ℕ) (ts us : List TokenCode) → us ≡ ts → Lexed text (map (token_of text) ts) → Lexed text (map (token_of text) us)
 lexed text ts us same l = subst (λ x. Lexed text (map (token_of text) x)) (sym same) l
 
--- A tree parsed from the tokens belongs to an equal list of tokens.
+-- If a tree was parsed from the tokens of a list, the tree belongs to any equal list of tokens.
 pub of_tokens : (text : List ℕ) (us ts : List TokenCode) (tree : Tree) → us ≡ ts → parser.IsAccepted (map (token_of text) us) (declarations_of tree)
     → tree.names ≡ names_in (map (token_of text) us) → HasTree text ts tree
 of_tokens text us ts tree same is names = subst (λ (x : List TokenCode). HasTree text x tree) same (is, names)
 
--- The texts of names are those of the tokens.
+-- If the list of texts contains the names of the tokens, the result of type checking holds for the
+-- names of the tokens.
 pub checked : (tokens : List Token) (tree : List Declaration) (p : Program) (texts : List (List ℕ)) → texts ≡ names_in tokens
     → Passes (IsTypedProgram texts tree) (IsRefusedProgram texts tree) p → Checked tokens tree p
 checked tokens tree p texts same c = subst (λ ns. Passes (IsTypedProgram ns tree) (IsRefusedProgram ns tree) p) same c
@@ -67,7 +70,7 @@ typed_here OfGrammar text tokens tree l r p a =
     let one : tree ≡ a.tree = r.only a.tree (subst (λ ts. parser.IsAccepted ts a.tree) (sym same) a.has_tree) in
     subst (λ d. IsTypedProgram (names_in tokens) d p) (sym one) (subst (λ ts. IsTypedProgram (names_in ts) a.tree p) (sym same) a.typed)
 
--- The fault of a phase after parsing, for this list of declarations.
+-- The fault of a phase after parsing, for a list of declarations: a typing fault or a flow fault.
 abbrev pub IsFaulty : List Token → List Declaration → Fault → Type 0
 IsFaulty tokens tree f =
     IsRefusedProgram (names_in tokens) tree f
@@ -91,16 +94,19 @@ faulty_here OfGrammar text tokens tree l r f (inr (inr (inr (ts, d, p, has, of, 
 
 -- ---- a phase that rejects the text
 
--- A phase rejected: nothing is accepted unless memory ran out, and there is no other fault.
+-- Says that a phase rejected the text: no result is accepted unless memory ran out, and there is no
+-- other fault.
 pub record Stops {A : Type 0} (Accepted : A → Type 0) (Has : Fault → Type 0) (f : Fault) : Type 0 where
   pub none : (a : A) → Accepted a → f ≡ memory_fault
   pub no_other : (g : Fault) → Has g → (f ≡ memory_fault) ⊎ (f ≡ g)
 
--- The result of the front end for a text, for results that contain the typed program in this way.
+-- Says that a result answers a text as the front end must; `Gives` states how a result contains the
+-- typed program.
 abbrev pub IsAnsweredBy : {X : Type 0} → (Program → X → Type 0) → List ℕ → Result X Fault → Type 0
 IsAnsweredBy Gives text result = Decides (IsAcceptedText text) Gives (IsRefusedText text) (HasFault text) result
 
--- The result contains the program: as the typed tree, or among all results of the phases.
+-- Says that the result contains the program p. The result is a typed tree that satisfies the flow
+-- rules, or the record of all phase results.
 abbrev pub HasProgram : Program → Flowed → Type 0
 HasProgram p v = view_program v.tree ≡ p
 
@@ -110,12 +116,12 @@ HasPhases p v = HasProgram p v.program
 abbrev pub IsAnswered : List ℕ → Result Flowed Fault → Type 0
 IsAnswered = IsAnsweredBy HasProgram
 
--- A fault does not depend on the type of results.
+-- If the front end rejects a text, the fault is the same for every type of results.
 pub refused_by_both : {X Y A : Type 0} {Accepted : A → Type 0} {Refused Faulty : Fault → Type 0} (Gives : A → X → Type 0) (Other : A → Y → Type 0) (f : Fault)
     → Decides Accepted Gives Refused Faulty (Err f) → Decides Accepted Other Refused Faulty (Err f)
 refused_by_both Gives Other f d = record { accepted = tt; refused = d.refused; accepts = d.accepts; refuses = d.refuses }
 
--- A result may be replaced by another that contains the same program.
+-- A result can be replaced by any other result that contains the same program.
 pub accepted_alike : {X Y A : Type 0} {Accepted : A → Type 0} {Refused Faulty : Fault → Type 0} (Gives : A → X → Type 0) (Other : A → Y → Type 0) (x : X) (y : Y)
     → ((a : A) → Gives a x → Other a y) → Decides Accepted Gives Refused Faulty (Ok x) → Decides Accepted Other Refused Faulty (Ok y)
 accepted_alike Gives Other x y alike d = record {
@@ -233,7 +239,7 @@ flow_accepted text tokens tree t (Ok v) l r c (one, allowed, same) = (
 )
 flow_accepted text tokens tree t (Err f) l r c h = tt
 
--- The result of the flow check for a typed tree is the front end's result for the text.
+-- The result of the flow check for a typed tree is the front end's result for the source text.
 pub flow_answers : (text : List ℕ) (tokens : List Token) (tree : List Declaration) (t : TypedTree) (result : Result Flowed Fault)
     → Lexed text tokens → Parsed parser.IsFaulty text tokens tree → Checked tokens tree (view_program t)
     → Decides (λ (one : Unit {0}). IsAllowedProgram (view_program t)) (λ one v. v.tree ≡ t) (IsStoppedProgram (view_program t)) (IsStoppedProgram (view_program t)) result

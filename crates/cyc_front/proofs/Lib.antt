@@ -1,2 +1,2 @@
--- the contract of the front end follows from those of its phases
+-- the contract of the front end follows from the contracts of its phases
 pub mod Fronts

@@ -1,6 +1,7 @@
--- The accepted texts, and the faults of rejected texts. The front end of the compiler has four phases: the text has tokens, the tokens have
--- a tree, the tree has a typed program, and the typed program satisfies the flow rules. Each phase defines separately what it accepts and
--- rejects; this file combines the definitions. (That the first phase to reject a text determines the fault is this project's own choice.)
+-- The accepted source texts, and the faults of rejected texts. The front end of the compiler has four phases: lexer, parser, type checker
+-- and flow check. The text has tokens, the tokens have a tree, the tree has a typed program, and the typed program satisfies the flow
+-- rules. Each phase defines separately which inputs it accepts and rejects; this file combines these definitions. (That the first phase to
+-- reject a text determines the fault is this project's own choice.)
 use Rattle.std.specs.Prelude.{◌⊎◌, ℕ, List}
 use Rattle.cyc_words.specs.declared.fault.Fault.{Fault}
 use Rattle.cyc_syntax.specs.Names.{distinct_texts}
@@ -13,11 +14,11 @@ use Rattle.cyc_types.specs.TypedTrees.{Program}
 use Rattle.cyc_types.specs.typing.Programs.{IsTypedProgram, IsRefusedProgram}
 use Rattle.cyc_types.specs.flow.Programs.{IsAllowedProgram, IsStoppedProgram}
 
--- The texts of the names among these tokens, in the order of their first occurrence.
+-- The texts of the names among a list of tokens, in the order of their first occurrence.
 abbrev pub names_in : List Token → List (List ℕ)
 names_in tokens = distinct_texts (texts_in tokens)
 
--- The text is accepted, with this typed program.
+-- Says that the source text is accepted and that its typed program is p.
 pub record IsAcceptedText (text : List ℕ) (p : Program) : Type 0 where
   pub tokens : List Token
   pub tree : List Declaration
@@ -26,8 +27,8 @@ pub record IsAcceptedText (text : List ℕ) (p : Program) : Type 0 where
   pub typed : IsTypedProgram (names_in tokens) tree p
   pub allowed : IsAllowedProgram p
 
--- The first phase that rejects the text reports this fault: the lexer; the grammar, as defined by `OfGrammar`; the typing rules; or the
--- flow rules.
+-- Says that the first phase that rejects the text reports the fault. The phases are the lexer, the grammar (defined by `OfGrammar`),
+-- the typing rules and the flow rules.
 abbrev pub IsStoppedText : (OfGrammar : List ℕ → List Token → Fault → Type 0) → List ℕ → Fault → Type 0
 IsStoppedText OfGrammar text f =
     lexer.IsRefused text f
@@ -35,11 +36,12 @@ IsStoppedText OfGrammar text f =
     ⊎ ((tokens : List Token) × (tree : List Declaration) × lexer.IsAccepted text tokens × parser.IsAccepted tokens tree × IsRefusedProgram (names_in tokens) tree f)
     ⊎ ((tokens : List Token) × (tree : List Declaration) × (p : Program) × lexer.IsAccepted text tokens × parser.IsAccepted tokens tree × IsTypedProgram (names_in tokens) tree p × IsStoppedProgram p f)
 
--- A fault reported for the text is true: the condition of its code holds at its place.
+-- Says that a fault reported for the text is true: the condition of the fault's code holds at the
+-- fault's position.
 abbrev pub IsRefusedText : List ℕ → Fault → Type 0
 IsRefusedText = IsStoppedText parser.IsRefused
 
--- The text has this fault and is rejected with no other. If the tokens of a text have no tree, the definition only says that the text is
--- rejected.
+-- Says that the text is rejected with this fault and with no other. If the tokens of a text have no tree, the definition only says that
+-- the text is rejected.
 abbrev pub HasFault : List ℕ → Fault → Type 0
 HasFault = IsStoppedText parser.IsFaulty

@@ -1,2 +1,2 @@
--- the results of the phases for a text, as the code stores them
+-- the results of the front end's phases for a source text, as the code stores them
 pub mod Phases

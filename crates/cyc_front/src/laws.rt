@@ -1,5 +1,5 @@
-//! Laws of the definitions in `specs/`. Each function of this file is empty, and its contract states one law, which is proved with the
-//! crate.
+//! Laws of the definitions in `specs/`. Each function in this file has an empty body, and its contract states one law, which is proved
+//! with the crate.
 
 ghost use Rattle.std.specs.Prelude.{◌≡◌, List, ℕ};
 ghost use Rattle.cyc_words.specs.declared.fault.Fault.{Fault};
@@ -7,7 +7,7 @@ ghost use Rattle.cyc_types.specs.TypedTrees.{Program};
 ghost use Rattle.cyc_soundness.specs.Sound.{IsSound};
 ghost use Rattle.cyc_front.specs.Front.{IsAcceptedText, IsRefusedText};
 
-/// The front end is deterministic: a text is accepted with at most one typed program, and no fault of an accepted text is true.
+/// The front end is deterministic: a text is accepted with at most one typed program, and an accepted text has no fault.
 pub fn accepted_or_refused()
     ensures one_program { (text : List ℕ) (p q : Program) → IsAcceptedText text p → IsAcceptedText text q → p ≡ q }
     ensures not_both { (text : List ℕ) (p : Program) (f : Fault) → IsAcceptedText text p → IsRefusedText text f → ⊥ }
@@ -20,7 +20,8 @@ pub fn accepted_or_refused()
     cyc_types::laws::allowed_or_stopped();
 }
 
-/// No dead access: no run of the program of an accepted text is dead or wrong after any number of steps, for every input.
+/// Soundness: no run of an accepted text's program accesses freed memory or goes wrong, after any number of steps and for
+/// every input.
 pub fn accepted_programs_are_sound()
     ensures { (text : List ℕ) (p : Program) → IsAcceptedText text p → IsSound p }
 {

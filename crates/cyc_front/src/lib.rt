@@ -1,4 +1,5 @@
-//! The front end as one call: a text is translated to its typed tree, or rejected with its fault.
+//! The front end as one function: it translates a source text to a typed tree, or rejects the text
+//! with a fault.
 #![tactic(auto)]
 
 mod front;

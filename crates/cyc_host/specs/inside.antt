@@ -1,4 +1,4 @@
--- the program's answers, their last lines and their exit statuses
+-- These modules define the program's answers, their last lines and their exit statuses.
 pub mod Answer
--- the two devices of a run, and the final answer
+-- This module defines the two devices of a run, and the final answer.
 pub mod Console

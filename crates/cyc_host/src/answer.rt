@@ -1,4 +1,4 @@
-//! The program's answer: its exit status, and its last line on standard error.
+//! This file defines the program's answer: its exit status, and its last line on standard error.
 ghost use Rattle.std.specs.Prelude.{◌≡◌, Some};
 ghost use Rattle.cyc_host.specs.inside.Answer.{last_line, status_of, cause_words, ending_of};
 
@@ -9,24 +9,24 @@ use cyc_machine::{Cause, End, Limits, LoadFault};
 use cyc_words::{Code, Fault};
 use std::fmt;
 
-/// The outcome of a call of the program. `Display` writes the last line on standard error.
+/// The outcome of a command of the program. `Display` writes the last line on standard error.
 #[derive(Clone, Copy)]
 pub enum Answer {
-    /// The text was checked or compiled, or the image was listed.
+    /// The command succeeded: the text was checked or compiled, or the image was listed.
     Done,
     /// The run ended with this value.
     Returned(i32),
     /// The text was rejected with this fault.
     Refused(Fault),
-    /// The file is no image that can be run or listed; the number tells why.
+    /// The file is not an image that can be run or listed; the number tells the reason.
     BadImage(u32),
-    /// The run ended with an uncaught exception: its number and its value.
+    /// The run ended with an uncaught exception, given by its number and its value.
     Uncaught(u32, i32),
     /// The run ended for lack of pages or of calls.
     Full,
-    /// The machine refused an instruction.
+    /// The machine refused an instruction for this cause.
     Trapped(Cause),
-    /// The run was stopped when its instruction budget was used up.
+    /// The run was stopped because its instruction budget was used up.
     Spent,
     /// A file or the standard input could not be read.
     ReadFault,
@@ -36,11 +36,12 @@ pub enum Answer {
     NoMemory,
     /// The command line is invalid.
     Usage,
-    /// The text is not laid out in the one style.
+    /// The text is not formatted in the one style that the formatter prints.
     Unformatted,
 }
 
-/// The number of the fault of an image outside the machine's memory; it follows those of ELF faults.
+/// The number of the fault for an image outside the machine's memory; this number follows those of
+/// ELF faults.
 const OUTSIDE: u32 = 8;
 
 /// Returns the words of the last line for the cause of a trap.
@@ -152,7 +153,8 @@ impl From<RunFault> for Answer {
     }
 }
 
-/// Returns the reason why a run with these limits and this budget ended before its program did, by its answer and its report.
+/// Returns the reason why a run with these limits and this budget ended before its program did, computed from its answer and
+/// its report.
 pub fn ending(
     answer: &Answer,
     report: Option<Report>,
@@ -174,7 +176,8 @@ pub fn ending(
     }
 }
 
-/// Returns further words for a user about an answer, beyond its last line and the messages printed when it arose.
+/// Returns further words for a user about an answer, in addition to its last line and the messages printed
+/// earlier.
 pub fn explanation(answer: &Answer) -> Option<&'static str> {
     match *answer {
         Answer::BadImage(number) => Some(image_fault(number)),

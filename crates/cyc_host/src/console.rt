@@ -1,5 +1,6 @@
-//! The standard input and output of a run, as devices. The standard output of a run is buffered. The buffer is flushed before the run waits
-//! for input, so that a user sees a question before answering it; on a terminal it is also flushed after each line.
+//! This file provides the standard input and output of a run as devices. The standard output of a run is buffered. The buffer is flushed
+//! before the run waits for input, so that a user sees a question before answering it. On a terminal the buffer is also flushed after each
+//! line.
 ghost use Rattle.std.specs.Prelude.{◌≡◌, [], ◌∷◌, false, IfOk, IsTrue, MatchOption, OnOk};
 ghost use Rattle.std.specs.Io.{ReadsAtMost};
 ghost use Rattle.std.specs.Io.Buffered.{reader_remaining};
@@ -13,7 +14,7 @@ use std::alloc::Global;
 use std::io;
 use std::io::{BufRead, BufReader, BufWriter, ErrorKind, Read, Write};
 
-/// The standard output with a buffer.
+/// The standard output of a run, with a buffer.
 #[derive(Drop)]
 pub struct Screen<W: Write + Drop> {
     output: BufWriter<W>,
@@ -29,7 +30,8 @@ pub struct Screen<W: Write + Drop> {
 impl<W: Write + Drop> Screen<W> {
     ghost use Rattle.cyc_host.specs.inside.Console.{screen_written, screen_held, screen_is_stuck};
 
-    /// Returns a screen with an empty buffer; with `by_lines` each line is flushed when it ends. The error is lack of memory.
+    /// Returns a screen with an empty buffer; with `by_lines` each line is flushed when it ends. The only error is lack of
+    /// memory.
     pub fn new(alloc: Global, output: W, by_lines: bool) -> io::Result<Self>
         ensures { IfOk result (λ s. Keeps (W.contents output) (screen_written W.contents s)) }
     {
@@ -42,12 +44,12 @@ impl<W: Write + Drop> Screen<W> {
         })
     }
 
-    /// Returns true if the user sees the beginning of a line that has not ended.
+    /// Returns true if the user has seen the beginning of a line that has not ended.
     pub fn is_within_line(&self) -> bool {
         self.by_lines && self.is_within_line
     }
 
-    /// Flushes the buffer. On success the buffer is empty, and it was flushed each time when it had to be.
+    /// Flushes the buffer. On success the buffer is empty, and every required flush succeeded.
     pub fn finish(&mut self) -> io::Result<()>
         ensures bytes { Keeps (screen_written W.contents self.old) (screen_written W.contents self.new) }
         ensures whole { OnOk result (screen_held self.new ≡ []) }
@@ -95,7 +97,7 @@ impl<W: Write + Drop> ByteOut for Screen<W> {
     fn pass_on(&mut self)
         ensures bytes { Keeps (screen_written W.contents self.old) (screen_written W.contents self.new) }
         ensures fails { self.new.has_failed ≡ self.old.has_failed }
-        // A failure to flush is permanent, whatever follows.
+        // A failure to flush is permanent: no later operation clears it.
         ensures sticks { IsTrue (screen_is_stuck self.old) → IsTrue (screen_is_stuck self.new) }
     {
         if self.output.flush().is_err() {
@@ -115,17 +117,17 @@ pub fn finish_for<W: Write + Drop>(screen: &mut Screen<W>, answer: Answer) -> An
     }
 }
 
-/// The most retries of a read that a signal interrupted.
+/// The largest number of retries of a read that a signal interrupted.
 const TRIES: usize = 64;
 
-/// How many bytes are read ahead of a reader that may have to be waited for.
+/// The number of bytes that are read ahead from a reader that may block.
 const MOST_AHEAD: usize = 8192;
 
-/// The standard input with a buffer.
+/// The standard input of a run, with a buffer.
 #[derive(Drop)]
 pub struct Keyboard<R> {
     input: BufReader<R>,
-    /// True if a byte that is not held may have to be waited for.
+    /// True if a read of a byte that is not in the buffer may block.
     may_wait: bool,
     has_failed: bool,
     has_ended: bool,
@@ -134,10 +136,10 @@ pub struct Keyboard<R> {
     kept: Option<Vec<u8>>,
 }
 
-/// The most bytes of an input that are recorded.
+/// The largest number of bytes of an input that are recorded.
 const MOST_KEPT: usize = 67_108_864;
 
-/// Returns the recorded bytes of an input with one more byte; `None` if they become too many.
+/// Returns the recorded bytes of an input with one more byte; `None` if there would be too many.
 fn kept_with(kept: Option<Vec<u8>>, byte: u8) -> Option<Vec<u8>> {
     let mut bytes = kept?;
     if bytes.len() >= MOST_KEPT || bytes.push(byte).is_err() {
@@ -175,7 +177,7 @@ fn take_held<R: Read>(input: &mut BufReader<R>) -> Option<u8>
     Some(byte)
 }
 
-/// Returns the next byte of an input, which is read if the buffer is empty.
+/// Returns the next byte of an input, and reads from the device if the buffer is empty.
 fn next_byte<R: Read>(input: &mut BufReader<R>) -> io::Result<Option<u8>>
     ensures { Gives (reader_remaining R.remaining input.old) result (reader_remaining R.remaining input.new) }
 {
@@ -193,8 +195,8 @@ fn next_byte<R: Read>(input: &mut BufReader<R>) -> io::Result<Option<u8>>
 impl<R: Read + Drop> Keyboard<R> {
     ghost use Rattle.cyc_host.specs.inside.Console.{keyboard_remaining};
 
-    /// A keyboard of which nothing was asked yet; a reader that never blocks (`may_wait`) is read one byte at a time. The constructor fails
-    /// if memory runs out.
+    /// Returns a keyboard from which nothing was requested yet; a reader that never blocks (`may_wait` is false) is read one byte at a
+    /// time. The constructor fails if memory runs out.
     pub fn new(alloc: Global, input: R, may_wait: bool) -> io::Result<Self>
         ensures { IfOk result (λ k. Keeps (R.remaining input) (keyboard_remaining R.remaining k)) }
     {
@@ -216,7 +218,7 @@ impl<R: Read + Drop> Keyboard<R> {
         self.kept = Some(Vec::new(alloc));
     }
 
-    /// Returns the recorded bytes; `None` if they were too many.
+    /// Returns the recorded bytes; `None` if there were too many.
     pub fn kept(&self) -> Option<&[u8]> {
         match &self.kept {
             Some(bytes) => Some(bytes.as_slice()),

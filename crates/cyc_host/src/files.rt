@@ -1,4 +1,4 @@
-//! The files that a command line names.
+//! This file reads and writes the files that a command line names.
 ghost use Rattle.std.specs.Prelude.{◌≡◌, IfOk, IfSome, take};
 
 use crate::answer::Answer;
@@ -12,15 +12,16 @@ use std::path::PathBuf;
 use std::rt::Files;
 use std::{fs, io};
 
-/// The most bytes of a source file that are read: one more than a program may have, to detect one that is too large.
+/// The largest number of bytes of a source file that are read: one more than a program may have, to detect a program
+/// that is too large.
 const MOST_TEXT: u64 = 1_048_577;
 
 const MOST_IMAGE: u64 = 33_554_432;
 
-/// A limit above the size of every file of places.
+/// A limit above the size of every file of places, which lists the origins of an image's words.
 const MOST_PLACES: u64 = 268_435_456;
 
-/// Returns the answer to a failed read, and prints its reason on standard error.
+/// Returns the answer to a failed read, and prints the reason for the failure on standard error.
 fn report_read_failure<R: Eprint>(rt: &R, name: &str, error: &io::Error) -> Answer {
     if error.kind() == io::ErrorKind::OutOfMemory {
         return Answer::NoMemory;
@@ -32,7 +33,7 @@ fn report_read_failure<R: Eprint>(rt: &R, name: &str, error: &io::Error) -> Answ
     Answer::ReadFault
 }
 
-/// Returns the answer to a failed write, and prints its reason on standard error.
+/// Returns the answer to a failed write, and prints the reason for the failure on standard error.
 fn report_write_failure<R: Eprint>(rt: &R, name: &str, error: &io::Error) -> Answer {
     let _ = eprintln!(rt;
         "cyclone: {} cannot be written: {error}",
@@ -41,8 +42,8 @@ fn report_write_failure<R: Eprint>(rt: &R, name: &str, error: &io::Error) -> Ans
     Answer::WriteFault
 }
 
-/// Returns the capacity for the bytes of a file, of which at most `most` are read: its length plus one, so that nothing is moved while
-/// reading and the end is seen. A pipe does not report its length.
+/// Returns the capacity for the bytes of a file, of which at most `most` are read. The capacity is the file's length plus one, so that
+/// nothing is moved while reading and the end is seen. A pipe does not report its length.
 fn room_for<R: Files>(rt: &R, path: &str, most: u64) -> usize {
     match fs::metadata(rt, path) {
         Ok(metadata) if metadata.len() > 0 => {
@@ -52,7 +53,8 @@ fn room_for<R: Files>(rt: &R, path: &str, most: u64) -> usize {
     }
 }
 
-/// Returns at most `most` bytes of a reader, with capacity for `room` bytes allocated before the first is read.
+/// Returns at most `most` bytes of a reader, with capacity for `room` bytes allocated before the first byte is
+/// read.
 fn read_up_to<R: Read + Drop>(
     alloc: Global,
     reader: R,
@@ -66,7 +68,8 @@ fn read_up_to<R: Read + Drop>(
     Ok(bytes)
 }
 
-/// The name of the file that a word of the command line names: for `-` that of the standard input, unless a file is called so.
+/// Returns the name of the file that a word of the command line names: for `-` the name of the standard input, unless a file
+/// has the name `-`.
 pub fn name_of_file<'a, R: Files>(rt: &R, word: &'a str) -> &'a str {
     if word == "-" && fs::symlink_metadata(rt, word).is_err() {
         "/dev/stdin"
@@ -81,7 +84,7 @@ fn read_named<R: Files + AllocGlobal + Input>(
     path: &str,
     most: u64,
 ) -> io::Result<Vec<u8>> {
-    // A file that is opened anew would be read from its beginning.
+    // If the standard input were opened anew, it would be read from its beginning.
     if name_of_file(rt, path) != path {
         return read_up_to(rt.alloc(), rt.reader(), most, 0);
     }
@@ -109,7 +112,7 @@ pub fn read_text<R: Files + AllocGlobal + Eprint + Input>(
     read_file(rt, path, MOST_TEXT)
 }
 
-/// The text of a regular file, if it can be read; nothing is said if it cannot.
+/// Returns the text of a regular file, if it can be read; prints nothing if it cannot.
 pub fn find_text<R: Files + AllocGlobal>(rt: &R, path: &str) -> Option<Vec<u8>> {
     let metadata = fs::metadata(rt, path).ok()?;
     if !metadata.is_file() {
@@ -135,7 +138,7 @@ pub fn read_image<R: Files + AllocGlobal + Eprint + Input>(
     Ok(bytes)
 }
 
-/// Returns the bytes of a file of places.
+/// Returns the bytes of a file of places, which lists the origins of an image's words.
 pub fn read_places<R: Files + AllocGlobal + Eprint + Input>(
     rt: &R,
     path: &str,
@@ -148,7 +151,8 @@ fn is_one(first: &Metadata, second: &Metadata) -> bool {
     first.dev() == second.dev() && first.ino() == second.ino()
 }
 
-/// Returns true if two names lead to the same regular file: by the same name, by links, or by the number of an open file.
+/// Returns true if two names refer to the same regular file: by the same name, by links, or by the number of an open
+/// file.
 pub fn is_one_file<R: Files>(rt: &R, first: &str, second: &str) -> bool {
     match (fs::metadata(rt, first), fs::metadata(rt, second)) {
         (Ok(first), Ok(second)) => first.is_file() && is_one(&first, &second),
@@ -156,10 +160,11 @@ pub fn is_one_file<R: Files>(rt: &R, first: &str, second: &str) -> bool {
     }
 }
 
-/// The most links that are followed from a name, as the system follows them.
+/// The largest number of links that are followed from a name, as the operating system follows them.
 const MOST_LINKS: u32 = 40;
 
-/// The name to which a name leads by links; a file of that name need not exist yet.
+/// Returns the name at the end of the links that begin with a name; a file of that name need not
+/// exist yet.
 fn end_of_links<R: Files + AllocGlobal>(rt: &R, path: &str) -> Result<PathBuf, AllocError> {
     let mut end = PathBuf::from_str(rt.alloc(), ".")?;
     end.push(path)?;
@@ -168,13 +173,14 @@ fn end_of_links<R: Files + AllocGlobal>(rt: &R, path: &str) -> Result<PathBuf, A
             break;
         };
         end.pop();
-        // A link target that begins at the root replaces the whole path.
+        // If the target of a link begins at the root, then it replaces the complete path.
         end.push(link)?;
     }
     Ok(end)
 }
 
-/// Returns true if a file is to be made at the end of a name.
+/// Returns true if no file exists at the end of a name's links, so that a file would be created
+/// there.
 fn is_free<R: Files>(rt: &R, path: &str) -> bool {
     match fs::metadata(rt, path) {
         Err(error) => error.kind() == io::ErrorKind::NotFound,
@@ -182,10 +188,11 @@ fn is_free<R: Files>(rt: &R, path: &str) -> bool {
     }
 }
 
-/// Returns true if two names that lead to nothing yet have one end: a name in one folder.
+/// Returns true if two names of files that do not exist yet end at the same name in the same
+/// directory.
 fn have_one_end<R: Files + AllocGlobal>(rt: &R, first: &str, second: &str) -> bool {
     let (Ok(mut first), Ok(mut second)) = (end_of_links(rt, first), end_of_links(rt, second)) else {
-        // What cannot be known is taken for so.
+        // If the ends of the names cannot be determined, they are taken to be equal.
         return true;
     };
     if first.as_path().file_name() != second.as_path().file_name() {
@@ -202,7 +209,8 @@ fn have_one_end<R: Files + AllocGlobal>(rt: &R, first: &str, second: &str) -> bo
     }
 }
 
-/// Returns true if two names will denote one file, of which one is to be written, even if neither file exists yet.
+/// Returns true if two names, of which one is to be written, will denote one file, even if neither file exists
+/// yet.
 pub fn will_be_one_file<R: Files + AllocGlobal>(rt: &R, first: &str, second: &str) -> bool {
     is_one_file(rt, first, second)
         || is_free(rt, first) && is_free(rt, second) && have_one_end(rt, first, second)
@@ -211,15 +219,17 @@ pub fn will_be_one_file<R: Files + AllocGlobal>(rt: &R, first: &str, second: &st
 /// The existing directory entry with the name of the output file, which determines how the file is written.
 #[derive(Clone, Copy)]
 enum Place {
-    /// The directory has no entry of that name, so a new file is made.
+    /// The directory has no entry with the name of the output file, so a new file is made.
     Free,
-    /// A regular file with these permissions: a new file that replaces it gets these permissions.
+    /// The entry is a regular file with these permissions: a new file that replaces it gets these
+    /// permissions.
     Taken(u32),
-    /// A link, a device or a pipe, which is kept and written to.
+    /// The entry is a link, a device or a pipe, which is kept and written to.
     Kept,
 }
 
-/// The permission bits for the owner, the group and others. A mode has further bits, which a write to the file clears.
+/// The permission bits for the owner, the group and others. A file mode has further bits, which a write to the file
+/// clears.
 const PERMISSIONS: u32 = 0o777;
 
 fn place_of<R: Files>(rt: &R, path: &str) -> Place {
@@ -230,17 +240,17 @@ fn place_of<R: Files>(rt: &R, path: &str) -> Place {
     }
 }
 
-/// The most names that are tried for a temporary file.
+/// The largest number of names that are tried for a temporary file.
 const MOST_NAMES: u32 = 100;
 
-/// A temporary file in the same directory, locked while its compilation is running.
+/// A temporary file in the directory of the output file, locked while the compilation is running.
 #[derive(Drop)]
 struct Part {
     file: File,
     name: String,
 }
 
-/// Returns true if a name leads to this open file, and not by a link.
+/// Returns true if a name refers to this open file, and is not a link.
 fn leads_to<R: Files>(rt: &R, name: &str, file: &File) -> bool {
     match (fs::symlink_metadata(rt, name), file.metadata()) {
         (Ok(named), Ok(opened)) => named.is_file() && is_one(&named, &opened),
@@ -248,7 +258,8 @@ fn leads_to<R: Files>(rt: &R, name: &str, file: &File) -> bool {
     }
 }
 
-/// Removes the temporary file of a compilation that was killed: nobody holds its lock. Returns true if the file was removed.
+/// Removes the temporary file of a compilation that was killed, that is, a file that no process has locked. Returns true if
+/// the file was removed.
 fn take_away<R: Files<File = File>>(rt: &R, name: &str) -> bool {
     match fs::symlink_metadata(rt, name) {
         Ok(metadata) if metadata.is_file() => {}
@@ -260,7 +271,7 @@ fn take_away<R: Files<File = File>>(rt: &R, name: &str) -> bool {
     left.try_lock().is_ok() && leads_to(rt, name, &left) && fs::remove_file(rt, name).is_ok()
 }
 
-/// Creates a new file of this name, or returns `None` if another compilation has it.
+/// Creates a new file with this name, or returns `None` if another compilation has the file.
 fn create_part<R: Files<File = File>>(rt: &R, name: &str) -> io::Result<Option<File>> {
     let created = match File::create_new(rt, name) {
         Err(error) if error.kind() == io::ErrorKind::AlreadyExists && take_away(rt, name) => {
@@ -281,7 +292,7 @@ fn create_part<R: Files<File = File>>(rt: &R, name: &str) -> io::Result<Option<F
     }
 }
 
-/// Creates a temporary file in the directory of this name, if possible.
+/// Creates a temporary file in the directory of the output file, if possible.
 fn create_beside<R: Files<File = File> + AllocGlobal>(
     rt: &R,
     path: &str,
@@ -297,16 +308,18 @@ fn create_beside<R: Files<File = File> + AllocGlobal>(
     Ok(None)
 }
 
-/// The bits of a device number that identify its driver. Network and user-space file systems are on devices without one.
+/// The bits of a device number that identify its driver. Network and user-space file systems are on devices whose driver
+/// number is 0.
 const DRIVER: u64 = 0xffff_f000_000f_ff00;
 
-/// Returns true if a file is on a device without a driver: there a failed write may be reported as late as when the file is closed.
+/// Returns true if a file is on a device without a driver: on such a device a failed write may be reported as late as when the file
+/// is closed.
 fn is_elsewhere(metadata: &Metadata) -> bool {
     metadata.is_file() && metadata.dev() & DRIVER == 0
 }
 
-/// Writes all of these bytes to an open file, from its beginning. On a device without a driver it also syncs, since an error might
-/// otherwise be reported only by the close, which std ignores.
+/// Writes all of these bytes to an open file, from the file's beginning. On a device without a driver it also syncs, since an
+/// error might otherwise be reported only by the close, whose result std ignores.
 fn fill(file: &mut File, bytes: &[u8]) -> io::Result<()> {
     file.write_all(bytes)?;
     if is_elsewhere(&file.metadata()?) {
@@ -315,8 +328,8 @@ fn fill(file: &mut File, bytes: &[u8]) -> io::Result<()> {
     Ok(())
 }
 
-/// Returns true if this name leads to a file that would exceed the system's limit of file sizes: the system kills a process that writes
-/// beyond it.
+/// Returns true if a file of this length at this name would exceed the system's limit of file sizes: the system kills a process that
+/// writes beyond this limit.
 fn is_too_long<R: Files>(rt: &R, path: &str, length: usize) -> bool {
     let is_file = match fs::metadata(rt, path) {
         Ok(metadata) => metadata.is_file(),
@@ -335,8 +348,8 @@ fn permit(file: &File, mode: u32) -> io::Result<()> {
     file.set_permissions(permissions)
 }
 
-/// Writes bytes to a new file with the required permissions, and renames it to this name. The file is closed afterwards, so that nobody
-/// takes it for an abandoned one.
+/// Writes bytes to a temporary file with the required permissions, and renames the file to this name. The file is closed after it is
+/// renamed, so that no process takes it for an abandoned file.
 fn fill_part<R: Files>(
     rt: &R,
     path: &str,
@@ -351,7 +364,8 @@ fn fill_part<R: Files>(
     fs::rename(rt, part.name.as_str(), path)
 }
 
-/// Writes bytes to a new file, and renames it to this name, so that the file is complete or absent.
+/// Writes bytes to a temporary file, and renames the file to this name, so that the file is
+/// complete or absent.
 fn write_beside<R: Files>(
     rt: &R,
     path: &str,
@@ -366,19 +380,19 @@ fn write_beside<R: Files>(
     result
 }
 
-/// Writes bytes to the entry of this name. A file is created, or truncated first.
+/// Writes bytes directly to the entry of this name. The file is created, or truncated first.
 fn write_there<R: Files<File = File>>(rt: &R, path: &str, bytes: &[u8]) -> io::Result<()> {
     let mut file = fs::create(rt, path)?;
     let result = fill(&mut file, bytes);
     if result.is_err() {
-        // An incomplete image is truncated, so that it is not taken for a complete one.
+        // An incomplete image is truncated, so that no one takes it for a complete image.
         let _ = file.set_len(0);
     }
     result
 }
 
-/// Writes bytes to a temporary file that then replaces the named one. If the name is no regular file or no temporary file can be made,
-/// writes directly to the name.
+/// Writes bytes to a temporary file that then replaces the named file. If the name is not that of a regular file, or no temporary file
+/// can be made, writes directly to the name.
 fn write_all<R: Files<File = File> + AllocGlobal>(
     rt: &R,
     path: &str,
@@ -398,14 +412,16 @@ fn write_all<R: Files<File = File> + AllocGlobal>(
     }
 }
 
-/// Writes an image, or the report of a run, to its file. After `Done`, a regular or new file contains all of the bytes. After any other
-/// result, the file has its former contents, if files can be created in its directory. An existing file keeps its permissions.
+/// Writes an image, or the report of a run, to its file. If the answer is `Done`, then a regular or new file contains all of the bytes.
+/// After any other answer, the file has its former contents, if files can be created in its directory. An existing file keeps its
+/// permissions.
 pub fn write_file<R: Files<File = File> + AllocGlobal + Eprint>(
     rt: &R,
     path: &str,
     bytes: &[u8],
 ) -> Answer {
-    // The file is closed before anything is printed: if standard error is closed, its number may have become the file's.
+    // The output file is closed before anything is printed: if standard error is closed, then its number may have become
+    // the number of this file.
     match write_all(rt, path, bytes) {
         Ok(Ok(())) => Answer::Done,
         Ok(Err(error)) => report_write_failure(rt, path, &error),

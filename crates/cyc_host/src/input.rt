@@ -1,14 +1,15 @@
-//! The standard input as a reader. A file stands, when this is let go, after the last byte that was taken of it, as a program in C leaves
-//! it.
+//! This file provides the standard input as a reader. When the reader of a file is dropped, the file's position is after the last byte
+//! that was consumed, as a program in C leaves it.
 use std::io::{BufRead, Lock, Read, Stdin, StdinLock};
 use std::{fs, io};
 
 /// The standard input of the program.
 #[derive(Drop)]
 pub enum Input {
-    /// A file. A locked input reads ahead, and at its end seeks back over the bytes that were not consumed.
+    /// A regular file. A locked input reads ahead, and when it is dropped, it seeks back over the bytes
+    /// that were not consumed.
     File(StdinLock<'static>),
-    /// A pipe, a terminal or a device, in which no read can seek back.
+    /// A pipe, a terminal or a device, in which seeking back is not possible.
     Stream(Stdin),
 }
 
@@ -21,7 +22,7 @@ impl Input {
         }
     }
 
-    /// Returns true if a read may have to wait for its bytes.
+    /// Returns true if a read may block until bytes arrive.
     pub fn may_wait(&self) -> bool {
         matches!(self, Input::Stream(_))
     }

@@ -1,4 +1,5 @@
-//! The program's interface to its host, and its answers: files, the standard streams, the system's limits, and the last line.
+//! This crate is the program's interface to its host, and defines its answers: files, the standard streams, the system's
+//! limits, and the last line.
 #![tactic(auto)]
 
 pub use answer::{Answer, cause_words, ending, explanation};

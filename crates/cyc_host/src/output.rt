@@ -1,20 +1,21 @@
-//! The standard output as a writer that fails instead of letting the system kill the process.
+//! This file provides the standard output as a writer that returns an error before the system kills
+//! the process.
 ghost use Rattle.std.specs.Prelude.{◌≡◌, take};
 
 use crate::system::{file_limit, room_of_output};
 use std::io;
 use std::io::{ErrorKind, Write};
 
-/// The standard output of the program. If it is a file of the greatest length that the system allows, a further byte is an error, instead
-/// of a signal that kills the process.
+/// The standard output of the program. If it is a file of the greatest length that the system allows, then writing a further byte is an
+/// error, instead of a signal that kills the process.
 #[derive(Drop)]
 pub struct Output<'a> {
     rt: &'a HostRuntime,
-    /// The greatest length of a file.
+    /// The greatest length that the system allows for a file.
     limit: u64,
 }
 
-/// Returns at most the first `most` bytes.
+/// Returns at most the first `most` bytes of a slice.
 fn first(bytes: &[u8], most: u64) -> &[u8]
     ensures { result.now ≡ take most bytes.now }
 {

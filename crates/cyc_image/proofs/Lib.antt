@@ -1,2 +1,2 @@
--- the ranges of an image's limits
+-- This module is about the ranges of the limits that an image contains.
 pub mod Limits

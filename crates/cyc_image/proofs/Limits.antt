@@ -1,4 +1,4 @@
--- The limits of an image are valid for a run.
+-- The limits that an image contains are valid limits of a run.
 use Rattle.std.proofs.Common.{ℕ, Option, None, Some}
 use Rattle.std.specs.Prelude.{IfSome}
 use Rattle.cyc_elf.specs.Note.{AreLimits}

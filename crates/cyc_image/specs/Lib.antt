@@ -1,2 +1,3 @@
--- the contract of `note_of` on the limits of an image, and the statements of compilation about them
+-- This module has the contract of `note_of` on the limits of an image, and the statements about
+-- these limits that compilation makes.
 pub mod Notes

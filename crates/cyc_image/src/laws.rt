@@ -1,5 +1,5 @@
-//! Laws of the definitions in `specs/`. Each function of this file is empty, and its contract states one law, which is proved with the
-//! crate.
+//! This file states laws of the definitions in `specs/`. Each function of this file is empty, and its contract states one law, which
+//! is proved with the crate.
 
 ghost use Rattle.std.specs.Prelude.{◌↔◌, ℕ};
 ghost use Rattle.cyc_elf.specs.Note.{AreLimits};

@@ -1,16 +1,19 @@
-//! The origins of an image in the text of its program: each stretch of its words has one source.
+//! This file defines the origins of an image in the text of its program: each stretch of the
+//! image's words has one source.
 use cyc_words::Span;
 
 /// The origin of a word of an image's text.
 #[derive(Clone, Copy, Debug, PartialEq, Eq)]
 pub enum Source {
-    /// The code before `main`.
+    /// The word belongs to the code before `main`.
     Start,
-    /// The part of the text at this span, in the function of this number.
+    /// The word comes from the part of the text at this span, in the function with this number.
     Part { function: usize, span: Span },
-    /// The place that raises a built-in exception for all failed checks of the function of this number.
+    /// The word belongs to the code that raises a built-in exception for all failed checks of the
+    /// function with this number.
     Raise { function: usize },
-    /// The place that passes on an exception not caught by the `try` at this span, in the function of this number.
+    /// The word belongs to the code that passes on an exception that the `try` at this span does not catch, in the
+    /// function with this number.
     PassOn { function: usize, span: Span },
 }
 
@@ -28,7 +31,7 @@ pub struct Site {
 pub struct Stretch {
     pub address: u32,
     pub source: Source,
-    /// The call that the words were inlined for, if any.
+    /// The call for which the words were inlined, if any.
     pub site: Option<Site>,
 }
 

@@ -1,5 +1,5 @@
--- the answers to a run, a listing and requests about an image
+-- the answers to the commands that run, list or describe an image
 pub mod Work
--- the texts of `run --report` and of `info`
+-- the texts that `run --report` and `info` write
 pub mod Report
 pub mod Info

@@ -1,5 +1,5 @@
-//! A listing with the functions and the lines of the program beside its instructions, by a file of places. The annotated listing is tested
-//! but not verified.
+//! An instruction listing with the functions and the source lines of the program beside the instructions, from a file of source positions.
+//! The annotated listing is tested but not verified.
 use cyc_cli::{FileName, Shown};
 use cyc_host::find_text;
 use cyc_image::{Source, stretch_at};
@@ -8,14 +8,14 @@ use cyc_words::{ByteOut, Failed};
 use std::alloc::{AllocError, Global};
 use std::fmt::Display;
 
-/// A function of an image: its number, and its first address.
+/// A function of an image: its number, and the address of its first instruction.
 #[derive(Clone, Copy)]
 struct Begun {
     number: usize,
     address: u32,
 }
 
-/// The functions that have words, in order.
+/// Returns the functions that have instructions in the image, in order of address.
 fn functions_of(alloc: Global, table: &Table) -> Result<Vec<Begun>, AllocError> {
     let mut found: Vec<Begun> = Vec::new(alloc);
     for stretch in &table.stretches {
@@ -36,7 +36,7 @@ fn functions_of(alloc: Global, table: &Table) -> Result<Vec<Begun>, AllocError> 
     Ok(found)
 }
 
-/// A source file, and where its lines begin.
+/// A source file: its name, its bytes, and the positions at which its lines begin.
 #[derive(Drop)]
 struct Text {
     name: Vec<u8>,
@@ -45,7 +45,7 @@ struct Text {
 }
 
 impl Text {
-    /// The text of the file that has this name; an empty one if it cannot be read.
+    /// Reads the source file with the given name; the text is empty if the file cannot be read.
     fn named(rt: &HostRuntime, name: &[u8]) -> Result<Text, AllocError> {
         let bytes = match str::from_utf8(name) {
             Ok(path) => find_text(rt, path),
@@ -66,7 +66,8 @@ impl Text {
         })
     }
 
-    /// A line of it, counted from 1; empty if it has none of this number.
+    /// Returns a line of the file by its number, counted from 1; the line is empty if the file does
+    /// not have it.
     fn line(&self, number: u32) -> &[u8] {
         let place = number.saturating_sub(1) as usize;
         let Some(start) = self.starts.get(place) else {
@@ -78,7 +79,7 @@ impl Text {
     }
 }
 
-/// The texts of a program, of which the first is that of its own file.
+/// Returns the source files of a program; the first is the program's own file.
 fn texts_of(rt: &HostRuntime, table: &Table) -> Result<Vec<Text>, AllocError> {
     let mut texts: Vec<Text> = Vec::new(rt.alloc());
     texts.push(Text::named(rt, &table.source)?)?;
@@ -93,20 +94,21 @@ fn texts_of(rt: &HostRuntime, table: &Table) -> Result<Vec<Text>, AllocError> {
     Ok(texts)
 }
 
-/// The number that hexadecimal digits write, at the beginning of a line or at its end.
+/// Returns the number that hexadecimal digits denote.
 fn number_in(digits: &[u8]) -> Option<u32> {
     u32::from_str_radix(str::from_utf8(digits).ok()?, 16).ok()
 }
 
-/// How many digits an address has.
+/// The number of hexadecimal digits of an address in a listing.
 const DIGITS: usize = 8;
 
-/// The address with which a line of a listing begins.
+/// Returns the address at the beginning of a line of a listing.
 fn address_in(line: &[u8]) -> Option<u32> {
     number_in(line.get(..DIGITS)?)
 }
 
-/// The address to which the instruction of a line leads, if it is a branch or a jump.
+/// Returns the target address of the branch or jump in a line of a listing, if the line contains
+/// one.
 fn target_in(line: &[u8]) -> Option<u32> {
     let start = line.len().checked_sub(DIGITS)?;
     let before = line.get(..start)?;
@@ -117,7 +119,8 @@ fn target_in(line: &[u8]) -> Option<u32> {
     }
 }
 
-/// A device that takes a listing, and passes it on by lines, with what belongs to each, as many as are left.
+/// A device that receives a listing and passes on its lines, each with the matching function and source
+/// line. The device for annotated listings passes on at most `left` lines.
 #[derive(Drop)]
 pub struct Annotated<'a, W: ByteOut + Drop> {
     alloc: Global,
@@ -125,16 +128,16 @@ pub struct Annotated<'a, W: ByteOut + Drop> {
     table: &'a Table,
     texts: Vec<Text>,
     functions: Vec<Begun>,
-    /// The bytes of the line that has not ended.
+    /// The bytes of the current line of the listing, which has not ended yet.
     line: Vec<u8>,
-    /// The line of the program that was shown last.
+    /// The number of the source line that was shown last.
     shown: u32,
     pub left: u32,
     has_failed: bool,
 }
 
 impl<'a, W: ByteOut + Drop> Annotated<'a, W> {
-    /// A device before another one, which takes nothing yet.
+    /// Returns a device that passes on to `writer` and has received no bytes yet.
     pub fn new(
         rt: &HostRuntime,
         writer: W,
@@ -161,7 +164,8 @@ impl<'a, W: ByteOut + Drop> Annotated<'a, W> {
         }
     }
 
-    /// The function that begins at an address, or before it and not after another.
+    /// Returns the function that contains an address: the last function that begins at the address
+    /// or before it.
     fn function_at(&self, address: u32) -> Option<Begun> {
         let after = self
             .functions
@@ -169,7 +173,8 @@ impl<'a, W: ByteOut + Drop> Annotated<'a, W> {
         self.functions.get(after.checked_sub(1)?).copied()
     }
 
-    /// Writes the name of the function that begins at an address, if one does.
+    /// Writes the name of the function that begins at the given address, if a function begins
+    /// there.
     fn put_function(&mut self, address: u32) -> Result<(), Failed> {
         let Some(begun) = self.function_at(address) else {
             return Ok(());
@@ -189,7 +194,7 @@ impl<'a, W: ByteOut + Drop> Annotated<'a, W> {
         }
     }
 
-    /// Writes the line of the program from which the word at an address comes, if it is another one than was written last.
+    /// Writes the source line of the instruction at an address, unless that line was written last.
     fn put_source(&mut self, address: u32) -> Result<(), Failed> {
         let table = self.table;
         let Some(stretch) = stretch_at(&table.stretches, address) else {
@@ -216,7 +221,8 @@ impl<'a, W: ByteOut + Drop> Annotated<'a, W> {
         }
     }
 
-    /// Writes the function to which the instruction of the line leads, and how far into it.
+    /// Writes the function that contains the target of the line's branch or jump, and the target's
+    /// offset in the function.
     fn put_target(&mut self) -> Result<(), Failed> {
         let Some(target) = target_in(&self.line) else {
             return Ok(());
@@ -245,7 +251,7 @@ impl<'a, W: ByteOut + Drop> Annotated<'a, W> {
         }
     }
 
-    /// Passes on the line that has ended.
+    /// Passes on the line of the listing that has just ended.
     fn end_line(&mut self) -> Result<(), Failed> {
         if self.left == 0 {
             return Err(Failed);

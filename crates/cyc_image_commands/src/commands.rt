@@ -1,4 +1,4 @@
-//! The commands that take an image, using files and the standard streams.
+//! The commands that take an image; they use files and the standard streams.
 use crate::annotated::Annotated;
 use crate::report::RunReport;
 use crate::whereabouts::Whereabouts;
@@ -16,7 +16,8 @@ use cyc_places::{Functions, Table, Unread, sum_of, table_in};
 use std::io;
 use std::io::{IsTerminal, Write};
 
-/// Returns the contents of the file of places for an image, to which it must belong.
+/// Returns the contents of an image's file of source positions. The file must belong to the image,
+/// which a checksum shows.
 fn read_table(rt: &HostRuntime, path: &str, image: &[u8]) -> Result<Table, Answer> {
     let file = read_places(rt, path)?;
     match table_in(rt.alloc(), file.as_slice()) {
@@ -32,8 +33,8 @@ fn read_table(rt: &HostRuntime, path: &str, image: &[u8]) -> Result<Table, Answe
     }
 }
 
-/// Reports the position in its program at which a run of this image stopped, if it ended before the program did. The run is replayed if its
-/// input was recorded.
+/// Reports the source position at which a run of this image stopped, if the run stopped before the program ended. The run is replayed if
+/// its input was recorded.
 fn report_place(rt: &HostRuntime, table: &Table, image: &[u8], input: Option<&[u8]>, run: Ran) {
     match run.answer {
         Answer::Uncaught(_, _) | Answer::Full | Answer::Trapped(_) | Answer::Spent => {}
@@ -61,7 +62,7 @@ fn report_place(rt: &HostRuntime, table: &Table, image: &[u8], input: Option<&[u
     }
 }
 
-/// A run that has stopped.
+/// A run that has stopped, with its limits, its answer and its report.
 #[derive(Clone, Copy)]
 struct Ran {
     limits: Limits,
@@ -69,7 +70,7 @@ struct Ran {
     report: Report,
 }
 
-/// The limits and the instruction budget of a run.
+/// The limits, the instruction budget and the options of a run.
 #[derive(Clone, Copy)]
 pub struct Allowance {
     pub limits: GivenLimits,
@@ -78,8 +79,8 @@ pub struct Allowance {
     pub manner: Manner,
 }
 
-/// Runs an image on the standard streams, and says to a person why it ended before its program did. The report stands beside the answer.
-/// The places of the report, if known, state where the run ended.
+/// Runs an image on the standard streams, and tells the user why the run stopped before the program ended. Returns the answer and the
+/// report. If source positions are known, the message names the position where the run stopped.
 fn run_on_streams(
     rt: &HostRuntime,
     image: &[u8],
@@ -108,7 +109,7 @@ fn run_on_streams(
         &mut keyboard,
         &mut screen,
     );
-    // The words about the answer begin on a line of their own.
+    // On a terminal, the message about the answer begins on a line of its own.
     if screen.is_within_line() && rt.stderr().is_terminal() {
         let _ = rt.eprintln("");
     }
@@ -126,10 +127,10 @@ fn run_on_streams(
     Ok((answer, report))
 }
 
-/// How many bytes at the beginning of a file are looked at.
+/// The number of bytes at the beginning of a file that are examined.
 const MOST_LOOKED_AT: usize = 64;
 
-/// Returns true if a file begins with characters, as no image does.
+/// Returns true if a file begins with text characters, as an image never does.
 fn begins_like_text(file: &[u8]) -> bool {
     let first = file.get(..MOST_LOOKED_AT).unwrap_or(file);
     let mut is_text = !first.is_empty();
@@ -139,7 +140,7 @@ fn begins_like_text(file: &[u8]) -> bool {
     is_text
 }
 
-/// Runs an image's file, with the file of places that is named, if one is.
+/// Runs the image in a file; a file of source positions may be named too.
 fn run_named(
     rt: &HostRuntime,
     image: &str,
@@ -164,7 +165,7 @@ fn run_named(
     outcome
 }
 
-/// Runs an image in memory, with the bytes of its file of places.
+/// Runs an image in memory, with the bytes of its file of source positions.
 pub fn run_made(
     rt: &HostRuntime,
     image: &[u8],
@@ -177,7 +178,7 @@ pub fn run_made(
     }
 }
 
-/// Writes the report of a run to its file. Writing the report, if it succeeds, does not change the answer.
+/// Writes the report of a run to its file. If the writing succeeds, the answer does not change.
 fn write_report(
     rt: &HostRuntime,
     path: &str,
@@ -193,7 +194,8 @@ fn write_report(
     }
 }
 
-/// Writes what is reported of how a run came out to its file, where one is named. The answer stays, if that can be done.
+/// Writes the report about the outcome of a run to the named file, if one is named. If the writing succeeds, the answer
+/// does not change.
 pub fn write_outcome(
     rt: &HostRuntime,
     report: Option<&str>,
@@ -209,7 +211,8 @@ pub fn write_outcome(
     }
 }
 
-/// Refuses a file that a run reads, `of` this thing, as that of what is reported, which would take its place.
+/// Rejects a report file that is the same as a file the run reads, because writing the report would replace
+/// it. `of` describes the file that is read.
 pub fn refuse_report(rt: &HostRuntime, report: &str, read: &str, of: &str) -> Result<(), Answer> {
     if !will_be_one_file(rt, name_of_file(rt, read), report) {
         return Ok(());
@@ -221,7 +224,7 @@ pub fn refuse_report(rt: &HostRuntime, report: &str, read: &str, of: &str) -> Re
     Err(Answer::Usage)
 }
 
-/// Refuses each of the given options.
+/// Rejects a report file that is the same as the image's file or the file of source positions.
 fn refuse_reports(
     rt: &HostRuntime,
     report: &str,
@@ -235,8 +238,8 @@ fn refuse_reports(
     refuse_report(rt, report, "/dev/stdin", "input")
 }
 
-/// Runs the command `run IMAGE`, on the standard input. A report file, if one is named, is written however the run ends, even if there was
-/// none.
+/// Runs the command `run IMAGE` on the standard input. If a report file is named, it is written however the run ends, even if no run took
+/// place.
 pub fn run_file(
     rt: &HostRuntime,
     image: &str,
@@ -250,7 +253,7 @@ pub fn run_file(
     write_outcome(rt, report, run_named(rt, image, allowed, places))
 }
 
-/// Lists an image with what its file of places says beside its instructions.
+/// Lists an image, with the functions and source lines from its file of source positions.
 fn list_placed(
     rt: &HostRuntime,
     image: &[u8],
@@ -264,8 +267,8 @@ fn list_placed(
     }
 }
 
-/// `disasm IMAGE`, of which at most so many lines are printed, where a number is given. With a file of places, which must be the image's, the
-/// functions and the lines of the program stand beside its instructions.
+/// Runs the command `disasm IMAGE`. If a number is given, at most that number of lines is printed. If a file of source positions is given,
+/// which must belong to the image, the functions and source lines of the program appear beside the instructions.
 pub fn list_file(
     rt: &HostRuntime,
     image: &str,
@@ -293,8 +296,8 @@ fn print_functions(rt: &HostRuntime, table: &Table) -> io::Result<()> {
     output.flush()
 }
 
-/// Runs the command `info IMAGE`. If a file of places is given, which must be the image's, the description is followed by the program's
-/// functions.
+/// Runs the command `info IMAGE`. If a file of source positions is given, which must belong to the image, the description is followed
+/// by the program's functions.
 pub fn describe_file(
     rt: &HostRuntime,
     image: &str,

@@ -1,4 +1,4 @@
-//! The text of `info` on an image.
+//! The text that the command `info` writes about an image.
 ghost use Rattle.std.specs.Prelude.{◌≡◌, Some, flat_map, map};
 ghost use Rattle.std.specs.Fmt.{WritesOnOk};
 ghost use Rattle.cyc_image_commands.specs.inside.Info.{extent_in, form_line, has_form, hex_of, is_data, is_text, limits_line, outline_text, range_of};
@@ -8,7 +8,7 @@ use cyc_elf::{Outline, ProgramHeader};
 use cyc_machine::constants::{DATA_BASE, DATA_END, TEXT_BASE, TEXT_END};
 use std::fmt;
 
-/// The flags of a readable (4) and executable (1) segment, and of a readable and writable (2) one.
+/// The flags of two kinds of segments: readable (4) and executable (1); readable and writable (2).
 const READ_AND_EXECUTE: u32 = 5;
 
 const READ_AND_WRITE: u32 = 6;
@@ -19,7 +19,7 @@ fn write_hex<W: fmt::Write>(byte: u8, f: &mut fmt::Formatter<W>) -> fmt::Result
     write!(f, "{byte:02x}")
 }
 
-/// An address: eight hexadecimal digits.
+/// An address, written as eight hexadecimal digits.
 #[derive(Drop)]
 struct Address(u32);
 
@@ -36,7 +36,7 @@ impl fmt::Display for Address {
     }
 }
 
-/// Returns the range of the machine's memory in which a segment begins.
+/// Returns the name of the machine's memory range in which a segment begins.
 fn range_of(segment: &ProgramHeader) -> &'static str
     ensures { result.now ≡ range_of (extent_in segment.now) }
 {
@@ -102,8 +102,8 @@ fn is_data(segment: &ProgramHeader) -> bool
         && 0 < segment.memory_size
 }
 
-/// Returns true if an image has the form of those made by this compiler: its entry is the start of its text, and it has a segment of text,
-/// one of data if it has globals, and no other.
+/// Returns true if an image has the form of this compiler's images. An image of this form has its entry at the start of the text range,
+/// one text segment, one data segment if there are globals, and no other segment.
 fn has_form(image: &Outline) -> bool
     ensures { result ≡ has_form image.now.entry (map extent_in image.now.loads.items) }
 {
@@ -127,8 +127,8 @@ fn write_form<W: fmt::Write>(is_ours: bool, f: &mut fmt::Formatter<W>) -> fmt::R
     }
 }
 
-/// The outline of an image. `Display` writes its description: its entry, a line for each segment, its limits, and whether it has the form
-/// of images made by this compiler.
+/// The outline of an image. `Display` writes the image's description: its entry, a line for each segment, its limits, and a statement if
+/// it has the form of this compiler's images.
 #[derive(Drop)]
 pub struct Description<'a>(pub &'a Outline);
 

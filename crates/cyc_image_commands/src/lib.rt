@@ -1,4 +1,4 @@
-//! The commands that take an image: they run, list or describe it.
+//! The commands that take an image: `run`, `disasm` and `info`.
 #![tactic(auto)]
 
 pub use commands::{

@@ -10,7 +10,7 @@ use cyc_host::{Answer, cause_words};
 use std::alloc::{AllocError, Global};
 use std::fmt;
 
-/// A number as JSON, or `null`.
+/// A number written as JSON; a missing number is `null`.
 #[derive(Drop)]
 struct Number(Option<u32>);
 
@@ -27,7 +27,7 @@ impl fmt::Display for Number {
     }
 }
 
-/// An int as JSON, or `null`.
+/// An int written as JSON; a missing int is `null`.
 #[derive(Drop)]
 struct Int(Option<i32>);
 
@@ -44,7 +44,8 @@ impl fmt::Display for Int {
     }
 }
 
-/// Words in quotes, or `null`. No word contains a character that JSON escapes.
+/// A text written in quotes as JSON; a missing text is `null`. No such text contains a character
+/// that JSON escapes.
 #[derive(Drop)]
 struct Words(Option<&'static str>);
 
@@ -61,7 +62,7 @@ impl fmt::Display for Words {
     }
 }
 
-/// Returns the end of a run, as the first words of its last line.
+/// Returns the end of a run, as the first words of the last line that the run prints.
 fn end_words(answer: Answer) -> &'static str
     ensures { result.now ≡ end_words answer }
 {
@@ -82,7 +83,8 @@ fn end_words(answer: Answer) -> &'static str
     }
 }
 
-/// Returns the value that `main` returned, or the int of the uncaught exception.
+/// Returns the value that `main` returned, or the int of the uncaught exception, if the run ended
+/// in this way.
 fn value_in(answer: Answer) -> Option<i32>
     ensures { result ≡ value_in answer }
 {
@@ -92,7 +94,7 @@ fn value_in(answer: Answer) -> Option<i32>
     }
 }
 
-/// Returns the number of the uncaught exception.
+/// Returns the number of the uncaught exception, if one ended the run.
 fn exception_in(answer: Answer) -> Option<u32>
     ensures { result ≡ exception_in answer }
 {
@@ -102,7 +104,7 @@ fn exception_in(answer: Answer) -> Option<u32>
     }
 }
 
-/// Returns the reason why the machine refused an instruction.
+/// Returns the reason why the machine refused an instruction, if that ended the run.
 fn cause_in(answer: Answer) -> Option<&'static str>
     ensures { option_map (λ text. text.now) result ≡ cause_in answer }
 {
@@ -112,7 +114,7 @@ fn cause_in(answer: Answer) -> Option<&'static str>
     }
 }
 
-/// Returns the number of the violated rule of images.
+/// Returns the number of the rule for images that the image violates, if any.
 fn fault_in(answer: Answer) -> Option<u32>
     ensures { result ≡ fault_in answer }
 {
@@ -122,7 +124,7 @@ fn fault_in(answer: Answer) -> Option<u32>
     }
 }
 
-/// Returns the limit that was reached.
+/// Returns the name of the limit that ended the run, if any.
 fn limit_words(limit: Option<Limit>) -> Option<&'static str>
     ensures { option_map (λ text. text.now) result ≡ limit_words limit }
 {
@@ -159,7 +161,7 @@ fn write_place<W: fmt::Write>(report: Report, f: &mut fmt::Formatter<W>) -> fmt:
     )
 }
 
-/// Returns the peak of calls, if it was counted.
+/// Returns the peak number of active calls, if it was counted.
 fn most_calls(peaks: Option<Peaks>) -> Option<u32>
     ensures { result ≡ option_map (λ (p : Peaks). p.calls) peaks }
 {
@@ -169,7 +171,7 @@ fn most_calls(peaks: Option<Peaks>) -> Option<u32>
     }
 }
 
-/// Returns the peak of pages in use, if it was counted.
+/// Returns the peak number of pages in use, if it was counted.
 fn most_pages(peaks: Option<Peaks>) -> Option<u32>
     ensures { result ≡ option_map (λ (p : Peaks). p.pages) peaks }
 {
@@ -206,7 +208,8 @@ fn write_figures<W: fmt::Write>(report: Option<Report>, f: &mut fmt::Formatter<W
     }
 }
 
-/// The outcome of a run, with its report if it reached a stop. `Display` writes the object and a line feed.
+/// The outcome of a run, with its report if the run reached a stop. `Display` writes the outcome as a JSON
+/// object and a line feed.
 #[derive(Drop)]
 pub struct RunReport {
     pub answer: Answer,
@@ -214,7 +217,7 @@ pub struct RunReport {
 }
 
 impl RunReport {
-    /// Returns the object as the bytes of a file.
+    /// Returns the JSON object as the bytes of a file.
     pub fn text(&self, alloc: Global) -> Result<String, AllocError>
         ensures { IfOk result (λ text. string_bytes text ≡ report_text self.now.answer self.now.report) }
     {

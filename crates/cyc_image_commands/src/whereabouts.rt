@@ -1,4 +1,5 @@
-//! The position in the program at which a run stopped before its program ended, and the positions of its active calls.
+//! The source position at which a run stopped before its program ended, and the source positions of the calls active
+//! at that point.
 use cyc_cli::FileName;
 use cyc_emulator::{Limit, MOST_REPORTED, Report, Trail};
 use cyc_host::Answer;
@@ -10,7 +11,8 @@ use std::fmt;
 /// The built-in exceptions, in the order of their numbers.
 const BUILT_IN: [&str; 4] = ["Null_Exception", "Array_bounds", "Array_size", "Div_zero"];
 
-/// The position at which a run stopped. `Display` writes a line for it and one for each active call, innermost first.
+/// The source position at which a run stopped. `Display` writes a line for the stop and one for each active call,
+/// innermost first.
 #[derive(Drop)]
 pub struct Whereabouts<'a> {
     pub table: &'a Table,
@@ -19,7 +21,7 @@ pub struct Whereabouts<'a> {
     pub trail: &'a Trail,
 }
 
-/// Returns the words about the stop of a run.
+/// Returns the words that describe why a run stopped.
 fn said_of(answer: Answer, report: Report) -> &'static str {
     match answer {
         Answer::Uncaught(_, _) => "thrown here",
@@ -33,7 +35,8 @@ fn said_of(answer: Answer, report: Report) -> &'static str {
 }
 
 impl Whereabouts<'_> {
-    /// Returns the position that a word comes from, and the call that its code was inlined for, if any. `None` if the word has no position.
+    /// Returns the source position of the instruction at an address, and the position of the call that was inlined there, if any. Returns
+    /// `None` if the instruction has no source position.
     fn place_of(&self, address: u32) -> Option<(Site, Option<Site>)> {
         let stretch = stretch_at(&self.table.stretches, address)?;
         match stretch.source {
@@ -44,13 +47,13 @@ impl Whereabouts<'_> {
         }
     }
 
-    /// Writes the beginning of a line of the call stack: the position.
+    /// Writes the source position that begins a line of the call stack.
     fn write_place<W: fmt::Write>(&self, span: Span, f: &mut fmt::Formatter<W>) -> fmt::Result {
         let (file, line) = self.table.home_of(span.line);
         write!(f, "{}:{line}:{}: ", FileName(file), span.column)
     }
 
-    /// Writes the end of a line of the call stack: the function.
+    /// Writes the function's name that ends a line of the call stack.
     fn write_function<W: fmt::Write>(
         &self,
         function: usize,
@@ -62,7 +65,7 @@ impl Whereabouts<'_> {
         }
     }
 
-    /// Writes the name of an exception, with its int if it has one.
+    /// Writes the name of an exception, with its int if the exception has one.
     fn write_exception<W: fmt::Write>(
         &self,
         number: u32,
@@ -84,7 +87,7 @@ impl Whereabouts<'_> {
         }
     }
 
-    /// Writes the line of the position at which the run stopped.
+    /// Writes the line about the source position at which the run stopped.
     fn write_stop<W: fmt::Write>(&self, f: &mut fmt::Formatter<W>) -> fmt::Result {
         let Some((place, site)) = self.place_of(self.trail.address) else {
             return Ok(());
@@ -101,7 +104,7 @@ impl Whereabouts<'_> {
         }
     }
 
-    /// Writes the line of an active call of the call stack.
+    /// Writes the line about an active call of the call stack.
     fn write_call<W: fmt::Write>(&self, call: Site, f: &mut fmt::Formatter<W>) -> fmt::Result {
         self.write_place(call.span, f)?;
         f.write_str("called here")?;
@@ -110,7 +113,8 @@ impl Whereabouts<'_> {
 }
 
 impl Whereabouts<'_> {
-    /// Returns how many waiting calls are written. If the run stopped in an inlined call, that call takes one of the lines.
+    /// Returns the number of active calls that are written. If the run stopped in an inlined call, that call takes one of
+    /// the lines.
     fn reported_count(&self) -> usize {
         let count = self.trail.calls.len();
         match self.place_of(self.trail.address) {
@@ -125,13 +129,14 @@ impl fmt::Display for Whereabouts<'_> {
         self.write_stop(f)?;
         let reported = self.reported_count();
         for address in self.trail.calls.iter().take(reported) {
-            // A function that contains calls is never inlined, so its call is in its own code.
+            // A function that contains calls is never inlined, so the call's position lies in the
+            // function's own code.
             if let Some((call, _)) = self.place_of(*address) {
                 self.write_call(call, f)?;
             }
         }
         let left = self.trail.calls.len().saturating_sub(reported);
-        // At most one of a trail's calls is omitted.
+        // At most one of the recorded calls is omitted from the output.
         match self.trail.others.saturating_add(left.min(1) as u32) {
             0 => Ok(()),
             others => write!(f, "    .. and {others} more calls\n"),

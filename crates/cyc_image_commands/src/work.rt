@@ -1,4 +1,4 @@
-//! The commands on an image, over bytes, a reader and a writer.
+//! The commands on an image, over byte arrays, a reader and a writer.
 ghost use Rattle.std.specs.Prelude.{◌≡◌, is_some, IfOk, IfErr};
 ghost use Rattle.cyc_elf.specs.Reading.{reading};
 ghost use Rattle.cyc_emulator.specs.Engine.{AnswersAnew};
@@ -18,8 +18,8 @@ use cyc_words::{ByteIn, ByteOut, Failed};
 use std::alloc::Global;
 use std::io::{Read, Write};
 
-/// Returns the limits of a run of an image: each is the given one, else the image's, else the default, but none is above its cap. The
-/// answer for bytes that are no image is that of a run.
+/// Returns the limits of a run of an image: each limit is the given one, else the image's, else the default, but never above its cap.
+/// If the bytes are not an image, the answer is that of a run.
 pub fn limits_of_run(
     alloc: Global,
     image: &[u8],
@@ -35,15 +35,15 @@ pub fn limits_of_run(
     }
 }
 
-/// The options of a run.
+/// The options of a run: the heap implementation, and a flag for counting peaks.
 #[derive(Clone, Copy)]
 pub struct Manner {
     pub store: StoreKind,
-    /// True if the peaks are counted, which only the pool of pages supports.
+    /// True if the peaks of calls and pages are counted, which only the pool of pages supports.
     pub counting: bool,
 }
 
-/// Runs an image between two devices with these options.
+/// Runs an image with the given input device, output device and options.
 fn run_as<R: ByteIn, W: ByteOut>(
     alloc: Global,
     image: &[u8],
@@ -67,7 +67,8 @@ fn run_as<R: ByteIn, W: ByteOut>(
     }
 }
 
-/// Runs an image between two devices with these options. Returns the answer and the report.
+/// Runs an image with the given input device, output device and options. Returns the answer and the
+/// report.
 fn run_between<R: ByteIn, W: ByteOut>(
     alloc: Global,
     image: &[u8],
@@ -87,7 +88,7 @@ fn run_between<R: ByteIn, W: ByteOut>(
     }
 }
 
-/// Runs an image on the keyboard's reader and the screen's writer, with these options.
+/// Runs an image with the given options on the keyboard's reader and the screen's writer.
 pub fn run_image<R: Read + Drop, W: Write + Drop>(
     alloc: Global,
     image: &[u8],
@@ -106,7 +107,7 @@ pub fn run_image<R: Read + Drop, W: Write + Drop>(
     (finish_for(screen, answer), report)
 }
 
-/// Lists the instructions of an image to a device.
+/// Lists the instructions of an image to an output device.
 fn list_to<W: ByteOut>(alloc: Global, image: &[u8], writer: &mut W) -> Answer
     ensures { AnswersListing image.now (W.written writer.old) (W.written writer.new) result }
 {
@@ -125,7 +126,7 @@ pub fn list_image<W: Write + Drop>(alloc: Global, image: &[u8], screen: &mut Scr
     finish_for(screen, answer)
 }
 
-/// A device that takes as many lines as are left, and fails after them.
+/// A device that accepts at most `left` lines, and fails after them.
 #[derive(Drop)]
 struct FirstLines<W: ByteOut + Drop> {
     writer: W,
@@ -150,7 +151,8 @@ impl<W: ByteOut + Drop> ByteOut for FirstLines<W> {
     }
 }
 
-/// The answer to a listing for a device that fails when no line is left for it.
+/// Returns the answer of a listing. A write failure counts as success if the device failed because
+/// no line was left.
 fn answer_with(answer: Answer, left: u32) -> Answer {
     match answer {
         Answer::WriteFault if left == 0 => Answer::Done,
@@ -158,7 +160,7 @@ fn answer_with(answer: Answer, left: u32) -> Answer {
     }
 }
 
-/// Lists an image to a device that has places beside its instructions.
+/// Lists the instructions of an image to a device that adds source positions to them.
 pub fn list_annotated<W: Write + Drop>(
     alloc: Global,
     image: &[u8],
@@ -169,7 +171,7 @@ pub fn list_annotated<W: Write + Drop>(
     finish_for(&mut listing.writer, answer)
 }
 
-/// Lists the first instructions of an image to the screen's writer, at most so many.
+/// Lists at most `most` instructions of an image, from the first on, to the screen's writer.
 pub fn list_part<W: Write + Drop>(
     alloc: Global,
     image: &[u8],
@@ -186,7 +188,8 @@ pub fn list_part<W: Write + Drop>(
     finish_for(&mut part.writer, answer)
 }
 
-/// Writes the description of an image to a device. Only the headers of the image are needed.
+/// Writes the description of an image to a device. The description needs only the headers of the
+/// image.
 #[tactic(auto, using(crate::proofs::Describing::no_memory, crate::proofs::Describing::all_reported, crate::proofs::Describing::describes_refusal))]
 fn describe_to<W: ByteOut>(alloc: Global, image: &[u8], writer: &mut W) -> Answer
     ensures { AnswersInfo image.now (W.written writer.old) (W.written writer.new) result }

@@ -1,4 +1,4 @@
--- Two maps of slots that agree, where one may be shifted.
+-- Lemmas about two maps from slots to words that agree; one map may be shifted.
 use Rattle.std.proofs.Common.{◌≡◌, ℕ, ◌+◌, ◌<◌, ◌≤◌, refl, sym, ap, ◌∙◌, arith, inl, inr}
 use Rattle.std.specs.Prelude.{◌==◌, ◌&&◌, ◌-◌}
 use Rattle.std.proofs.lemmas.Bool.{cases_lt, cases_eq}
@@ -12,15 +12,15 @@ use Rattle.cyc_plain.specs.inside.WellFormed.{IsOperand}
 use Rattle.cyc_plain.proofs.SlotLaws.{put-same, put-other, copied-inside, copied-below, copied-above}
 use Rattle.cyc_inline.specs.inside.Opened.{shifted_operand}
 
--- The first `count` slots hold equal words in both maps.
+-- Says that the first `count` slots hold equal words in both maps.
 abbrev pub Agree : (count : ℕ) → Words → Words → Type 0
 Agree count a b = (k : ℕ) → k < count → b k ≡ a k
 
--- The words of the slots from number `shift` on.
+-- The map of the slots from number `shift` on, renumbered from 0.
 abbrev pub from_slot : (shift : ℕ) → Words → Words
 from_slot shift words = λ (k : ℕ). words (shift + k)
 
--- With shift 0, the shifted slots are the slots themselves.
+-- A slot map shifted by 0 agrees with the map itself.
 pub agree_here : (count : ℕ) (a b : Words) → Agree count a (from_slot 0 b) → Agree count a b
 agree_here count a b agree k below = ap b (let e : k ≡ 0 + k = omega arith in e) ∙ agree k below
 
@@ -44,7 +44,7 @@ put_agree count number word a b agree k below = put_at a b number number word wo
 pub put_shifted : (count shift number word same : ℕ) (a b : Words) → same ≡ word → Agree count a (from_slot shift b) → Agree count (put a number word) (from_slot shift (put b (shift + number) same))
 put_shifted count shift number word same a b is agree k below = put_at a b number (shift + number) word same k (shift + k) shift refl refl is (agree k below)
 
--- Two slot maps still agree after the same words are copied in both maps.
+-- Two slot maps still agree after equal words are copied in both maps.
 pub copied_at : (a b to onto : Words) (source from count destination other k at shift : ℕ) → other ≡ shift + destination → at ≡ shift + k
     → ((j : ℕ) → j < count → b (from + j) ≡ a (source + j)) → onto at ≡ to k → copied b from count onto other at ≡ copied a source count to destination k
 copied_at a b to onto source from count destination other k at shift there here same agree = elim (cases_lt k destination) [
@@ -78,7 +78,7 @@ intact_agree count first contents a b agree room =
     ∙ ap (λ (x : ℕ). a first == contents 0 && (a (first + 1) == contents 1 && (x == contents 2 && b (first + 3) == contents 3))) e2
     ∙ ap (λ (x : ℕ). a first == contents 0 && (a (first + 1) == contents 1 && (a (first + 2) == contents 2 && x == contents 3))) e3
 
--- An operand denotes the same word in both maps.
+-- A slot operand, shifted for the inlined program, denotes the same word in both slot maps.
 pub operand_agree : (r : Routine) (shift : ℕ) (a b : Words) (operand : Operand) → Agree r.slots a (from_slot shift b) → IsOperand r operand → operand_word b (shifted_operand shift operand) ≡ operand_word a operand
 operand_agree r shift a b (operands.Slot number) agree inside = agree number inside
 operand_agree r shift a b (operands.Word word) agree inside = refl

@@ -1,4 +1,5 @@
--- The chosen calls and duplicates satisfy their conditions, and the numbers of the code fit machine words.
+-- The chosen calls and duplicates satisfy the conditions for inlining, and the numbers in the code fit
+-- machine words.
 use Rattle.std.proofs.Common.{◌≡◌, ℕ, zero, suc, ◌+◌, ◌^◌, ◌<◌, ◌≤◌, Bool, true, false, List, [], ◌∷◌, ◌++◌, length, Option, Some, None, refl, sym, ap, subst, ◌∙◌, arith, inl, inr}
 use Rattle.std.specs.Prelude.{◌⊎◌, ◌==◌, nat_lt, nat_le, if◌then◌else◌, not, ◌&&◌, filter, slice_get, sum_by}
 use Rattle.std.specs.List.{AllByRecursion}
@@ -38,7 +39,8 @@ use Rattle.cyc_inline.specs.inside.Emission.{IsFitOperand, IsFit, IsFitEnd, IsFi
 abbrev instruction_of : Call → Instruction
 instruction_of call = instructions.Call call.callee call.arguments call.count call.result
 
--- A chosen instruction is a call, with `line` instructions of the callee in line, more than 0.
+-- If an instruction is chosen for inlining, it is a call, and `line` of the callee's instructions
+-- are placed in line, with `line` above 0.
 pub call_is : (i : Instruction) (line : ℕ) (call : Call) → chosen_call i line ≡ Some call → (i ≡ instruction_of call) × (call.line ≡ line) × (0 < line)
 call_is (instructions.Call callee arguments count result) line call is = go (line == 0) refl is
   where
@@ -94,7 +96,7 @@ few_instructions program number plain is_function =
 
 -- ---- the instructions before an instruction
 
--- An instruction that may be duplicated may also be preceded by hoisted ones.
+-- An instruction that may have a duplicate before it may also have hoisted instructions before it.
 duplicate_preceded : (i : Instruction) → may_have_duplicate i ≡ true → may_follow_hoisted i ≡ true
 duplicate_preceded (instructions.Binary operator destination left right) may = refl
 duplicate_preceded (instructions.LoadGlobal destination global) may = refl
@@ -133,7 +135,8 @@ further_least given slots slot is = leb-true given slot (and_left (nat_le given 
 pub further_below : (given slots slot : ℕ) → is_further given slots slot ≡ true → slot < slots
 further_below given slots slot is = nat_lt-true slot slots (and_right (nat_le given slot) (nat_lt slot slots) is)
 
--- An instruction that passes the test `may_hoisted` is a hoisted one.
+-- An instruction that passes the test `may_hoisted` satisfies the definition of hoisted
+-- instructions.
 pub is_hoisted : (globals given slots : ℕ) (x : Instruction) → may_hoisted globals given slots x ≡ true → IsHoisted given slots x
 is_hoisted globals given slots (instructions.Move destination source) may =
     let further = and_left (is_further given slots destination) (fits_in slots source) may in
@@ -276,7 +279,7 @@ fit_site program r slots call plain few openable is s t following rest code same
           shift = omega (arith, parameters, takes, room);
         }
 
--- The computed size of an inlined call is the size of its code.
+-- The computed size of an inlined call equals the number of instructions of its code.
 pub same_size : (program : Program) (call : Call) (in_line : Bool) (t : Routine) (code : List Instruction) → t ≡ routine_at program call.callee → code ≡ t.code
     → site_size call t.results in_line code ≡ call_size program in_line call
 same_size program call in_line t code same is =
@@ -294,7 +297,7 @@ no_calls program r chosen slots none same = record {
   frame = inl same;
 }
 
--- An entry of a table extended by one is an old entry or the new last one.
+-- Each entry of a table extended by one entry is an old entry or the new last entry.
 pub last_line : (lines : List ℕ) (line : ℕ) (k : ℕ) → 0 < place_in (lines ++ line ∷ []) k
     → (place_in (lines ++ line ∷ []) k ≡ place_in lines k) ⊎ ((k ≡ length lines) × (place_in (lines ++ line ∷ []) k ≡ line))
 last_line [] line zero is = inr (refl, refl)
@@ -329,7 +332,7 @@ length_more old new need index long by =
     let longer : length new.chosen.items ≡ length (old.chosen.items ++ by.line ∷ []) = ap (λ (lines : List ℕ). length lines) by.chosen in
     omega (arith, longer, length-append old.chosen.items (by.line ∷ []), long)
 
--- The choice stays sound if one instruction is added, chosen or not.
+-- The choice of calls to inline stays valid if one more instruction is added, chosen or not.
 module _ (program : Program) (r : Routine) (old new : Choice) (need : Option Need) (index : ℕ) (i : Instruction) (at : At r.code index i)
     (long : length old.chosen.items ≡ index) (are : AreChosen program r old.chosen.items old.slots) (by : IsChosenBy old new need)
     (needed : (it : Need) → need ≡ Some it → IsNeed program r i it) (small : r.frame_count ≤ MOST_FRAME_WORDS) where

@@ -1,4 +1,5 @@
--- The costs of the places of an inlined program: each place has one origin in the given program, so no cost is counted twice.
+-- Lemmas about the costs of code positions in an inlined program. Each position has one origin in the source program, so no
+-- cost is counted twice.
 use Rattle.std.proofs.Common.{◌≡◌, ◌≢◌, ℕ, zero, suc, ◌+◌, ◌<◌, ◌≤◌, Bool, true, false, List, [], ◌∷◌, ◌++◌, length, map, get_or, Option, Some, None, slice_get, refl, sym, ap, subst, ◌∙◌, arith}
 use Rattle.std.specs.Prelude.{◌==◌, ◌&&◌, sum_by, Contains, if◌then◌else◌}
 use Rattle.std.specs.List.{AllByRecursion, range_with_len}
@@ -15,7 +16,7 @@ use Rattle.cyc_plain.proofs.Steps.{place_known}
 use Rattle.cyc_inline.specs.declared.origin.Origin.{Origin}
 use Rattle.cyc_inline.specs.inside.Opened.{origin_at, origins_of}
 
--- The places with this origin, by a decidable equality on origins.
+-- Lists the code positions with a given origin; equality of origins is decidable.
 module _ {P Q : Type 0} (same : P → P → Bool) (is : (p r : P) → same p r ≡ true → p ≡ r) (origin : Q → P) where
   abbrev pub made_of : List Q → P → List Q
   made_of [] p = []
@@ -26,7 +27,8 @@ module _ {P Q : Type 0} (same : P → P → Bool) (is : (p r : P) → same p r �
   own_sum price q qs p true e = sum_by-cons price q (made_of qs p)
   own_sum price q qs p false e = omega arith
 
-  -- A cost charged at one element of a list without duplicates is charged once.
+  -- If a list has no duplicates and a cost is charged for one of its elements, the total is that
+  -- cost.
   none_there : (x : ℕ) (r : P) (ps : List P) → AllByRecursion (λ p. r ≢ p) ps → sum_by (λ (p : P). if same p r then x else 0) ps ≡ 0
   none_there x r [] apart = refl
   none_there x r (p ∷ ps) (first, rest) =
@@ -59,7 +61,8 @@ module _ {P Q : Type 0} (same : P → P → Bool) (is : (p r : P) → same p r �
   nothing [] price = refl
   nothing (p ∷ ps) price = let a = sum_by-cons (λ (x : P). sum_by price (made_of [] x)) p ps in let r = nothing ps price in let z : sum_by price (made_of [] p) ≡ 0 = refl in omega (arith, a, r, z)
 
-  -- The places made from distinct origins cost no more than all places together.
+  -- The total cost of the positions made from distinct origins is at most the cost of all
+  -- positions.
   pub parts_cheap : (price : Q → ℕ) (ps : List P) (qs : List Q) → IsDistinct ps → sum_by (λ (p : P). sum_by price (made_of qs p)) ps ≤ sum_by price qs
   parts_cheap price ps [] distinct = let n = nothing ps price in omega (arith, n)
   parts_cheap price ps (q ∷ qs) distinct =
@@ -70,7 +73,7 @@ module _ {P Q : Type 0} (same : P → P → Bool) (is : (p r : P) → same p r �
       let all = sum_by-cons price q qs in
       omega (arith, split, one, rest, all)
 
-  -- A place is among the places made of its origin.
+  -- Each code position is in the list of positions made from its origin.
   pub made_has : (qs : List Q) (q : Q) (p : P) → same p (origin q) ≡ true → Contains qs q → Contains (made_of qs p) q
   made_has [] q p made (k, below, at) = absurd (omega (arith, below))
   made_has (x ∷ qs) q p made (zero, below, at) = (
@@ -105,7 +108,7 @@ same_is p q same =
 is_same : (p q : CodePlace) → p ≡ q → same_place p q ≡ true
 is_same p q e = and_from (p.function == q.function) (p.index == q.index) (eq-eqb p.function q.function (ap (λ (x : CodePlace). x.function) e)) (eq-eqb p.index q.index (ap (λ (x : CodePlace). x.index) e))
 
--- The places of one function, and of the functions from one on.
+-- The code positions of one function, and those of all functions from a given function on.
 one_function : (function index count : ℕ) → map (place_at function) (range_with_len index count) ≡ places_after function index count
 one_function function index zero = refl
 one_function function index (suc count) = ap (λ (places : List CodePlace). place_at function index ∷ places) (one_function function (index + 1) count)

@@ -1,6 +1,6 @@
--- The steps of an instruction with hoisted instructions and a duplicate before it, outside inlined calls. Several steps of the inlined
--- program match one source step. The extra steps write slots that the source call does not have; after these steps the instruction has the
--- same effect in both programs.
+-- Simulation of an instruction with hoisted instructions and a duplicate before it, outside inlined calls. Several steps of the inlined
+-- program match one source step. The extra steps write slots that the source call does not have. After the extra steps the instruction has
+-- the same effect in both programs.
 use Rattle.std.proofs.Common.{◌≡◌, ℕ, suc, ◌+◌, ◌<◌, ◌≤◌, Bool, true, false, ◌&&◌, List, [], ◌∷◌, ◌++◌, length, Option, Some, None, refl, sym, ap, subst, ◌∙◌, arith, inl, inr, length-append}
 use Rattle.std.specs.Prelude.{nat_le, Contains, if◌then◌else◌}
 use Rattle.std.specs.List.{AllByRecursion}
@@ -39,7 +39,8 @@ use Rattle.cyc_inline.proofs.Steps.{IsPrecededHere}
 use Rattle.cyc_inline.proofs.Passing.{after_inside, has_each}
 use Rattle.cyc_inline.proofs.Inside.{ordinary_calls, ordinary_limit, step_so}
 
--- An instruction preceded by hoisted ones is ordinary: control continues after it.
+-- An instruction that hoisted instructions may precede is ordinary: control falls through to the
+-- next instruction.
 preceded_ordinary : (i : Instruction) → may_follow_hoisted i ≡ true → is_ordinary i ≡ true
 preceded_ordinary (instructions.Move destination source) may = refl
 preceded_ordinary (instructions.MoveWords destination source count) may = refl
@@ -85,7 +86,7 @@ module _ (program inlined : Program) (origins : List (List Origin)) (are : AreOp
   abbrev place : ℕ → ℕ
   place = place_in program inlined origins are c.active.function
 
-  -- The step of the duplicated instruction in the inlined program, after the extra steps.
+  -- The duplicated instruction as it occurs in the inlined program, after the extra instructions.
   abbrev j : Instruction
   j = moved 0 place i
 
@@ -126,7 +127,7 @@ module _ (program inlined : Program) (origins : List (List Origin)) (are : AreOp
         ap (λ (fails : Bool). if fails then Stuck c.output c.input else gives here destination (binary_result operator (operand_word knower.slots left) (operand_word knower.slots right)))
         (has_result operator (operand_word knower.slots right) none)
 
-    -- A hoisted instruction writes a word to its slot without any other effect.
+    -- A hoisted instruction writes a word to its slot and has no other effect.
     by_hoisted : (x : Instruction) → IsHoisted r.slots s.slots x → FindsWord x
     by_hoisted (instructions.Move destination source) hoisted = record {
       slot = destination;
@@ -153,7 +154,7 @@ module _ (program inlined : Program) (origins : List (List Origin)) (are : AreOp
     }
     by_hoisted x hoisted = absurd (let e : None ≡ Some hoisted.slot = hoisted.is in cc)
 
-    -- The duplicate computes a word, or the source program gets stuck.
+    -- The duplicate of an instruction computes a word, unless the source program gets stuck.
     loaded : (destination offset slot : ℕ) (address : Operand) (o : Option ℕ) → r.slots ≤ slot → i ≡ instructions.Load destination address offset
         → memory_at program c (add_of (operand_word c.active.slots address) offset) ≡ o
         → memory_at inlined here (add_of (operand_word knower.slots address) offset) ≡ o → FindsWord (instructions.Load slot address offset)
@@ -225,7 +226,7 @@ module _ (program inlined : Program) (origins : List (List Origin)) (are : AreOp
 
   -- ---- the steps of the preceding instructions
 
-  -- The steps of the preceding instructions have no observable effect.
+  -- The steps of the instructions put before an instruction have no observable effect.
   way : (knower : Activation) → Way (Running (beside program inlined origins are c knower gs))
   way knower =
       way_before (machine program pages calls) (machine inlined pages calls) (matching program inlined origins are plain fine pages calls) (Running c)
@@ -236,7 +237,7 @@ module _ (program inlined : Program) (origins : List (List Origin)) (are : AreOp
       ap (λ (n : ℕ). nat_le (stores.demand c.store) pages && nat_le (suc n) calls) (as_deep program inlined origins are c.active.function c.frames gs waiting)
       ∙ matches.within
 
-  -- The state after a preceding instruction.
+  -- The active call after one of the instructions put before an instruction has written its slot.
   abbrev knowing : Activation → (slot word : ℕ) → Activation
   knowing knower slot word = record knower { slots = put knower.slots slot word; next = knower.next + 1 }
 

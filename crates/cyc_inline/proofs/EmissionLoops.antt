@@ -1,4 +1,5 @@
--- Emission in a loop, iteration by iteration: the code emitted so far followed by the remaining code is the whole.
+-- Invariants of the emitting loops: the code emitted so far, followed by the code still to emit, is the complete
+-- code.
 use Rattle.std.proofs.Common.{◌≡◌, ℕ, zero, suc, ◌+◌, ◌-◌, ◌<◌, Bool, List, [], ◌∷◌, ◌++◌, drop, length, replicate, refl, sym, ap, ◌∙◌, arith}
 use Rattle.std.specs.Prelude.{Result, Ok, Err, OnOk}
 use Rattle.std.specs.declared.alloc.AllocError.{AllocError}
@@ -13,7 +14,7 @@ use Rattle.cyc_inline.specs.inside.Opened.{passing}
 use Rattle.cyc_inline.specs.inside.Sites.{chosen_call, place_in}
 use Rattle.cyc_inline.specs.inside.Emission.{part, part_origins, part_count, opened_code, opened_origins, opened_places, opened_end}
 
--- Moving one more word extends the emitted moves.
+-- Emitting the move of one more word extends the list of emitted moves.
 pub passed_next : (destination source count word : ℕ) (all old new : List Instruction) → word < count
     → new ≡ old ++ instructions.Move (destination + word) (operands.Slot (source + word)) ∷ []
     → old ++ passing (destination + word) (source + word) (count - word) ≡ all
@@ -30,7 +31,7 @@ passed_next destination source count word all old new below is before =
     ∙ ap (λ (n : ℕ). one ++ passing (destination + (word + 1)) n (count - (word + 1))) from)
     before
 
--- Placing one more instruction extends the table of places.
+-- Assigning a code position to one more instruction extends the table of positions.
 pub placed_next : (program : Program) (chosen : List ℕ) (front_at : ℕ → Instruction → List Instruction) (in_line : Bool) (code : List Instruction) (index here count : ℕ) (i : Instruction) (all old new : List ℕ) → At code index i
     → new ≡ old ++ here ∷ [] → count ≡ part_count program in_line (chosen_call i (place_in chosen index)) (length (front_at index i))
     → old ++ opened_places program chosen front_at in_line index here (drop index code) ≡ all
@@ -44,7 +45,7 @@ placed_next program chosen front_at in_line code index here count i all old new 
     ∙ ap (λ (n : ℕ). here ∷ opened_places program chosen front_at in_line (index + 1) (here + n) (drop (index + 1) code)) (sym many))
     before
 
--- The end of the code stays where it is when one more instruction is placed.
+-- Assigning a code position to one more instruction does not change the end position of the code.
 pub ended_next : (program : Program) (chosen : List ℕ) (front_at : ℕ → Instruction → List Instruction) (in_line : Bool) (code : List Instruction) (index here count all : ℕ) (i : Instruction) → At code index i
     → count ≡ part_count program in_line (chosen_call i (place_in chosen index)) (length (front_at index i)) → opened_end program chosen front_at in_line index here (drop index code) ≡ all
     → opened_end program chosen front_at in_line (index + 1) (here + count) (drop (index + 1) code) ≡ all
@@ -55,7 +56,7 @@ ended_next program chosen front_at in_line code index here count all i at many b
     ∙ ap (λ (n : ℕ). opened_end program chosen front_at in_line (index + 1) (here + n) (drop (index + 1) code)) (sym many))
     ∙ before
 
--- Emitting the replacement of one more instruction extends the code.
+-- Emitting the replacement of one more instruction extends the emitted code.
 pub opened_next : (program : Program) (number : ℕ) (chosen : List ℕ) (front_at : ℕ → Instruction → List Instruction) (place rest : ℕ → ℕ) (in_line : Bool) (code : List Instruction) (index : ℕ) (i : Instruction) (all old new : List Instruction)
     → At code index i → new ≡ old ++ part program number place rest in_line index i (chosen_call i (place_in chosen index)) (front_at index i)
     → old ++ opened_code program number chosen front_at place rest in_line index (drop index code) ≡ all
@@ -69,7 +70,7 @@ opened_next program number chosen front_at place rest in_line code index i all o
     ∙ ap (λ (n : ℕ). here ++ opened_code program number chosen front_at place rest in_line n (drop (index + 1) code)) next)
     before
 
--- Emitting the replacement of one more instruction extends the origins.
+-- Emitting the replacement of one more instruction extends the list of origins.
 pub opened_origins_next : (program : Program) (number : ℕ) (chosen : List ℕ) (front_at : ℕ → Instruction → List Instruction) (in_line : Bool) (code : List Instruction) (index : ℕ) (i : Instruction) (all old new : List Origin)
     → At code index i → new ≡ old ++ part_origins program number in_line index (chosen_call i (place_in chosen index)) (length (front_at index i))
     → old ++ opened_origins program number chosen front_at in_line index (drop index code) ≡ all
@@ -94,7 +95,8 @@ pub front_origins : (origin : Origin) (all_hoisted duplicate : List Instruction)
 front_origins origin [] duplicate = replicate_last origin (length duplicate)
 front_origins origin (x ∷ all_hoisted) duplicate = ap (λ (os : List Origin). origin ∷ os) (front_origins origin all_hoisted duplicate)
 
--- Weakens the condition on a successful result.
+-- If a condition on a successful result implies another condition, the result satisfies the other
+-- condition too.
 pub then_ok : {T : Type 0} {P Q : Type 0} (result : Result T AllocError) → OnOk result P → (P → Q) → OnOk result Q
 then_ok (Ok value) holds next = next holds
 then_ok (Err e) holds next = tt

@@ -1,4 +1,5 @@
--- The places of the instructions of a function with inlined calls, and hence its code.
+-- Lemmas about the code positions of a function's instructions after inlining, from which the
+-- function's code follows.
 use Rattle.std.proofs.Common.{◌≡◌, ℕ, zero, suc, ◌+◌, ◌<◌, ◌^◌, ◌≤◌, Bool, true, false, List, [], ◌∷◌, ◌++◌, length, replicate, Option, Some, None, refl, sym, ap, subst, ◌∙◌, arith, inl, inr, length-append}
 use Rattle.std.specs.Prelude.{◌⊎◌, if◌then◌else◌}
 use Rattle.std.specs.List.{AllByRecursion}
@@ -25,7 +26,8 @@ use Rattle.cyc_inline.proofs.EmissionSites.{is_site, site_long, site_origins_lon
 
 -- ---- the tables of places
 
--- The size of an instruction's replacement, in line or out of line.
+-- The number of instructions in an instruction's replacement, for the in-line or the out-of-line
+-- part.
 abbrev pub count_at : Program → List ℕ → (front_at : ℕ → Instruction → List Instruction) → (in_line : Bool) → (index : ℕ) → Instruction → ℕ
 count_at program chosen front_at in_line index i = part_count program in_line (chosen_call i (place_in chosen index)) (length (front_at index i))
 
@@ -44,7 +46,7 @@ end_is program chosen front_at in_line first here [] = omega arith
 end_is program chosen front_at in_line first here (i ∷ code) =
     omega (arith, end_is program chosen front_at in_line (suc first) (here + count_at program chosen front_at in_line first i) code)
 
--- The end of the code is not before its start.
+-- The end position of the code is not before its start position.
 end_least : (program : Program) (chosen : List ℕ) (front_at : ℕ → Instruction → List Instruction) (in_line : Bool) (first here : ℕ) (code : List Instruction) → here ≤ opened_end program chosen front_at in_line first here code
 end_least program chosen front_at in_line first here [] = omega arith
 end_least program chosen front_at in_line first here (i ∷ code) =
@@ -57,7 +59,7 @@ place_most program chosen front_at in_line first here [] (suc k) = omega arith
 place_most program chosen front_at in_line first here (i ∷ code) zero = end_least program chosen front_at in_line first here (i ∷ code)
 place_most program chosen front_at in_line first here (i ∷ code) (suc k) = place_most program chosen front_at in_line (suc first) (here + count_at program chosen front_at in_line first i) code k
 
--- The emitted tables satisfy `AreParts`.
+-- The tables of code positions that the crate emits satisfy `AreParts`.
 pub parts_are : (program : Program) (number : ℕ) (choice : Choice) (places rests : List ℕ) (table rest : Places) → IsPlain program → number < length program.functions
     → AreChosen program (routine_at program number) choice.chosen.items choice.slots → choice.slots < 2 ^ 64
     → places ≡ table.places.items → table.places.items ≡ opened_places program choice.chosen.items (front_by program number choice) true 0 0 (routine_at program number).code
@@ -78,7 +80,8 @@ parts_are program number choice places rests table rest plain is_function calls 
       omega (arith, most, same, is_last, within));
 }
 
--- The replacement of the next instruction follows that of the current one.
+-- The replacement of the next instruction directly follows the replacement of the current
+-- instruction.
 pub place_next : (program : Program) (chosen : List ℕ) (front_at : ℕ → Instruction → List Instruction) (in_line : Bool) (here : ℕ) (code : List Instruction) (places : List ℕ) (k : ℕ) (i : Instruction)
     → places ≡ opened_places program chosen front_at in_line 0 here code → At code k i → place_in places (k + 1) ≡ place_in places k + count_at program chosen front_at in_line k i
 place_next program chosen front_at in_line start code places k i are at =
@@ -131,7 +134,7 @@ module _ (program : Program) (number : ℕ) (chosen : List ℕ) (front_at : ℕ 
 
 -- ---- the function of these parts
 
--- The function consists of the given parts.
+-- Says that a function's code and origins consist of the given parts.
 pub record IsOf (program : Program) (number : ℕ) (chosen : List ℕ) (front_at : ℕ → Instruction → List Instruction) (places rests : List ℕ) (s : Routine) (origins : List Origin) : Type 0 where
   pub parts : AreParts program number chosen front_at places rests s.slots
   pub name : s.name ≡ (routine_at program number).name
@@ -156,11 +159,12 @@ module _ (program : Program) (number : ℕ) (chosen : List ℕ) (front_at : ℕ 
   abbrev rest : ℕ → ℕ
   rest = place_in rests
 
-  -- The place where an instruction's replacement begins, in line or out of line.
+  -- The code position where an instruction's replacement begins, for the in-line or the out-of-line
+  -- part.
   abbrev pub begins : (in_line : Bool) → (k : ℕ) → ℕ
   begins in_line k = if in_line then place k else rest k
 
-  -- The place where the whole part begins, in line or out of line.
+  -- The code position where the in-line part of a function begins, or its out-of-line part.
   abbrev pub begin : (in_line : Bool) → ℕ
   begin in_line = if in_line then 0 else opened_end program chosen front_at true 0 0 r.code
 
@@ -237,7 +241,7 @@ module _ (program : Program) (number : ℕ) (chosen : List ℕ) (front_at : ℕ 
   next_is : (k : ℕ) (i : Instruction) → At r.code k i → place (k + 1) ≡ place k + count_at program chosen front_at true k i
   next_is k i at = place_next program chosen front_at true 0 r.code places k i is.parts.standing at
 
-  -- An instruction that may not be preceded has nothing before it.
+  -- If an instruction may not have instructions put before it, it has none before it.
   pub has_no_front : (k : ℕ) (i : Instruction) → may_follow_hoisted i ≡ false → front_at k i ≡ []
   has_no_front k i may_not = go (front_at k i) (is.parts.fronts k i)
     where
@@ -245,7 +249,7 @@ module _ (program : Program) (number : ℕ) (chosen : List ℕ) (front_at : ℕ 
       go [] stands = refl
       go (x ∷ front) stands = absurd (false≢true (sym may_not ∙ stands.some (omega arith)))
 
-  -- An instruction that is its own replacement, with the instructions before it.
+  -- Says that an instruction is replaced by itself, together with the instructions put before it.
   record IsOwn (k : ℕ) (i : Instruction) (front : List Instruction) : Type 0 where
     pub code : StandsAt s.code (own_part place i front) (place k)
     pub made : AreMadeOf origins (place k) (suc (length front)) (origin_at number k)
@@ -270,7 +274,7 @@ module _ (program : Program) (number : ℕ) (chosen : List ℕ) (front_at : ℕ 
       let (here, nothing) = has_at s.code (moved 0 place i ∷ []) (place k) own.code in
       (here, own.made, own.next)
 
-  -- The instructions put before an instruction satisfy `MayPrecede`.
+  -- The instructions put before an instruction satisfy the condition `MayPrecede`.
   may_precede : (i : Instruction) (front : List Instruction) → AllByRecursion (λ (x : Instruction). (may_hoisted (length program.globals) r.slots s.slots x ≡ true) ⊎ IsDuplicate r.slots s.slots i x) front
       → AllByRecursion (MayPrecede r.slots s.slots i) front
   may_precede i [] each = tt

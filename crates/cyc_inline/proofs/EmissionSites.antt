@@ -1,4 +1,4 @@
--- The code of an inlined call satisfies `IsSite` at any position.
+-- The emitted code of an inlined call satisfies `IsSite` at any code position.
 use Rattle.std.proofs.Common.{◌≡◌, ℕ, zero, suc, ◌+◌, ◌<◌, ◌≤◌, Bool, true, false, List, [], ◌∷◌, ◌++◌, length, replicate, Option, Some, None, slice_get, refl, sym, ap, subst, ◌∙◌, arith, inl, inr, append_assoc, length-append}
 use Rattle.std.specs.Prelude.{◌==◌, nat_lt, if◌then◌else◌}
 use Rattle.std.proofs.lemmas.Bool.{cases_lt, eqb-true, le-leb, false≢true}
@@ -37,7 +37,8 @@ part_long site place index i (Some value) =
     )
 part_long site place index i None = refl
 
--- The replacement of a callee's instruction, in line or out of line.
+-- The replacement of a callee's instruction in the in-line or the out-of-line part; it is empty in
+-- the other part.
 abbrev pub piece_inside : Site → (place : ℕ → ℕ) → (in_line : Bool) → (index : ℕ) → Instruction → List Instruction
 piece_inside site place in_line index i = if stands_in in_line site.call.line index then inside_part site place index i (is_end i) else []
 
@@ -84,7 +85,7 @@ rest_place results line first here there (i ∷ code) (suc k) within past =
     let rest = rest_place results line (suc first) (here + count_inside results line true first i) (there + count_inside results line false first i) code k (omega (arith, within)) (omega (arith, past)) in
     omega (arith, rest)
 
--- No instruction after the in-line part stands in line.
+-- The instructions after the callee's in-line part contribute no in-line code.
 none_past : (results line first : ℕ) (code : List Instruction) (k : ℕ) → line ≤ first → offset (count_inside results line true) first code k ≡ 0
 none_past results line first [] k past = refl
 none_past results line first (i ∷ code) zero past = refl
@@ -141,11 +142,12 @@ module _ (program : Program) (code : List Instruction) (origins : List Origin) (
   abbrev counts : (in_line : Bool) → ℕ → Instruction → ℕ
   counts in_line = count_inside site.results site.call.line in_line
 
-  -- The place where the in-line part begins, or the out-of-line part.
+  -- The code position where the in-line part of an inlined call begins, or its out-of-line part.
   abbrev begin : (in_line : Bool) → ℕ
   begin in_line = if in_line then first else site.rest
 
-  -- An instruction of the callee is in line or out of line, at the place that the table gives.
+  -- Says that a callee's instruction is in the in-line or out-of-line part, at the code position
+  -- that the table states.
   record IsThere (k : ℕ) : Type 0 where
     pub in_line : Bool
     pub stands : stands_in in_line site.call.line k ≡ true
@@ -193,7 +195,8 @@ module _ (program : Program) (code : List Instruction) (origins : List Origin) (
         (stands_within origins (pieces piece 0 t.code) (piece k i) (begin is.in_line) (offset (counts is.in_line) 0 t.code k) whole
         (subst (λ (n : ℕ). StandsAt (pieces piece 0 t.code) (piece n i) (offset (counts is.in_line) 0 t.code k)) same inner))))
 
-    -- The offset of the next instruction in the part that contains this one.
+    -- In the same part, the offset of the next instruction is the offset of the current instruction
+    -- plus the size of its replacement.
     further : (in_line : Bool) (k : ℕ) (i : Instruction) → At t.code k i → stands_in in_line site.call.line k ≡ true
         → offset (counts in_line) 0 t.code (k + 1) ≡ offset (counts in_line) 0 t.code k + inside_count site.results site.call.line k (is_end i)
     further in_line k i at is =
@@ -201,7 +204,8 @@ module _ (program : Program) (code : List Instruction) (origins : List Origin) (
         offset_next (counts in_line) 0 t.code k i at
         ∙ ap (λ (n : ℕ). offset (counts in_line) 0 t.code k + n) (same ∙ count_there site.results site.call.line in_line k i is)
 
-    -- The next instruction follows an instruction unless control never falls through.
+    -- The replacement of the next instruction directly follows an instruction's replacement, unless
+    -- control never falls through.
     next_place : (k : ℕ) (i : Instruction) → At t.code k i → leaves i ≡ false → k + 1 < length t.code → place (k + 1) ≡ place k + inside_count site.results site.call.line k (is_end i)
     next_place k i at stays more = elim (cases_lt (k + 1) site.call.line) [
       | inl before ↦
@@ -217,7 +221,7 @@ module _ (program : Program) (code : List Instruction) (origins : List Origin) (
       ]
     ]
 
-    -- The caller continues after the last instruction in line.
+    -- After the last in-line instruction of the callee, control continues in the caller.
     last_place : (k : ℕ) (i : Instruction) → At t.code k i → k + 1 ≡ site.call.line → site.following ≡ place k + inside_count site.results site.call.line k (is_end i)
     last_place k i at last =
         let here = line_place site.results site.call.line 0 first site.rest t.code k (below_from_slice_get t.code k i at) (omega (arith, last)) in
@@ -232,7 +236,7 @@ module _ (program : Program) (code : List Instruction) (origins : List Origin) (
     later from count more origin are k below =
         let same : from + count + k ≡ from + (count + k) = omega arith in ap (slice_get origins) same ∙ are (count + k) (omega (arith, below))
 
-    -- A return continues after the call.
+    -- The replacement of a return ends with control at the position after the call.
     goes : (k value : ℕ) (is_last : Bool) → (is_last ≡ true → site.following ≡ place k + (site.results + way_count is_last))
         → StandsAt code (passing site.call.result (site.shift + value) site.results ++ way_following is_last site.following) (place k)
         → AreMadeOf origins (place k) (site.results + way_count is_last) (origin_at site.call.callee k)
@@ -272,7 +276,8 @@ module _ (program : Program) (code : List Instruction) (origins : List Origin) (
 
 -- ---- the inlined call
 
--- The in-line and out-of-line code of an inlined call stand at their places, so the callee's code stands in the caller.
+-- If the in-line and out-of-line code of an inlined call are at their positions, the caller's code contains the
+-- callee's code.
 module _ (program : Program) (r s : Routine) (origins : List Origin) (number index here following rest : ℕ) (call : Call) (openable : IsOpenable program r s.slots call)
     (routine : IsRoutine program (routine_at program call.callee)) (next : following ≡ here + call_size program true call)
     (stands : (in_line : Bool) → StandsAt s.code (site_code (site_of program r call following rest) in_line here (routine_at program call.callee).code) (if in_line then here else rest))

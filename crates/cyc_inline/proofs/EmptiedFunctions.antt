@@ -1,4 +1,4 @@
--- The contracts of the functions that drop unreachable code.
+-- Lemmas for the contracts of the functions that remove unreachable code.
 use Rattle.std.proofs.Common.{◌≡◌, ℕ, zero, suc, ◌+◌, ◌<◌, ◌≤◌, Bool, true, List, [], ◌∷◌, ◌++◌, length, map, Option, Some, None, slice_get, refl, sym, ap, subst, ◌∙◌, arith, inl, inr, append_assoc}
 use Rattle.std.specs.Prelude.{slice_index_or}
 use Rattle.std.proofs.lemmas.Bool.{cases_lt}
@@ -28,7 +28,7 @@ leads_still old new i stay leads = tt
 pub stay_then : (old mid new : List Bool) → StayReached old mid → StayReached mid new → StayReached old new
 stay_then old mid new (many, first) (as_many, second) = (as_many ∙ many, λ k is. second k (first k is))
 
--- Marking the callees of one more instruction, or of one more function, keeps the invariant.
+-- Marking the callees of one more instruction, or of one more function, keeps the loop invariant.
 pub noted_next : (code : List Instruction) (index : ℕ) (i : Instruction) (old new : List Bool) → At code index i → StayReached old new → LeadsTo new i
     → ((p : ℕ) (j : Instruction) → p < index → At code p j → LeadsTo old j) → (p : ℕ) (j : Instruction) → p < index + 1 → At code p j → LeadsTo new j
 noted_next code index i old new at stay leads before p j below there = elim (cases_lt p index) [
@@ -150,7 +150,8 @@ reported_still program given notes reached many are = record {
       (kept_is_reported (is_reached reached k) (routine_at program k) (routine_at given k) (slice_index_or notes k None) (are.each k below))));
 }
 
--- The program made of the kept functions.
+-- The program made of the kept functions equals the source program without the code of unreachable
+-- functions.
 pub kept_program : (given : Program) (fs gs : List Function) (globals : List ℕ) (main : ℕ) (reached : List Bool) → program_of fs globals main ≡ given
     → map routine_of gs ≡ routines_kept (map routine_of fs) reached → program_of gs globals main ≡ emptied given reached
 kept_program given fs gs globals main reached parts kept =

@@ -1,4 +1,5 @@
--- The step that enters an inlined call: arguments are moved, stack room is checked, and the call becomes active.
+-- Simulation of the steps that enter an inlined call: the arguments are moved, stack space is checked, and the
+-- call becomes active.
 use Rattle.std.proofs.Common.{◌≡◌, ℕ, suc, ◌+◌, ◌-◌, ◌<◌, Bool, true, ◌&&◌, List, [], ◌∷◌, ◌++◌, length, Option, Some, refl, sym, ap, subst, ◌∙◌, arith, inl, inr, length-append}
 use Rattle.std.specs.Prelude.{nat_le, Contains}
 use Rattle.std.specs.List.{AllByRecursion}
@@ -48,7 +49,7 @@ module _ (program inlined : Program) (origins : List (List Origin)) (are : AreOp
   abbrev entry : List Instruction
   entry = passing shift arguments count ++ instructions.Enter callee ∷ []
 
-  -- The state after the moves of the arguments.
+  -- The caller's activation after the arguments are moved.
   abbrev passer : Activation
   passer = record b { slots = passed shift arguments count b.slots; next = b.next + count }
 
@@ -88,7 +89,8 @@ module _ (program inlined : Program) (origins : List (List Origin)) (are : AreOp
   words : HoldsWords (Running e)
   words = (passed_words shift arguments count b.slots matches.words.0, matches.words.1, matches.words.2, matches.words.3, matches.words.4)
 
-  -- The slots of the source call are the extra slots of the caller in the inlined program.
+  -- The slots of the source call correspond to the extra slots of the caller in the inlined
+  -- program.
   abbrev found : Words
   found = λ (k : ℕ). passer.slots (shift + k)
 
@@ -101,7 +103,7 @@ module _ (program inlined : Program) (origins : List (List Origin)) (are : AreOp
     frames = record { caller = (advanced c).active; result = result } ∷ c.frames;
   }
 
-  -- The slots of the source call may be allocated at the chosen address.
+  -- The address chosen in the inlined program is allowed for the stack frame of the source call.
   allowed_above : (choice : Choice) → IsAllowed inlined (Running e) choice → IsAllowed program (Running c) (chosen choice)
   allowed_above choice allowed =
       let lies : IsBelow inlined callee choice.base b.base = subst (λ (o : Option ℕ). MayLie inlined choice.base o (Running e)) (ap callee_of enter_at) allowed.lies in
@@ -112,7 +114,7 @@ module _ (program inlined : Program) (origins : List (List Origin)) (are : AreOp
         high = (let high = lies.high in let slots = (each_opened program inlined origins are callee).like.slots in let there = same.slotted.base in omega (arith, high, slots, there));
       })
 
-  -- Each slot of the source call equals one of the caller's extra slots.
+  -- Each slot of the source call equals the corresponding extra slot of the caller.
   slots_same : (k : ℕ) → passer.slots (shift + k) ≡ copied c.active.slots arguments count found 0 k
   slots_same k = elim (cases_lt k count) [
     | inl argument ↦
@@ -183,7 +185,7 @@ module _ (program inlined : Program) (origins : List (List Origin)) (are : AreOp
           (Running (entered choice)) (Ended Full c.output c.input) (Running (advanced e)) (Ended Full c.output c.input)
           (within_same choice) (inr (lodged choice)) refl))
 
-  -- The moves have no observable effect.
+  -- The moves of the arguments have no observable effect.
   way : (slots : Words) (next : ℕ) → IsOnTheWay (machine program pages calls) (machine inlined pages calls) (Running c) (Running (beside program inlined origins are c (record b { slots = slots; next = next }) gs))
   way slots next =
       way_before (machine program pages calls) (machine inlined pages calls) (matching program inlined origins are plain fine pages calls) (Running c)

@@ -1,4 +1,4 @@
--- The steps inside an inlined call, except its return.
+-- Simulation of the steps inside an inlined call, except its return.
 use Rattle.std.proofs.Common.{◌≡◌, ℕ, zero, suc, ◌+◌, ◌≤◌, true, false, List, [], ◌∷◌, length, Some, refl, sym, ap, subst, ◌∙◌, arith, inl, inr}
 use Rattle.std.specs.Prelude.{◌⊎◌, nat_le, Contains}
 use Rattle.std.proofs.lemmas.Bool.{and_from, and_parts, le-leb, leb-true}
@@ -30,7 +30,7 @@ ordinary_calls (instructions.Ask request) ordinary = ordinary
 ordinary_calls (instructions.Enter function) ordinary = ordinary
 ordinary_calls i ordinary = refl
 
--- An ordinary instruction makes the same step under every choice.
+-- An ordinary instruction makes the same step for every choice of a stack address.
 ordinary_moved : (program : Program) (d : Configuration) (shift : ℕ) (place : ℕ → ℕ) (choice other : Choice) (i : Instruction) → is_ordinary i ≡ true
     → performed program choice d (moved shift place i) ≡ performed program other d (moved shift place i)
 ordinary_moved program d shift place choice other (instructions.Call function arguments count result) ordinary = absurd (let e : false ≡ true = ordinary in cc)
@@ -42,7 +42,7 @@ pub ordinary_limit : (shift : ℕ) (place : ℕ → ℕ) (calls : ℕ) (i : Inst
 ordinary_limit shift place calls (instructions.Enter function) ordinary = absurd (let e : false ≡ true = ordinary in cc)
 ordinary_limit shift place calls i ordinary = refl
 
--- The step of an instruction that calls no function.
+-- The step of an instruction that calls no function, if the resulting state is within the limits.
 pub step_so : (program : Program) (pages calls : ℕ) (c : Configuration) (i : Instruction) (s : State) → instruction_at program (place_of (Running c)) ≡ Some i → calls_nothing i ≡ true
     → performed program zeros c i ≡ s → is_within pages calls s ≡ true → Step program pages calls (Running c) s
 step_so program pages calls c i s at free does within = (
@@ -54,7 +54,8 @@ step_so program pages calls c i s at free does within = (
       ∙ limited-within pages calls (Running c) s within))),
 )
 
--- A state with fewer calls than another is within the limits that the other is within.
+-- If a state has at most as many calls as a state within the limits, and the same heap demand, it
+-- is within the limits too.
 pub fewer_within : (pages calls : ℕ) (c d : Configuration) → stores.demand d.store ≡ stores.demand c.store → length d.frames ≤ length c.frames → is_within pages calls (Running c) ≡ true → is_within pages calls (Running d) ≡ true
 fewer_within pages calls c d as_much fewer within =
     let (paged, some) = and_parts (nat_le (stores.demand c.store) pages) (nat_le (suc (length c.frames)) calls) within in
@@ -63,7 +64,7 @@ fewer_within pages calls c d as_much fewer within =
     (le-leb (suc (length d.frames)) calls (let l = leb-true (suc (length c.frames)) calls some in omega (arith, l, fewer)))
 
 module _ (program inlined : Program) (origins : List (List Origin)) (are : AreOpened program inlined origins) where
-  -- An inlined call is active whatever the next place is.
+  -- The relation of an inlined call's states does not depend on the next code position.
   abbrev pub lodged_at : (c : Configuration) (b : Activation) (gs : List Frame) (next : ℕ) → IsLodged program inlined origins are c b gs → IsLodged program inlined origins are c (record b { next = next }) gs
   lodged_at c b gs next l = record {
     waits = l.waits;
@@ -81,7 +82,8 @@ module _ (program inlined : Program) (origins : List (List Origin)) (are : AreOp
     handlers = l.handlers;
   }
 
-  -- The inlined program has one active call less.
+  -- In an inlined call, the inlined program has one active call less than the source program, so it
+  -- is within the same limits.
   pub lodged_within : (pages calls : ℕ) (c : Configuration) (b : Activation) (gs : List Frame) → IsLodged program inlined origins are c b gs → is_within pages calls (Running c) ≡ true
       → is_within pages calls (Running (beside program inlined origins are c b gs)) ≡ true
   lodged_within pages calls c b gs l within =
@@ -154,7 +156,7 @@ module _ (program inlined : Program) (origins : List (List Origin)) (are : AreOp
           above : Step program pages calls (Running c) (Running e)
           above = step_so program pages calls c i (Running e) at (ordinary_calls i ordinary) does within
 
-          -- After these steps both programs are again at corresponding places.
+          -- After these steps both programs are at corresponding code positions again.
           arrives : (u : State) (other : ℕ) → u ≡ Running (beside program inlined origins are e (record g.active { next = other }) g.frames) → other ≡ place e.active.next → HoldsWords u
               → (s : State) × Step program pages calls (Running c) s × Matches program inlined origins are plain fine pages calls s u
           arrives u other is to words = (
@@ -176,14 +178,16 @@ module _ (program inlined : Program) (origins : List (List Origin)) (are : AreOp
               by_one (machine program pages calls) (machine inlined pages calls) (matching program inlined origins are plain fine pages calls) (Running c) (Running d) matches refl owned
               (λ u step. arrives u g.active.next (comes_to u step) to (words_kept program inlined origins are plain fine pages calls (Running d) u matches.words step))
 
-          -- A jump stands between the instruction and its successor.
+          -- The case in which a jump lies between an instruction's replacement and the replacement
+          -- of its successor.
           module _ (following : e.active.next ≡ c.active.next + 1) (beyond : g.active.next ≡ b.next + 1)
               (jump_at : At (routine_at inlined lodged.waits.caller.function).code (b.next + 1) (instructions.Jump (lodged.site.place (c.active.next + 1))))
               (jump_made : AreMadeOf (origins_of origins lodged.waits.caller.function) (b.next + 1) 1 (origin_at c.active.function c.active.next)) where
             abbrev target : ℕ
             target = place (c.active.next + 1)
 
-            -- The place of the active call in the inlined program after the instruction.
+            -- The code position of the active call in the inlined program after the instruction's
+            -- step.
             stands_after : place_of (Running below) ≡ place_at b.function (b.next + 1)
             stands_after = λ k. place_at ((g.lodges.slotted.function ∙ (g.caller ∙ sym lodged.slotted.function)) k) (beyond k)
 
@@ -243,7 +247,8 @@ module _ (program inlined : Program) (origins : List (List Origin)) (are : AreOp
         by_state (Ended ending output input) does going = absurd going
         by_state (Stuck output input) does going = absurd (never (Stuck output input) (step_so program pages calls c i (Stuck output input) at (ordinary_calls i ordinary) does (stuck_within pages calls output input)) refl)
 
-        -- After the instruction, control continues at the place of its successor.
+        -- After an instruction that falls through, control continues at the code position of its
+        -- successor.
         falls_here : leaves i ≡ false → Falls program inlined origins are plain.well_formed c b gs lodged
         falls_here stays =
             subst (λ (n : ℕ). GoesTo code others (n + 1) (place (c.active.next + 1)) (origin_at c.active.function c.active.next)) (sym next) (falls stays)

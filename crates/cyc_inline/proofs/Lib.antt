@@ -1,12 +1,12 @@
--- the costs of places, each with one origin in the given program
+-- lemmas: the costs of code positions, each of which has one origin in the source program
 pub mod Costs
--- words moved one by one
+-- lemmas: moving words one by one equals copying them at once
 pub mod Moves
--- agreement of slots, calls and memory
+-- lemmas: agreement of slots, calls and memory in both programs
 pub mod Agreeing
 pub mod Waiting
 pub mod Memory
--- the effects of instructions
+-- lemmas: the effects of instructions in both programs
 pub mod Performing
 pub mod Outside
 pub mod Lodged
@@ -18,26 +18,27 @@ pub mod Entering
 pub mod Inside
 pub mod Duplicates
 pub mod Returning
--- each run of an inlined program is one of the given program
+-- lemmas: each run of an inlined program is a run of the source program
 pub mod Runs
--- the chosen calls may be inlined, and their numbers fit
+-- lemmas: the chosen calls may be inlined, and their numbers fit machine words
 pub mod ChoosingCalls
--- the places of the emitted pieces, and hence the code
+-- lemmas: the code positions of the emitted pieces, and hence the emitted code
 pub mod EmissionPieces
 pub mod EmissionSites
 pub mod EmissionPlaces
--- the emitting loops, iteration by iteration
+-- lemmas: the loops that emit code, iteration by iteration
 pub mod EmissionLoops
--- everything that the code names exists, so a function correctly replaces the given one
+-- lemmas: everything that the emitted code names exists, so an emitted function correctly replaces
+-- its source function
 pub mod RangesMoved
 pub mod RangesCode
 pub mod RangesEnds
 pub mod RangesFunction
 pub mod RangesCopied
--- the result is a plain program
+-- lemmas: the result of inlining is a plain program
 pub mod Whole
 pub mod EmissionPrograms
--- programs whose unreachable functions have no code
+-- lemmas: programs in which unreachable functions have no code
 pub mod EmptiedSteps
 pub mod EmptiedProgram
 pub mod EmptiedFunctions

@@ -1,5 +1,5 @@
--- An active inlined call: in the source it is a call of its own. In the inlined program its slots are extra slots of its caller, and its
--- code is in the caller's.
+-- The relation of states during an inlined call. In the source program, the inlined call is a call of its own. In the inlined program,
+-- its slots are extra slots of its caller, and the caller's code contains its code.
 use Rattle.std.proofs.Common.{◌≡◌, ℕ, suc, ◌+◌, Bool, true, false, List, [], ◌∷◌, length, Option, Some, None, refl, sym, ap, subst, ◌∙◌, arith, inr}
 use Rattle.std.specs.Prelude.{◌&&◌, ◌==◌, ◌*◌, ◌/◌, ◌-◌, if◌then◌else◌}
 use Rattle.cyc_store.specs.State.{StoreState, has_saved, word_at}
@@ -23,13 +23,13 @@ use Rattle.cyc_inline.proofs.Performing.{is_ordinary, IsNext, Bears, performs}
 
 module _ (program inlined : Program) (origins : List (List Origin)) (are : AreOpened program inlined origins) where
   pub record IsLodged (c : Configuration) (b : Activation) (gs : List Frame) : Type 0 where
-    -- The caller waits in the source program and is active in the inlined one.
+    -- The caller waits in the source program and is the active call in the inlined program.
     pub waits : Frame
     pub rest : List Frame
     pub frames : c.frames ≡ waits ∷ rest
     pub slotted : AreSlotted program inlined origins are waits.caller b
     pub waiting : AreWaiting program inlined origins are waits.caller.function rest gs
-    -- The call that was inlined.
+    -- The call instruction that was inlined: its index, its arguments and its code in the caller.
     pub index : ℕ
     pub arguments : ℕ
     pub count : ℕ
@@ -37,7 +37,7 @@ module _ (program inlined : Program) (origins : List (List Origin)) (are : AreOp
     pub calls : At (routine_at program waits.caller.function).code index (instructions.Call c.active.function arguments count waits.result)
     pub site : IsSite program (routine_at inlined waits.caller.function) (origins_of origins waits.caller.function) (slots_of program inlined origins are waits.caller.function) waits.caller.function index
         (place_in program inlined origins are waits.caller.function index) (place_in program inlined origins are waits.caller.function (index + 1)) c.active.function arguments count waits.result
-    -- The slots of the call agree, and the call has no handler.
+    -- The slots of the inlined call agree in both programs, and the call has no exception handler.
     pub slots : Agree (slots_of program inlined origins are c.active.function) c.active.slots (from_slot (slots_of program inlined origins are waits.caller.function) b.slots)
     pub handlers : c.active.handlers ≡ []
 
@@ -79,7 +79,8 @@ module _ (program inlined : Program) (origins : List (List Origin)) (are : AreOp
 
     -- ---- the call continues
 
-    -- The place at which control continues after an instruction of the inlined call.
+    -- Says that control falls through or jumps to the code position after an instruction of the
+    -- inlined call.
     abbrev pub Falls : Type 0
     Falls = GoesTo (routine_at inlined lodged.waits.caller.function).code (origins_of origins lodged.waits.caller.function) (b.next + 1) (lodged.site.place (c.active.next + 1)) (origin_at c.active.function c.active.next)
 
@@ -97,13 +98,15 @@ module _ (program inlined : Program) (origins : List (List Origin)) (are : AreOp
       pub as_much : stores.demand e.store ≡ stores.demand c.store
       pub as_deep : length e.frames ≡ length c.frames
 
-    -- A run of the source that does not fail does not end inside the inlined call.
+    -- Says that states match during an inlined call; the source run does not end inside the inlined
+    -- call.
     abbrev pub Going : State → State → Type 0
     Going (Running e) t = IsGoing e t
     Going (Ended ending output input) t = ⊥
     Going (Stuck output input) t = Unit {0}
 
-    -- The call of the inlined program with other slots, at another place.
+    -- The relation of an inlined call still holds after its slots and code position change
+    -- correspondingly in both programs.
     abbrev moved_on : (slots others : Words) (to other : ℕ) (globals : Words) (store : StoreState) (output input : List ℕ) → Agree leaf.slots slots (from_slot shift others) → Agree shift b.slots others
         → IsLodged (record c { active = record c.active { slots = slots; next = to }; globals = globals; store = store; output = output; input = input }) (record b { slots = others; next = other }) gs
     moved_on slots others to other globals store output input agree kept = record {
@@ -156,7 +159,7 @@ module _ (program inlined : Program) (origins : List (List Origin)) (are : AreOp
       by_store (Some old) = stays c.globals (has_saved c.store address word (Some old)) refl
       by_store None = stays c.globals c.store refl
 
-      -- The write reaches a slot of the caller, or of a call that waits for it.
+      -- A write to memory changes a slot of the caller, or of a call that waits for the caller.
       by_slot : (o : Option ℕ) → slot_at program f.caller address ≡ o
           → IsWritten (record c { frames = put_or o word f lodged.rest (with_waiting program lodged.rest address word) }) (with_slot inlined d o address word)
       by_slot (Some number) at = record {

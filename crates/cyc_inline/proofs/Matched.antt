@@ -1,4 +1,5 @@
--- The simulation relation between the states of a program and of the inlined one, and lemmas that restore it.
+-- The simulation relation between the states of a program and of its inlined version, and lemmas that restore
+-- the relation after a step.
 use Rattle.std.proofs.Common.{◌≡◌, ℕ, suc, ◌+◌, ◌<◌, Bool, true, false, ◌&&◌, List, Option, Some, slice_get, refl, sym, ap, subst, ◌∙◌, arith, inl, inr}
 use Rattle.std.specs.Prelude.{◌⊎◌, nat_le, Contains, if◌then◌else◌}
 use Rattle.cyc_words.specs.Ending.{Full}
@@ -20,17 +21,17 @@ use Rattle.cyc_inline.proofs.Costs.{place_at, own, own_has}
 use Rattle.cyc_inline.proofs.Waiting.{AreSlotted, as_deep, beside, IsOutside, Outside}
 use Rattle.cyc_inline.proofs.Lodged.{IsLodged}
 
--- The step of a configuration whose next instruction is known.
+-- The step of a configuration is determined by its next instruction, if that is known.
 pub step_is : (program : Program) (pages calls : ℕ) (choice : Choice) (c : Configuration) (i : Instruction) → instruction_at program (place_of (Running c)) ≡ Some i
     → limited_step program pages calls choice (Running c) ≡ limited pages (limit_of (Some i) calls) (Running c) (performed program choice c i)
 step_is program pages calls choice c i at = ap (λ (o : Option Instruction). limited pages (limit_of o calls) (Running c) (executed program choice c o)) at
 
--- The first of the instructions made from an origin.
+-- If instructions are made from an origin, the first of them has that origin.
 pub made_first : (origins : List Origin) (from count : ℕ) (origin : Origin) → 0 < count → AreMadeOf origins from count origin → slice_get origins from ≡ Some origin
 made_first origins from count origin some made = ap (slice_get origins) (let e : from ≡ from + 0 = omega arith in e) ∙ made 0 some
 
 module _ (program inlined : Program) (origins : List (List Origin)) (are : AreOpened program inlined origins) where
-  -- The states match inside an inlined call.
+  -- Says that the states of both programs match inside an inlined call.
   pub record IsInside (c : Configuration) (t : State) : Type 0 where
     pub active : Activation
     pub frames : List Frame
@@ -58,7 +59,8 @@ module _ (program inlined : Program) (origins : List (List Origin)) (are : AreOp
   alike_if true e s t u v same first second = subst (λ (x : Bool). Alike s (if x then u else v)) (sym same) first
   alike_if false e s t u v same first second = subst (λ (x : Bool). Alike t (if x then u else v)) (sym same) second
 
-  -- Outside inlined calls, both states are within the limits or neither is.
+  -- If the states of both programs match outside inlined calls, both are within the limits or
+  -- neither is.
   within_same : (pages calls : ℕ) (s u : State) → Outside program inlined origins are s u → is_within pages calls u ≡ is_within pages calls s
   within_same pages calls (Running c) u outside =
       ap (is_within pages calls) outside.is
@@ -73,7 +75,7 @@ module _ (program inlined : Program) (origins : List (List Origin)) (are : AreOp
 
   -- ---- places
 
-  -- The place of the active call of the inlined program.
+  -- The code position of the active call in the inlined program.
   pub stands : (a b : Activation) (next : ℕ) → AreSlotted program inlined origins are a b → b.next ≡ next
       → place_at b.function b.next ≡ place_at a.function next
   stands a b next slotted at = λ i. place_at (slotted.function i) (at i)
@@ -82,7 +84,8 @@ module _ (program inlined : Program) (origins : List (List Origin)) (are : AreOp
       → instruction_at inlined (place_at b.function b.next) ≡ Some i
   finds a b next i slotted at there = ap (instruction_at inlined) (stands a b next slotted at) ∙ there
 
-  -- The place of the active call is one of the places of its origin.
+  -- The code position of the active call in the inlined program is among the positions made from
+  -- the call's origin.
   pub owns : (a b : Activation) (next function index : ℕ) (i : Instruction) → AreSlotted program inlined origins are a b → b.next ≡ next → At (routine_at inlined a.function).code next i
       → slice_get (origins_of origins a.function) next ≡ Some (origin_at function index)
       → Contains (own inlined origins (place_at function index)) (place_at b.function b.next)
@@ -112,7 +115,8 @@ module _ (program inlined : Program) (origins : List (List Origin)) (are : AreOp
       endings = λ s t ending matches over. ended s t ending matches.alike over;
     }
 
-    -- The relation is restored if the source makes a step and the states correspond again.
+    -- The simulation relation holds again if the source program makes a step and the resulting
+    -- states correspond.
     pub kept : (s t next u : State) → Matches s t → Step program pages calls s next → Alike next u → HoldsWords u → Matches next u
     kept s t next u matches step alike words = record {
       alike = alike;

@@ -1,4 +1,5 @@
--- Memory is the same in both programs: the same slots of the same calls have addresses, since no slot of an inlined function has one.
+-- Lemmas: memory is the same in both programs. The same slots of the same calls have addresses, because no slot of an inlined
+-- function has an address.
 use Rattle.std.proofs.Common.{◌≡◌, ℕ, zero, suc, ◌+◌, ◌-◌, ◌*◌, ◌/◌, ◌<◌, Bool, true, false, ◌&&◌, ◌||◌, List, [], ◌∷◌, Option, Some, None, refl, sym, ap, subst, ◌∙◌, inl, inr}
 use Rattle.std.specs.Prelude.{◌==◌, if◌then◌else◌}
 use Rattle.std.specs.List.{AllByRecursion}
@@ -21,7 +22,8 @@ use Rattle.cyc_inline.proofs.Waiting.{each_opened, place_in, slots_of, AreSlotte
 
 -- ---- slots whose address is taken
 
--- An instruction of the code takes the address of each pinned slot.
+-- If a slot of a function is pinned, an instruction of the function's code takes the slot's
+-- address.
 pinned_there : (code : List Instruction) (slot : ℕ) → is_pinned code slot ≡ true → (p : ℕ) × (i : Instruction) × At code p i × (pins i slot ≡ true)
 pinned_there [] slot pinned = absurd (let e : false ≡ true = pinned in cc)
 pinned_there (i ∷ code) slot pinned = elim (or_cases (pins i slot) (is_pinned code slot) pinned) [
@@ -35,7 +37,7 @@ pinned_by (j ∷ code) zero i slot at names =
     or_left (pins j slot) (is_pinned code slot) (ap (λ (x : Instruction). pins x slot) (let e : Some j ≡ Some i = at in cc) ∙ names)
 pinned_by (j ∷ code) (suc p) i slot at names = or_right (pins j slot) (is_pinned code slot) (pinned_by code p i slot at names)
 
--- No instruction of a leaf takes the address of a slot.
+-- No instruction of a leaf function takes the address of a slot.
 leaf_pins : (i : Instruction) (slot : ℕ) → is_of_leaf i ≡ true → pins i slot ≡ false
 leaf_pins (instructions.AddressOf destination first count) slot leaf = absurd (let e : false ≡ true = leaf in cc)
 leaf_pins i slot leaf = refl
@@ -109,7 +111,7 @@ module _ (program inlined : Program) (origins : List (List Origin)) (are : AreOp
     slots = put_agree (slots_of program inlined origins are a.function) number word a.slots b.slots slotted.slots;
   }
 
-  -- The correspondence does not depend on the next places.
+  -- The correspondence of two calls does not depend on their next code positions.
   pub put_next : {a b : Activation} {n m : ℕ} → AreSlotted program inlined origins are a b → AreSlotted program inlined origins are (record a { next = n }) (record b { next = m })
   put_next slotted = record { function = slotted.function; base = slotted.base; handlers = slotted.handlers; records = slotted.records; slots = slotted.slots }
 

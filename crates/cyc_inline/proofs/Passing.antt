@@ -1,4 +1,4 @@
--- Runs through moves that copy words one by one.
+-- Lemmas about runs through moves that copy words one by one.
 use Rattle.std.proofs.Common.{◌≡◌, ℕ, zero, suc, ◌+◌, ◌<◌, true, List, [], ◌∷◌, ◌++◌, length, slice_get, refl, sym, ap, subst, ◌∙◌, arith}
 use Rattle.std.specs.Prelude.{Contains}
 use Rattle.std.specs.List.{AllByRecursion}
@@ -41,7 +41,7 @@ after_inside own function index (suc count) each = (
       (λ k below. subst (λ (n : ℕ). Contains own (place_at function n)) (let e : index + suc k ≡ index + 1 + k = omega arith in e) (each (suc k) (omega (arith, below)))),
 )
 
--- Each place within a piece of code has an instruction.
+-- Each position within a piece of code contains an instruction.
 pub has_each : (code : List Instruction) (p : ℕ) (is : List Instruction) (k : ℕ) → HasAt code p is → k < length is → (i : Instruction) × At code (p + k) i
 has_each code p [] k has below = absurd (omega (arith, below))
 has_each code p (i ∷ is) zero (at, rest) below = (i, ap (slice_get code) (let e : p + 0 ≡ p = omega arith in e) ∙ at)
@@ -52,7 +52,7 @@ has_each code p (i ∷ is) (suc k) (at, rest) below =
 -- ---- runs through the moves
 
 module _ (program : Program) (pages calls : ℕ) (Way Goal : State → Type 0) (others : List CodePlace) where
-  -- The state after the moves, `count` places further on.
+  -- The configuration after the moves of `count` words, with the code position advanced by `count`.
   abbrev pub passed_on : (destination source count : ℕ) → Configuration → Configuration
   passed_on destination source count d = record d { active = record d.active { slots = passed destination source count d.active.slots; next = d.active.next + count } }
 

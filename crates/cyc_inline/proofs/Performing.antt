@@ -1,4 +1,5 @@
--- An instruction with its slots shifted and its jump targets moved has the same effect as the original.
+-- An instruction with shifted slots and moved jump targets has the same effect as the original
+-- instruction.
 use Rattle.std.proofs.Common.{◌≡◌, ℕ, ◌+◌, ◌-◌, ◌%◌, ◌^◌, ◌≤◌, Bool, true, false, List, [], ◌∷◌, ◌++◌, drop, Option, Some, None, slice_get, refl, sym, ap, subst, ◌∙◌, arith, inl, inr}
 use Rattle.std.specs.Prelude.{◌⊎◌, if◌then◌else◌, unwrap_or}
 use Rattle.cyc_words.specs.Word.{add_of}
@@ -17,7 +18,8 @@ use Rattle.cyc_plain.proofs.SlotLaws.{put-other, copied-below}
 use Rattle.cyc_inline.specs.inside.Opened.{shifted_operand, moved}
 use Rattle.cyc_inline.proofs.Agreeing.{Agree, from_slot, put_shifted, copied_at, operand_agree}
 
--- An ordinary instruction calls nothing, opens or closes no handler, and takes no slot's address.
+-- Returns true for an ordinary instruction: it calls no function, opens or closes no handler, and
+-- takes no slot's address.
 abbrev pub is_ordinary : Instruction → Bool
 is_ordinary (instructions.Call function arguments count result) = false
 is_ordinary (instructions.Return value) = false
@@ -35,15 +37,17 @@ module _ (program inlined : Program) (r : Routine) (shift : ℕ) (place : ℕ �
   abbrev d : Configuration
   d = record c { active = b; frames = gs }
 
-  -- The state after the active call has continued, in the source or in the inlined program.
+  -- The configuration after the active call has advanced to another code position, in the source or
+  -- in the inlined program.
   abbrev pub gone : (d : Configuration) (slots : Words) (next : ℕ) (globals : Words) (output input : List ℕ) → Configuration
   gone d slots next globals output input = record d { active = record d.active { slots = slots; next = next }; globals = globals; output = output; input = input }
 
-  -- Both programs are at corresponding places, or both are just after the instruction.
+  -- Says that both programs are at corresponding code positions, or that both are just after the
+  -- instruction.
   abbrev pub IsNext : (to other : ℕ) → Type 0
   IsNext to other = (other ≡ place to) ⊎ ((to ≡ c.active.next + 1) × (other ≡ b.next + 1) × Falls)
 
-  -- The closure conditions that a relation between states must satisfy.
+  -- The closure conditions that a relation between states of both programs must satisfy.
   pub record Bears (Match : State → State → Type 0) : Type 0 where
     pub stuck : (output input : List ℕ) → Match (Stuck output input) (Stuck output input)
     pub goes : (slots others : Words) (to other : ℕ) (globals : Words) (output input : List ℕ) → Agree r.slots slots (from_slot shift others) → Agree shift b.slots others → IsNext to other
@@ -66,7 +70,8 @@ module _ (program inlined : Program) (r : Routine) (shift : ℕ) (place : ℕ �
         (λ k below. put-other b.slots (shift + destination) k same (λ e. omega (arith, e, below)))
         (inr (refl, refl, falls))
 
-    -- Only the place, the globals, the output and the input have changed.
+    -- The states still match if only the code position, the globals, the output and the input have
+    -- changed.
     stays : (to next : ℕ) → IsNext to next → Match (Running (gone c c.active.slots to c.globals c.output c.input)) (Running (gone d b.slots next c.globals c.output c.input))
     stays to next is = bears.goes c.active.slots b.slots to next c.globals c.output c.input agree (λ k below. refl) is
 
@@ -131,7 +136,7 @@ module _ (program inlined : Program) (r : Routine) (shift : ℕ) (place : ℕ �
         (subst (λ (o : Option ℕ). Match (saves_byte program c address byte (memory_at program c (word_of address))) (saves_byte inlined d address byte o)) (sym (bears.found (word_of address)))
         (saved_byte address byte (memory_at program c (word_of address)) falls)))
 
-    -- The address that a load or store accesses is the same in both programs.
+    -- A load or store accesses the same address in both programs.
     address_same : (base : Operand) (offset : ℕ) → IsOperand r base → add_of (operand_word b.slots (shifted_operand shift base)) offset ≡ add_of (operand_word c.active.slots base) offset
     address_same base offset inside = ap (λ (a : ℕ). add_of a offset) (word_of_operand base inside)
 

@@ -1,4 +1,5 @@
--- A property of each emitted instruction: everything that it names exists, its numbers are words, and it pins no extra slot.
+-- A property of each emitted instruction: everything that the instruction names exists, its numbers are words, and it takes
+-- the address of no extra slot.
 use Rattle.std.proofs.Common.{◌≡◌, ℕ, zero, suc, ◌+◌, ◌<◌, ◌≤◌, Bool, true, false, List, [], ◌∷◌, length, Option, Some, None, refl, sym, ap, subst, ◌∙◌, arith, inl, inr, length-append}
 use Rattle.std.specs.Prelude.{All, ◌⊎◌, ◌==◌, ◌||◌, nat_le, if◌then◌else◌}
 use Rattle.std.specs.List.{AllByRecursion}
@@ -43,7 +44,7 @@ all_passing P destination source (suc count) each =
           (subst (λ (k : ℕ). P (instructions.Move (destination + suc n) (operands.Slot k))) next (each (suc n) (omega (arith, below))))),
     )
 
--- The property holds for each instruction that replaces a call.
+-- Says that a property holds for each instruction that replaces a call.
 record HoldsIn (P : Instruction → Type 0) (site : Site) (place : ℕ → ℕ) (t : Routine) : Type 0 where
   pub passed : (n : ℕ) → n < site.call.count → P (instructions.Move (site.shift + n) (operands.Slot (site.call.arguments + n)))
   pub enters : P (instructions.Enter site.call.callee)
@@ -101,7 +102,7 @@ pinned_at (j ∷ code) (suc k) i slot at pinned = or_right (pins j slot) (is_pin
 
 -- ---- the out-of-line part of a callee's code
 
--- The replacement of each out-of-line instruction is not empty.
+-- The replacement of an out-of-line instruction contains at least one instruction.
 pub rest_some : (results line index : ℕ) (i : Instruction) → line ≤ index → 1 ≤ count_inside results line false index i
 rest_some results line index i past =
     let there : nat_le line index ≡ true = le-leb line index past in
@@ -137,7 +138,7 @@ module _ (program : Program) (number : ℕ) (chosen : List ℕ) (front_at : ℕ 
   routine : IsRoutine program r
   routine = routine_in program number is.parts.plain.well_formed is.parts.is_function
 
-  -- The conditions on an inlined call at an index.
+  -- Says that the call at index k is inlined and satisfies the conditions for inlining.
   pub record IsOpenedAt (k : ℕ) (call : Call) : Type 0 where
     pub call_in_range : IsCallInRange program r call.callee call.arguments call.count call.result
     pub openable : IsOpenable program r s.slots call
@@ -192,7 +193,7 @@ module _ (program : Program) (number : ℕ) (chosen : List ℕ) (front_at : ℕ 
         fits = omega (arith, next, following, end, most, code_long);
       }
 
-  -- A property of each replaced instruction holds for the whole code.
+  -- If a property holds for each replacement of an instruction, it holds for the complete code.
   module _ (P : Instruction → Type 0) (own : (k : ℕ) (i : Instruction) → At r.code k i → P (moved 0 place i))
       (all_hoisted : (x : Instruction) → may_hoisted (length program.globals) r.slots s.slots x ≡ true → P x)
       (duplicates : (k : ℕ) (i x : Instruction) → At r.code k i → IsDuplicate r.slots s.slots i x → P x)

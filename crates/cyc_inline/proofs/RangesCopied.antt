@@ -1,4 +1,4 @@
--- An unchanged copy of a function is a correct replacement of it.
+-- Lemmas: an unchanged copy of a function is a correct replacement of the function.
 use Rattle.std.proofs.Common.{◌≡◌, ℕ, zero, suc, ◌+◌, ◌<◌, List, length, Some, slice_get, refl, sym, ap, ◌∙◌, arith, inl}
 use Rattle.cyc_words.proofs.Numbers.{zero_plus}
 use Rattle.cyc_words.proofs.Items.{below_from_slice_get}
@@ -49,7 +49,7 @@ made_of_own number origins count k are below zero one =
     ap (slice_get origins) same ∙ are.each k below
 made_of_own number origins count k are below (suc n) one = absurd (omega (arith, one))
 
--- An unchanged copy of a function is a correct replacement of it.
+-- An unchanged copy of a function is a correct replacement of the function.
 pub copied_is_made : (program : Program) (number : ℕ) (origins : List Origin) → IsPlain program → number < length program.functions → AreOwn number (length (routine_at program number).code) origins
     → IsMade program number (routine_at program number) origins
 copied_is_made program number origins plain is_function are = record {

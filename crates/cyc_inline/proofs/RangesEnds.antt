@@ -1,4 +1,5 @@
--- Code that does not run off its end: control never falls through its last instruction.
+-- Lemmas about code that does not run off its end: control never falls through the last
+-- instruction.
 use Rattle.std.proofs.Common.{◌≡◌, ℕ, zero, suc, ◌+◌, ◌-◌, ◌<◌, ◌≤◌, Bool, true, false, List, [], ◌∷◌, ◌++◌, length, Option, Some, None, slice_get, refl, sym, ap, subst, ◌∙◌, arith, length-append}
 use Rattle.std.specs.Prelude.{IsSomeAnd, ◌==◌, nat_le, if◌then◌else◌}
 use Rattle.std.proofs.lemmas.Bool.{eqb-true, leb-true}
@@ -51,7 +52,7 @@ ends_pieces piece first (i ∷ code) each =
 
 -- ---- the out-of-line part of a callee's code
 
--- The replacement of an instruction that never falls through does not run off its end.
+-- If control never falls through an instruction, its replacement does not run off its end.
 part_ends : (site : Site) (place : ℕ → ℕ) (index : ℕ) (i : Instruction) (end : Option ℕ) → site.call.line ≤ index → leaves i ≡ true → EndsWell (inside_part site place index i end)
 part_ends site place index i (Some value) past leaving =
     go (index + 1 == site.call.line) refl
@@ -70,7 +71,7 @@ module _ (site : Site) (place : ℕ → ℕ) where
       go true there = part_ends site place first i (is_end i) (leb-true site.call.line first there) leaving
       go false there = none_ends
 
-  -- Adding an instruction before code that does not run off its end keeps this property.
+  -- If code does not run off its end, the code with one more instruction in front does not either.
   further : (first : ℕ) (i j : Instruction) (code : List Instruction) → EndsWell (inside_code site place false (suc first) (j ∷ code))
       → (b : Bool) → nat_le site.call.line first ≡ b → EndsWell ((if b then inside_part site place first i (is_end i) else []) ++ inside_code site place false (suc first) (j ∷ code))
   further first i j code well false there = well

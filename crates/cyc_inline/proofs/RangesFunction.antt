@@ -1,4 +1,4 @@
--- A function made of its parts is well-formed and correctly replaces the given one.
+-- A function made of the emitted parts is well-formed and correctly replaces the source function.
 use Rattle.std.proofs.Common.{◌≡◌, ℕ, ◌+◌, ◌-◌, ◌<◌, ◌≤◌, true, false, List, [], ◌∷◌, length, length-append, Option, Some, None, slice_get, refl, sym, ap, subst, ◌∙◌, arith, inl, inr}
 use Rattle.std.specs.Prelude.{All, ◌⊎◌}
 use Rattle.std.proofs.lemmas.Bool.{false≢true}
@@ -25,7 +25,7 @@ use Rattle.cyc_inline.specs.declared.site.Call.{Call}
 
 -- ---- one function
 
--- An instruction that never falls through is no chosen call.
+-- An instruction through which control never falls is not a call that was chosen for inlining.
 stands_itself : (i : Instruction) (line : ℕ) → leaves i ≡ true → chosen_call i line ≡ None
 stands_itself (instructions.Call callee arguments count result) line leaving = absurd (false≢true leaving)
 stands_itself i line leaving = refl
@@ -90,7 +90,8 @@ module _ (program : Program) (number : ℕ) (chosen : List ℕ) (front_at : ℕ 
     pinned = pinned program number chosen front_at places rests s origins is;
   }
 
-  -- The in-line code ends with the replacement of the last instruction.
+  -- The in-line code of a function does not run off its end, because it ends with the replacement
+  -- of the last instruction.
   front_ends : EndsWell front
   front_ends k i at last =
       let some = has_code program r routine in
@@ -138,7 +139,7 @@ module _ (program : Program) (number : ℕ) (chosen : List ℕ) (front_at : ℕ 
     last = last_leaves s.code (let below = placed program number chosen front_at places rests s origins is 0 (has_code program r routine) in omega (arith, below)) code_ends;
   }
 
-  -- A function made of these parts correctly replaces the given one.
+  -- A function made of the emitted parts correctly replaces the source function.
   pub is_made : IsMade program number s origins
   is_made = record {
     opened = opened;

@@ -1,4 +1,5 @@
--- Everything that a moved instruction names exists, if everything that the original names does.
+-- If everything that an instruction names exists, everything that the moved instruction names
+-- exists.
 use Rattle.std.proofs.Common.{◌≡◌, ℕ, ◌+◌, ◌^◌, ◌<◌, ◌≤◌, true, false, length, Option, Some, None, refl, sym, ap, ◌∙◌, arith}
 use Rattle.std.specs.Prelude.{not, ◌&&◌, nat_lt}
 use Rattle.std.proofs.lemmas.Bool.{false≢true}
@@ -45,7 +46,8 @@ module _ (program : Program) (t s : Routine) (shift : ℕ) (place : ℕ → ℕ)
   argument_still (Some operand) is = operand_still operand is
   argument_still None is = tt
 
-  -- A moved instruction is in range, unless it is a return or opens a handler.
+  -- A moved instruction names only existing slots, globals and functions, unless it is a return or
+  -- opens a handler.
   pub moved_in : (i : Instruction) → IsInRange program t i → ((value : ℕ) → is_end i ≡ Some value → HasSlots s value s.results)
       → ((first handler : ℕ) → i ≡ instructions.Try first handler → IsInRange program s (instructions.Try first (place handler))) → IsInRange program s (moved shift place i)
   moved_in (instructions.Move destination source) (first, second) ends tries = (slot_in destination first, operand_in source second)
@@ -118,7 +120,7 @@ pub same_leaving : (shift : ℕ) (place : ℕ → ℕ) (i : Instruction) → lea
 same_leaving shift place (instructions.Jump target) = refl
 same_leaving shift place i = refl
 
--- A moved instruction pins the slots that the original pins.
+-- A moved instruction takes the addresses of the same slots as the original instruction.
 pub same_pins : (shift : ℕ) (place : ℕ → ℕ) (i : Instruction) (slot : ℕ) → pins (moved shift place i) slot ≡ pins i slot
 same_pins shift place (instructions.Jump target) slot = refl
 same_pins shift place i slot = refl
@@ -203,7 +205,7 @@ pub hoisted_pins_none : (globals given slots : ℕ) (x : Instruction) → may_ho
 hoisted_pins_none globals given slots (instructions.AddressOf destination first count) may slot = absurd (false≢true may)
 hoisted_pins_none globals given slots x may slot = refl
 
--- An instruction that never falls through is not preceded by hoisted ones.
+-- An instruction through which control never falls has no hoisted instructions before it.
 pub leaves_alone : (i : Instruction) → leaves i ≡ true → may_follow_hoisted i ≡ false
 leaves_alone (instructions.Move destination source) leaving = absurd (false≢true leaving)
 leaves_alone (instructions.MoveWords destination source count) leaving = absurd (false≢true leaving)

@@ -1,4 +1,4 @@
--- The last step of an inlined call: a return or an exception.
+-- Simulation of the last step of an inlined call: a return or an exception.
 use Rattle.std.proofs.Common.{◌≡◌, ℕ, suc, ◌+◌, ◌-◌, ◌<◌, ◌≤◌, true, List, [], ◌∷◌, ◌++◌, length, refl, sym, ap, subst, ◌∙◌, arith, inl, inr, append-nil}
 use Rattle.std.specs.Prelude.{Some, Contains}
 use Rattle.std.specs.List.{AllByRecursion}
@@ -72,7 +72,7 @@ module _ (program inlined : Program) (origins : List (List Origin)) (are : AreOp
     abbrev returning : List Instruction
     returning = passing f.result (shift + value) results
 
-    -- The slots that receive the results are the caller's own.
+    -- The slots that receive the results of the inlined call are the caller's own slots.
     apart : f.result + results ≤ shift
     apart =
         let known = function_known program (place_at f.caller.function lodged.index) (instructions.Call c.active.function lodged.arguments lodged.count f.result) lodged.calls in
@@ -81,7 +81,7 @@ module _ (program inlined : Program) (origins : List (List Origin)) (are : AreOp
         All_at (IsInRange program (routine_at program f.caller.function)) (routine_at program f.caller.function).code lodged.index (instructions.Call c.active.function lodged.arguments lodged.count f.result) r.instructions lodged.calls in
         range.result_in_range
 
-    -- The source state after the return: the caller continues.
+    -- The source configuration after the return, in which the caller continues.
     abbrev e : Configuration
     e = record c { active = record f.caller { slots = copied c.active.slots value results f.caller.slots f.result }; frames = lodged.rest }
 
@@ -90,21 +90,21 @@ module _ (program inlined : Program) (origins : List (List Origin)) (are : AreOp
         step_so program pages calls c i (Running e) at free (does ∙ ap (returns c value results) lodged.frames)
         (fewer_within pages calls c e refl (let long = ap length lodged.frames in omega (arith, long)) matches.within)
 
-    -- The state of the inlined program after the moves of the results.
+    -- The activation of the inlined program after the results are moved.
     abbrev passer : ℕ → Activation
     passer to = record b { slots = passed f.result (shift + value) results b.slots; next = to }
 
     abbrev below : ℕ → Configuration
     below to = beside program inlined origins are c (passer to) gs
 
-    -- The place at which the caller continues in the inlined program.
+    -- The code position at which the caller continues in the inlined program after the call.
     abbrev target : ℕ
     target = place_in program inlined origins are f.caller.function (lodged.index + 1)
 
     words : (to : ℕ) → HoldsWords (Running (below to))
     words to = (passed_words f.result (shift + value) results b.slots matches.words.0, matches.words.1, matches.words.2, matches.words.3, matches.words.4)
 
-    -- Moving the results one by one equals copying them at once.
+    -- Moving the results one by one equals copying the results at once.
     slots_same : (k : ℕ) → k < shift → passed f.result (shift + value) results b.slots k ≡ copied c.active.slots value results f.caller.slots f.result k
     slots_same k below = elim (cases_lt k f.result) [
       | inl before ↦
@@ -138,7 +138,7 @@ module _ (program inlined : Program) (origins : List (List Origin)) (are : AreOp
       next = ap (place_in program inlined origins are f.caller.function) (sym lodged.following);
     }
 
-    -- The call is over in both programs.
+    -- After these steps the inlined call is over in both programs.
     arrives : (places : List CodePlace) (u : State) → u ≡ Running (below target) → IsMatchedStep (machine program pages calls) (machine inlined pages calls) (matching program inlined origins are plain fine pages calls) (Running c) places u
     arrives places u is = record {
       next = Running e;
@@ -177,7 +177,7 @@ module _ (program inlined : Program) (origins : List (List Origin)) (are : AreOp
         (IsMatchedStep (machine program pages calls) (machine inlined pages calls) (matching program inlined origins are plain fine pages calls) (Running c) places)
         others f.result (shift + value) results d has (lodged_within program inlined origins are pages calls c b gs lodged matches.within) way goal
 
-    -- After the moves of the results, control falls through to the place after the call.
+    -- After the moves of the results, control falls through to the code position after the call.
     falls : here + results ≡ target → IsStep
     falls to =
         let places : List CodePlace = places_after b.function b.next results ++ [] in
@@ -188,7 +188,8 @@ module _ (program inlined : Program) (origins : List (List Origin)) (are : AreOp
           comes = through [] places (arrives places (Running (below (b.next + results))) (ap (λ (n : ℕ). Running (below n)) (ap (λ (n : ℕ). n + results) next ∙ to)));
         }
 
-    -- A jump after the moves leads to the place where the caller continues.
+    -- The case in which a jump after the moves of the results leads to the position where the
+    -- caller continues.
     module _ (jump_at : At (routine_at inlined lodged.waits.caller.function).code (lodged.site.place c.active.next + (routine_at program c.active.function).results) (instructions.Jump (place_in program inlined origins are lodged.waits.caller.function (lodged.index + 1))))
         (jump_made : AreMadeOf (origins_of origins lodged.waits.caller.function) (lodged.site.place c.active.next + (routine_at program c.active.function).results) 1 (origin_at c.active.function c.active.next)) where
       abbrev last : CodePlace

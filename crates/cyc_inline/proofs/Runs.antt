@@ -1,4 +1,4 @@
--- Each run of an inlined program is one of the given program.
+-- Each run of an inlined program is a run of the source program.
 use Rattle.std.proofs.Common.{◌≡◌, ℕ, ◌+◌, ◌<◌, ◌≤◌, true, false, List, [], Some, refl, sym, ap, subst, ◌∙◌, inl, inr}
 use Rattle.std.specs.Prelude.{◌⊎◌}
 use Rattle.std.specs.List.{AllByRecursion}
@@ -43,7 +43,8 @@ module _ (program inlined : Program) (origins : List (List Origin)) (are : AreOp
   abbrev FailsNever : State → Type 0
   FailsNever s = (next : State) → Step program pages calls s next → status_of next ≡ simulation.Failed → ⊥
 
-  -- The next instruction of a configuration, which its function's code contains.
+  -- Says that a configuration's next instruction is in the code of its function, and that
+  -- everything the instruction names exists.
   record IsFound (c : Configuration) : Type 0 where
     pub i : Instruction
     pub at : At (routine_at program c.active.function).code c.active.next i
@@ -124,7 +125,7 @@ module _ (program inlined : Program) (origins : List (List Origin)) (are : AreOp
   steps (Ended ending output input) t matches running never = absurd (running_ended ending (sym running))
   steps (Stuck output input) t matches running never = absurd (running_failed (sym running))
 
-  -- Corresponding initial states are related.
+  -- The initial states of both programs are related.
   start_alike : (base : ℕ) (store : StoreState) (input : List ℕ) → Alike program inlined origins are (start program base store input) (start inlined base store input)
   start_alike base store input = inl (record {
     active = record { function = inlined.main; next = 0; base = base; slots = λ (slot : ℕ). 0; handlers = [] };
@@ -150,7 +151,7 @@ module _ (program inlined : Program) (origins : List (List Origin)) (are : AreOp
         within = starts_within program pages calls base store input new some_page some_call;
       })
 
--- A program with some calls inlined behaves as the given program.
+-- A program in which some calls are inlined behaves as the source program.
 pub is_inlined : (program inlined : Program) (origins : List (List Origin)) → IsPlain program → IsPlain inlined → AreOpened program inlined origins → IsInlined program inlined
 is_inlined program inlined origins plain fine are = record {
   plain = fine;

@@ -1,4 +1,4 @@
--- The step of an instruction that is its own only replacement, outside inlined calls.
+-- Simulation of an instruction that is replaced by itself, outside inlined calls.
 use Rattle.std.proofs.Common.{◌≡◌, ℕ, ◌+◌, false, List, Option, Some, None, refl, sym, ap, subst, ◌∙◌, arith, inl, inr}
 use Rattle.std.specs.Prelude.{◌⊎◌}
 use Rattle.cyc_store.specs.Services.{Call}
@@ -17,7 +17,8 @@ use Rattle.cyc_inline.proofs.Waiting.{each_opened, place_in, slots_of, AreCalls,
 use Rattle.cyc_inline.proofs.Outside.{call_same, performs_outside}
 use Rattle.cyc_inline.proofs.Matched.{step_is, made_first, Alike, limited_outside, finds, owns, Matches, matching, kept, words_kept}
 
--- Moving an instruction changes neither the function that it calls nor the limit on active calls.
+-- Moving an instruction changes neither the function that the instruction calls nor the limit on
+-- active calls.
 callee_same_moved : (shift : ℕ) (place : ℕ → ℕ) (i : Instruction) → callee_of (Some (moved shift place i)) ≡ callee_of (Some i)
 callee_same_moved shift place (instructions.Call function arguments count result) = refl
 callee_same_moved shift place (instructions.Enter function) = refl
@@ -28,7 +29,7 @@ limit_same_moved shift place calls (instructions.Enter function) = refl
 limit_same_moved shift place calls i = refl
 
 module _ (program inlined : Program) (origins : List (List Origin)) (are : AreOpened program inlined origins) where
-  -- The replacement of an instruction: the instruction with or without others before it, or an inlined call.
+  -- Says that an instruction is replaced by itself, with or without instructions put before it.
   pub record IsItself (function index : ℕ) (i : Instruction) : Type 0 where
     pub at : At (routine_at inlined function).code (place_in program inlined origins are function index) (moved 0 (place_in program inlined origins are function) i)
     pub made : AreMadeOf (origins_of origins function) (place_in program inlined origins are function index) 1 (origin_at function index)
@@ -72,11 +73,11 @@ module _ (program inlined : Program) (origins : List (List Origin)) (are : AreOp
     abbrev place : ℕ → ℕ
     place = place_in program inlined origins are c.active.function
 
-    -- Both programs are about to execute the instruction.
+    -- The inlined program is about to execute the instruction that replaces the source instruction.
     below_at : instruction_at inlined (place_of (Running d)) ≡ Some (moved 0 place i)
     below_at = finds program inlined origins are c.active b (place c.active.next) (moved 0 place i) same.slotted same.next itself.at
 
-    -- A choice allowed in the inlined program is allowed in the source program.
+    -- A stack address that is allowed in the inlined program is allowed in the source program.
     lies : (base : ℕ) (o : Option ℕ) → MayLie inlined base o (Running d) → MayLie program base o (Running c)
     lies base None may = may
     lies base (Some function) may = record {

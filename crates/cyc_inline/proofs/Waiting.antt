@@ -1,4 +1,5 @@
--- Active and waiting calls of both programs, and exceptions that reach them.
+-- Lemmas about active and waiting calls of both programs, and about exceptions that reach these
+-- calls.
 use Rattle.std.proofs.Common.{◌≡◌, ℕ, suc, ◌+◌, ◌≤◌, Bool, true, false, List, [], ◌∷◌, length, map, refl, sym, ap, subst, arith, inl, inr}
 use Rattle.std.specs.Prelude.{if◌then◌else◌}
 use Rattle.std.specs.List.{AllByRecursion}
@@ -14,7 +15,8 @@ use Rattle.cyc_inline.specs.declared.origin.Origin.{Origin}
 use Rattle.cyc_inline.specs.inside.Opened.{IsOpened, AreOpened, origins_of}
 use Rattle.cyc_inline.proofs.Agreeing.{Agree, put_agree, intact_agree}
 
--- Every function number has inlined code, even a number without a function.
+-- For every function number the inlined code satisfies `IsOpened`, even for a number without a
+-- function.
 nothing_opened : (program : Program) (function : ℕ) (origins : List Origin) → length origins ≡ 0 → IsOpened program function no_routine no_routine origins
 nothing_opened program function origins none = record {
   like = record { name = refl; parameters = refl; results = refl; slots = omega arith; frame = inl refl };
@@ -25,7 +27,7 @@ nothing_opened program function origins none = record {
   pinned = λ p i at slot pins. cc;
 }
 
--- A handler, with its target moved.
+-- An exception handler whose target is moved to the target's position in the inlined program.
 abbrev pub moved_handler : (place : ℕ → ℕ) → Handler → Handler
 moved_handler place (Open index first contents) = Open (place index) first contents
 moved_handler place Caught = Caught
@@ -43,19 +45,20 @@ module _ (program inlined : Program) (origins : List (List Origin)) (are : AreOp
         (nothing_opened program k (origins_of origins k) (ap length untold)))
   ]
 
-  -- The place of a function's instruction in the inlined program.
+  -- The code position of a source instruction in the inlined program, by function and index.
   abbrev pub place_in : (function : ℕ) → ℕ → ℕ
   place_in function = (each_opened function).place
 
   abbrev pub slots_of : ℕ → ℕ
   slots_of function = (routine_at program function).slots
 
-  -- A handler's record lies within the slots of its function.
+  -- Says that the record of an exception handler lies within the slots of its function.
   abbrev pub HasRecord : (function : ℕ) → Handler → Type 0
   HasRecord function (Open index first contents) = first + RECORD_WORDS ≤ slots_of function
   HasRecord function Caught = Unit {0}
 
-  -- Corresponding calls of the two programs, at any place.
+  -- Says that a call of the source program and a call of the inlined program correspond, at any
+  -- code positions.
   pub record AreSlotted (a b : Activation) : Type 0 where
     pub function : b.function ≡ a.function
     pub base : b.base ≡ a.base
@@ -63,12 +66,14 @@ module _ (program inlined : Program) (origins : List (List Origin)) (are : AreOp
     pub records : AllByRecursion (HasRecord a.function) a.handlers
     pub slots : Agree (slots_of a.function) a.slots b.slots
 
-  -- Corresponding calls of the two programs, at corresponding places.
+  -- Says that a call of the source program and a call of the inlined program correspond and are at
+  -- corresponding code positions.
   pub record AreCalls (a b : Activation) : Type 0 where
     pub slotted : AreSlotted a b
     pub next : b.next ≡ place_in a.function a.next
 
-  -- The waiting calls above a call of this function correspond; the outermost call is of `main`.
+  -- Says that the calls that wait for a call of the function correspond in both programs; the
+  -- outermost call is a call of `main`.
   abbrev pub AreWaiting : (function : ℕ) → List Frame → List Frame → Type 0
   AreWaiting function [] [] = function ≡ program.main
   AreWaiting function (f ∷ fs) (g ∷ gs) = AreCalls f.caller g.caller × (g.result ≡ f.result) × AreWaiting f.caller.function fs gs
@@ -81,11 +86,13 @@ module _ (program inlined : Program) (origins : List (List Origin)) (are : AreOp
   as_deep function (f ∷ fs) [] waiting = absurd waiting
   as_deep function (f ∷ fs) (g ∷ gs) (calls, result, rest) = ap suc (as_deep f.caller.function fs gs rest)
 
-  -- The source state with the active call and the frames replaced by those of the inlined program.
+  -- The source configuration with the active call and the waiting calls replaced by those of the
+  -- inlined program.
   abbrev pub beside : Configuration → Activation → List Frame → Configuration
   beside c b gs = record c { active = b; frames = gs }
 
-  -- The states correspond outside inlined calls.
+  -- Says that a running source configuration and a state of the inlined program correspond outside
+  -- inlined calls.
   pub record IsOutside (c : Configuration) (t : State) : Type 0 where
     pub active : Activation
     pub frames : List Frame
@@ -93,7 +100,7 @@ module _ (program inlined : Program) (origins : List (List Origin)) (are : AreOp
     pub calls : AreCalls c.active active
     pub waiting : AreWaiting c.active.function c.frames frames
 
-  -- The states correspond outside inlined calls; ended runs are equal.
+  -- Says that two states correspond outside inlined calls; the states of ended runs are equal.
   abbrev pub Outside : State → State → Type 0
   Outside (Running c) t = IsOutside c t
   Outside (Ended ending output input) t = t ≡ Ended ending output input
@@ -139,7 +146,7 @@ module _ (program inlined : Program) (origins : List (List Origin)) (are : AreOp
         })
         refl
 
-    -- An exception reaches corresponding handlers, or ends both runs.
+    -- An exception reaches corresponding handlers in both programs, or ends both runs.
     pub thrown : (a b : Activation) (fs gs : List Frame) → AreSlotted a b → AreWaiting a.function fs gs → Outside (throws c tag value a fs) (throws d tag value b gs)
     thrown a b [] [] slotted waiting =
         subst (λ (hs : List Handler). Outside (throws c tag value a []) (lands d tag value b [] (Ended (Uncaught tag (signed value)) d.output d.input) hs)) (sym slotted.handlers)
@@ -151,8 +158,8 @@ module _ (program inlined : Program) (origins : List (List Origin)) (are : AreOp
         (landed a b (f ∷ fs) (g ∷ gs) (throws c tag value f.caller fs) (throws d tag value g.caller gs) slotted (calls, result, rest)
         (thrown f.caller g.caller fs gs calls.slotted rest) a.handlers slotted.records)
 
-    -- An exception raised in an inlined call: the source call has no handler, so the exception passes to its caller, which is the active
-    -- call of the inlined program.
+    -- An exception raised in an inlined call reaches corresponding handlers. The source call has no handler, so the exception passes to
+    -- the caller, which is the active call of the inlined program.
     pub thrown_inside : (leaf b : Activation) (f : Frame) (fs gs : List Frame) → leaf.handlers ≡ [] → AreSlotted f.caller b → AreWaiting f.caller.function fs gs
         → Outside (throws c tag value leaf (f ∷ fs)) (throws d tag value b gs)
     thrown_inside leaf b f fs gs none slotted waiting =

@@ -1,4 +1,5 @@
--- A program whose functions are each made from one of a plain program is plain and behaves as that program.
+-- If each function of a program is made from a function of a plain program, the program is plain and
+-- behaves as that plain program.
 use Rattle.std.proofs.Common.{◌≡◌, ℕ, ◌<◌, ◌≤◌, List, length, Some, slice_get, refl, sym, subst, ◌∙◌, arith}
 use Rattle.std.specs.Prelude.{All, sum_by}
 use Rattle.std.proofs.lemmas.Option.{get_or_from_slice_get}
@@ -31,7 +32,8 @@ module _ (program : Program) (routines : List Routine) (origins : List (List Ori
   like : (k : ℕ) → k < length program.functions → IsLike (routine_at program k) (routine_at inlined k)
   like k below = (made.each k below).opened.like
 
-  -- Everything that an instruction names exists in this program too.
+  -- Everything that an instruction names and that exists in the source program also exists in the
+  -- new program.
   in_range : (s : Routine) (i : Instruction) → IsInRange program s i → IsInRange inlined s i
   in_range s (instructions.Call function arguments count result) range =
       let same = like function range.function_in_range in
@@ -79,6 +81,6 @@ module _ (program : Program) (routines : List Routine) (origins : List (List Ori
         small = small;
       }
 
-  -- The new program satisfies the promise of inlining.
+  -- The new program satisfies the contract of inlining, `IsInlined`.
   pub are_inlined : sum_by size routines ≤ MOST_SIZE → IsInlined program (record program { functions = routines })
   are_inlined small = is_inlined program inlined origins plain (is_plain small) are_opened

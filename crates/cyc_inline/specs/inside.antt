@@ -1,6 +1,6 @@
--- the results that the contract of `inline` rests on
+-- the results that the contract of `inline` uses
 pub mod Inlined
--- the contracts of the functions inside the crate
+-- the contracts of functions inside the crate
 pub mod Opened
 pub mod Sites
 pub mod Emission

@@ -1,4 +1,4 @@
-//! The code of a function some of whose calls are inlined, and some of whose instructions are duplicated.
+//! Emits the code of a function in which some calls are inlined and some instructions are duplicated.
 ghost use Rattle.std.specs.Prelude.{◌≡◌, ◌+◌, ◌*◌, ◌<◌, ◌≤◌, filter, length, replicate, IfOk, IfSome};
 ghost use Rattle.cyc_plain.specs.inside.Program.{routine_at};
 ghost use Rattle.cyc_plain.specs.inside.Straight.{At};
@@ -20,27 +20,30 @@ use crate::tables::place_in;
 use cyc_plain::{Instruction, Plain};
 use std::alloc::{AllocError, Global};
 
-/// A function of a program, its inlined calls, and the places of the replacements of its instructions.
+/// A function of a program, its inlined calls, and the code positions of the replacements of its
+/// instructions.
 #[derive(Clone, Copy)]
 pub(crate) struct Caller<'a> {
     pub(crate) plain: &'a Plain,
-    /// The number of the function.
+    /// The number of the function in the program.
     pub(crate) number: usize,
     pub(crate) choice: &'a Choice,
-    /// The place of each instruction's replacement, and the place after the last.
+    /// The code position of each instruction's replacement, and the position after the last.
     pub(crate) places: &'a [usize],
-    /// The place of the out-of-line part of each instruction's replacement, and the place after the last.
+    /// The code position of the out-of-line part of each instruction's replacement, and the position
+    /// after the last.
     pub(crate) rests: &'a [usize],
 }
 
-/// A table of places and the next free place.
+/// A table of code positions, and the next free position.
 #[derive(Drop)]
 pub(crate) struct Places {
     pub(crate) places: Vec<usize>,
     pub(crate) end: usize,
 }
 
-/// Returns the size of an instruction's replacement, in instructions: in line, or out of line.
+/// Returns the number of instructions in an instruction's replacement, for the in-line or the
+/// out-of-line part.
 fn part_count(plain: &Plain, in_line: bool, call: Option<Call>, front: usize) -> usize
     requires plain { IsPlain plain.now }
     requires call { IfSome call (λ it. IsSmallCall plain.now it) }
@@ -54,7 +57,7 @@ fn part_count(plain: &Plain, in_line: bool, call: Option<Call>, front: usize) ->
     }
 }
 
-/// Returns the place of each instruction's replacement if the first stands at `here`.
+/// Returns the code positions of the replacements of all instructions, if the first is at `here`.
 pub(crate) fn opened_places(
     alloc: Global,
     plain: &Plain,
@@ -89,7 +92,7 @@ pub(crate) fn opened_places(
 }
 
 impl Emission {
-    /// Appends those of the wanted instructions that may be hoisted before an instruction.
+    /// Appends the wanted instructions that may be hoisted before an instruction.
     fn push_all_hoisted(
         &mut self,
         globals: usize,
@@ -110,7 +113,8 @@ impl Emission {
         Ok(())
     }
 
-    /// Appends the hoisted instructions if the instruction may be preceded by them and few are wanted.
+    /// Appends the instructions hoisted before an instruction, unless hoisting is not allowed there or
+    /// too many are wanted.
     fn push_all_hoisted_of(
         &mut self,
         globals: usize,
@@ -130,7 +134,7 @@ impl Emission {
         self.push_all_hoisted(globals, given_slots, slots, wanted, origin)
     }
 
-    /// Appends the hoisted instructions that the table wants before an instruction.
+    /// Appends the hoisted instructions that the choice's table wants before an instruction.
     fn push_wanted(
         &mut self,
         plain: &Plain,
@@ -161,7 +165,7 @@ impl Emission {
         }
     }
 
-    /// Appends the duplicate of an instruction, if it has one.
+    /// Appends the duplicate of an instruction, if the instruction has one.
     fn push_duplicate(
         &mut self,
         instruction: Instruction,
@@ -177,8 +181,8 @@ impl Emission {
         }
     }
 
-    /// Appends the replacement of an instruction that is no inlined call: the instructions put before it, then the instruction with its
-    /// targets moved.
+    /// Appends the replacement of an instruction that is not an inlined call: the instructions put before it, then the instruction with
+    /// moved jump targets.
     fn push_itself(
         &mut self,
         caller: &Caller,
@@ -210,7 +214,7 @@ impl Emission {
     }
 
     /// Appends the replacement of an instruction: the code of an inlined call, or the instruction itself. If `in_line` is false, appends
-    /// the out-of-line part of an inlined call's code, if the instruction is one.
+    /// only the out-of-line part of an inlined call's code.
     fn push_part(
         &mut self,
         alloc: Global,
@@ -249,7 +253,7 @@ impl Emission {
         }
     }
 
-    /// Appends the replacements of the instructions of a function: the in-line code, or the out-of-line code.
+    /// Appends the replacements of all instructions of a function: the in-line code or the out-of-line code.
     pub(crate) fn push_parts(
         &mut self,
         alloc: Global,

@@ -1,4 +1,5 @@
-//! Chooses the calls of a function that are inlined, and its duplicated and hoisted instructions.
+//! Chooses the calls of a function that are inlined, and the function's duplicated and hoisted
+//! instructions.
 ghost use Rattle.std.specs.Prelude.{◌≡◌, ◌+◌, ◌*◌, ◌<◌, ◌≤◌, ◌⊎◌, Some, [], length, IfOk, IfSome, OnOk};
 ghost use Rattle.cyc_plain.specs.inside.Program.{routine_at, routine_of};
 ghost use Rattle.cyc_plain.specs.inside.Straight.{At};
@@ -20,31 +21,35 @@ use std::alloc::{AllocError, Global};
 /// The resources that the caller needs to inline a call.
 #[derive(Clone, Copy)]
 pub(crate) struct Need {
-    /// The number of slots.
+    /// The number of slots that the caller then has.
     pub(crate) slots: usize,
-    /// The number of instructions.
+    /// The number of instructions that replace the call.
     pub(crate) size: usize,
-    /// The number of the callee's instructions that stand in line.
+    /// The number of the callee's instructions in the in-line part.
     pub(crate) line: usize,
 }
 
-/// The calls of a function that are inlined, and its duplicated and hoisted instructions.
+/// The calls of a function that are inlined, and the function's duplicated and hoisted
+/// instructions.
 #[derive(Drop)]
 pub(crate) struct Choice {
-    /// For each instruction, the number of the callee's instructions that stand in line if it is an inlined call, else 0.
+    /// For each instruction, the number of the callee's in-line instructions if the instruction is an inlined call, else
+    /// 0.
     pub(crate) chosen: Vec<usize>,
-    /// For each instruction, the slot wanted for its duplicate. The duplicate is made only if that is an extra slot and the instruction may
-    /// be duplicated.
+    /// For each instruction, the slot wanted for its duplicate. The duplicate is made only if the slot is an extra slot and the instruction
+    /// may be duplicated.
     pub(crate) duplicates: Vec<usize>,
     /// For each instruction, the instructions that should be hoisted before it.
     pub(crate) all_hoisted: Vec<Vec<Instruction>>,
-    /// The number of slots, including those of the inlined callees and the duplicates.
+    /// The number of the function's slots, including those of the inlined callees and of the
+    /// duplicates.
     pub(crate) slots: usize,
-    /// The number of instructions that replace the inlined calls.
+    /// The number of instructions that replace the inlined calls of the function.
     pub(crate) growth: usize,
 }
 
-/// Returns the number of instructions that replace an inlined call, in its place or out of line.
+/// Returns the number of instructions that replace an inlined call: in the call's place, or out of
+/// line.
 pub(crate) fn call_size(plain: &Plain, in_line: bool, call: Call) -> usize
     requires plain { IsPlain plain.now }
     requires call { IsSmallCall plain.now call }
@@ -56,7 +61,7 @@ pub(crate) fn call_size(plain: &Plain, in_line: bool, call: Call) -> usize
     if in_line { call.count + 1 + size } else { size }
 }
 
-/// Returns the number of the callee's instructions that stand in line if the instruction is a call of a leaf, else 0.
+/// Returns the number of the callee's in-line instructions if the instruction is a call of a leaf, else 0.
 fn line_of(leafs: &[usize], instruction: Instruction) -> usize
     ensures { (call : Call) → chosen_call instruction result ≡ Some call → result ≡ place_in leafs.now call.callee }
 {
@@ -66,7 +71,8 @@ fn line_of(leafs: &[usize], instruction: Instruction) -> usize
     }
 }
 
-/// Returns the slots that a function needs for one of its instructions, if that is a call that may be inlined.
+/// Returns what a function needs to inline one of its instructions, if the instruction is a call that may be
+/// inlined.
 fn need_of(plain: &Plain, leafs: &[usize], number: usize, instruction: Instruction) -> Option<Need>
     requires plain { IsPlain plain.now }
     requires leafs { AreLeafs plain.now leafs.now }
@@ -94,7 +100,7 @@ fn need_of(plain: &Plain, leafs: &[usize], number: usize, instruction: Instructi
 }
 
 impl Choice {
-    /// Returns the choice of no call, for a function with this many slots.
+    /// Returns the empty choice, for a function with `slots` slots.
     fn new(alloc: Global, slots: usize) -> Choice
         ensures chosen { result.chosen.items ≡ [] }
         ensures slots { result.slots ≡ slots }
@@ -109,7 +115,8 @@ impl Choice {
         }
     }
 
-    /// Adds one instruction. A call that may be inlined is chosen if the function does not grow too much.
+    /// Adds one instruction to the choice. A call that may be inlined is chosen if the function does not
+    /// grow too much.
     fn add(&mut self, need: Option<Need>) -> Result<(), AllocError>
         requires { self.now.growth ≤ limits.MOST_GROWTH }
         ensures { OnOk result (IsChosenBy self.old self.new need) }
@@ -126,7 +133,7 @@ impl Choice {
         Ok(())
     }
 
-    /// Returns the slot of an instruction's duplicate, if it has one.
+    /// Returns the slot of an instruction's duplicate, if the instruction has one.
     pub(crate) fn duplicate_at(
         &self,
         plain: &Plain,
@@ -195,7 +202,7 @@ pub(crate) fn larger(left: usize, right: usize) -> usize
     if left < right { right } else { left }
 }
 
-/// Returns an instruction of a function.
+/// Returns the instruction of a function at the given index.
 pub(crate) fn instruction_at(function: &Function, index: usize) -> Instruction
     requires { index < length function.now.code.items }
     ensures { At (routine_of function.now).code index result }
@@ -226,7 +233,8 @@ pub(crate) fn choose(
     Ok(choice)
 }
 
-/// Chooses duplicates and hoisted instructions but no call, if the frame stays small with the extra slots.
+/// Chooses duplicates and hoisted instructions, but no call to inline, if the frame stays small with the
+/// extra slots.
 pub(crate) fn choose_duplicates(
     alloc: Global,
     plain: &Plain,

@@ -1,5 +1,5 @@
-//! Duplicates: an instruction may be duplicated into an extra slot just before it. Hoisted instructions: an instruction may be preceded by
-//! others, which write extra slots.
+//! Decides about duplicates and hoisted instructions. An instruction may be duplicated into an extra slot just before it. Hoisted
+//! instructions, which write extra slots, may be put before an instruction.
 ghost use Rattle.std.specs.Prelude.{◌≡◌, ◌≤◌, length};
 ghost use Rattle.cyc_inline.specs.declared.limits.TheConstants as limits;
 ghost use Rattle.cyc_inline.specs.inside.Emission as emission;
@@ -42,7 +42,8 @@ pub(crate) fn duplicate_slot(
     None
 }
 
-/// Returns true if an instruction may be preceded by hoisted ones: control can continue after it, and it is no inlined call.
+/// Returns true if hoisted instructions may precede an instruction: control can continue after it, and it is not an inlined
+/// call.
 pub(crate) fn may_follow_hoisted(instruction: Instruction) -> bool
     ensures { result ≡ opened.may_follow_hoisted instruction }
 {
@@ -135,7 +136,7 @@ pub(crate) fn hoisted_count(
     count
 }
 
-/// Returns a copy of the instruction with another destination slot.
+/// Returns a copy of the instruction that writes another slot instead.
 pub(crate) fn duplicate(slot: usize, instruction: Instruction) -> Instruction
     ensures { result ≡ opened.duplicate slot instruction }
 {

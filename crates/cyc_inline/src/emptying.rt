@@ -1,4 +1,4 @@
-//! Functions that nothing calls: their code is reduced to a return.
+//! Removes the code of functions that no reachable code calls, except a return.
 ghost use Rattle.std.specs.Prelude.{◌≡◌, ℕ, Some, true, IfOk, length, map, slice_get};
 ghost use Rattle.std.specs.Vec.Iter.{into_iter_items, into_iter_len};
 ghost use Rattle.cyc_plain.specs.declared.instruction.Instruction.{Instruction};
@@ -40,7 +40,7 @@ fn note_calls(function: &Function, reached: &mut Vec<bool>)
     }
 }
 
-/// Returns the marks with only `main` reached.
+/// Returns flags in which only `main` is marked as reached.
 fn main_reached(alloc: Global, plain: &Plain) -> Result<Vec<bool>, AllocError>
     ensures many { IfOk result (λ reached. length reached.items ≡ length plain.now.functions) }
     ensures main { IfOk result (λ reached. is_reached reached.items plain.now.main ≡ true) }
@@ -50,7 +50,7 @@ fn main_reached(alloc: Global, plain: &Plain) -> Result<Vec<bool>, AllocError>
     Ok(reached)
 }
 
-/// Returns the reached functions of a program: `main` and each function that some code calls.
+/// Returns the flags of reached functions: `main` and each function that some code calls.
 fn reached_in(alloc: Global, plain: &Plain) -> Result<Vec<bool>, AllocError>
     ensures { IfOk result (λ reached. AreReached plain.now reached.items) }
 {
@@ -87,7 +87,7 @@ fn next_flag(reached: &mut IntoIter<bool, Global>) -> bool
     }
 }
 
-/// Returns the place of the first return in code, or the end of the code if it has none.
+/// Returns the index of the first return in a code, or the code's length if it contains no return.
 fn first_return(code: &[Instruction]) -> usize
     ensures { result ≡ first_return code.now }
 {
@@ -99,7 +99,7 @@ fn first_return(code: &[Instruction]) -> usize
     code.len()
 }
 
-/// Returns the instruction at a place of code, if the place is not the end.
+/// Returns the instruction at an index of a code, if the index is not the end.
 fn instruction_in(code: &[Instruction], place: usize) -> Option<Instruction>
     ensures { result ≡ slice_get code.now place }
 {
@@ -109,7 +109,7 @@ fn instruction_in(code: &[Instruction], place: usize) -> Option<Instruction>
     }
 }
 
-/// Returns the origin of the instruction at a place of a function.
+/// Returns the origin of the instruction at an index of a function.
 fn origin_of(opened: &Option<Opened>, number: usize, index: usize) -> Origin {
     if let Some(opened) = opened {
         if let Some(origin) = opened.origins.get(index) {
@@ -122,7 +122,8 @@ fn origin_of(opened: &Option<Opened>, number: usize, index: usize) -> Origin {
     }
 }
 
-/// Returns the given function with only one of its instructions, whose origin is in the function given.
+/// Returns a function reduced to one instruction, `stub`, with the instruction's origin in the source
+/// function.
 fn emptied(
     alloc: Global,
     function: Function,
@@ -155,7 +156,8 @@ fn emptied(
     })
 }
 
-/// Returns the function of this number, or only a return if nothing calls it. A function without a return keeps its code.
+/// Returns the function with number `number`, reduced to a return if no code calls it. A function without a return keeps
+/// its code.
 fn keep(
     alloc: Global,
     function: Function,
@@ -179,7 +181,7 @@ fn keep(
     }
 }
 
-/// Returns the functions, without the code of those that nothing calls.
+/// Returns all functions; those that no code calls are reduced to a return.
 fn keep_all(
     alloc: Global,
     given: Vec<Function>,
@@ -206,7 +208,7 @@ fn keep_all(
     })
 }
 
-/// Returns the program without the code of functions that nothing calls.
+/// Returns the program in which functions that no code calls are reduced to a return.
 pub(crate) fn empty(alloc: Global, inlined: Inlined) -> Result<Inlined, AllocError>
     ensures { IfOk result (IsEmptied inlined) }
 {

@@ -1,4 +1,5 @@
-//! Plain programs in which some expressions have slots of their own.
+//! Gives some expressions of a plain program slots of their own, so that their values need not be
+//! recomputed.
 ghost use Rattle.std.specs.Prelude.{◌≤◌, IfOk, max, sum_by};
 ghost use Rattle.cyc_plain.specs.inside.Program.{size};
 ghost use Rattle.cyc_inline.specs.inside.Changes.{AreReported, notes_of};
@@ -8,8 +9,8 @@ use crate::inlining::{Inlined, Work, remake};
 use cyc_plain::Plain;
 use std::alloc::{AllocError, Global};
 
-/// Returns the program with duplicated instructions, which keep recomputed expressions in slots of their own. The program's size is at most
-/// `room` words, or at most its former size.
+/// Returns the program with duplicated instructions, which store the values of repeated expressions in extra slots. The program's size is
+/// at most `room` words, or at most its former size.
 pub fn name_expressions(alloc: Global, plain: Plain, room: usize) -> Result<Inlined, AllocError>
     ensures inlined { IfOk result (λ made. IsInlined plain made.plain) }
     ensures size { IfOk result (λ made. sum_by size made.plain.functions ≤ max (sum_by size plain.functions) room) }

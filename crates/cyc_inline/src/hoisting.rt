@@ -1,4 +1,5 @@
-//! Chooses loop-invariant expressions to hoist. Unverified: the checker validates each choice.
+//! Chooses the loop-invariant expressions that are hoisted. The search for expressions to hoist is
+//! not verified; the verified code checks each choice.
 use crate::duplicating::may_follow_hoisted;
 use crate::limits::MOST_HOISTED;
 use crate::naming::Search;
@@ -6,8 +7,8 @@ use crate::shapes::{COMPARED, LOAD_GLOBAL, Value};
 use cyc_plain::{Instruction, Operand};
 use std::alloc::{AllocError, Global};
 
-/// A candidate to hoist: the number of its expression, the instruction that computes it, and the instruction before which it would be
-/// computed, if there is one.
+/// A candidate for hoisting: the number of its expression, the instruction that computes it, and the instruction before which it
+/// would be hoisted, if there is one.
 #[derive(Clone, Copy)]
 pub(crate) struct Candidate {
     pub(crate) number: usize,
@@ -15,7 +16,8 @@ pub(crate) struct Candidate {
     pub(crate) front: Option<usize>,
 }
 
-/// Returns the instruction after which a loop is entered: the one before the loop header, or the one before that if it jumps to the header.
+/// Returns the index of the instruction before which a loop's expressions are hoisted: the last one before the loop header, or the one
+/// before that if the last one jumps.
 fn front_of(code: &[Instruction], head: usize) -> Option<usize> {
     let last = head.checked_sub(1)?;
     if may_follow_hoisted(*code.get(last)?) {
@@ -28,7 +30,8 @@ fn front_of(code: &[Instruction], head: usize) -> Option<usize> {
     }
 }
 
-/// The candidates, from `first` up to `end`, that remain candidates for the enclosing loop.
+/// The candidates for hoisting, from `first` up to `end`, that remain candidates for the enclosing
+/// loop.
 #[derive(Clone, Copy)]
 struct Kept {
     first: usize,
@@ -36,7 +39,7 @@ struct Kept {
 }
 
 impl Search {
-    /// Returns true if a kept candidate has the expression of this number.
+    /// Returns true if a kept candidate computes the expression with the given number.
     fn is_kept(&self, number: usize, kept: Kept) -> bool {
         for at in kept.first..kept.end {
             if let Some(candidate) = self.candidates.get(at) {
@@ -48,7 +51,8 @@ impl Search {
         false
     }
 
-    /// Returns true if a value does not change from before instruction `front` through the loop after it.
+    /// Returns true if a value stays the same from instruction `front` to the end of the loop that
+    /// follows.
     fn is_same_from(&self, value: Value, front: usize, kept: Kept) -> bool {
         match value {
             Value::Word { .. } => true,
@@ -57,7 +61,7 @@ impl Search {
         }
     }
 
-    /// Returns true if the operands of an expression do not change in the loop, and the expression cannot fail.
+    /// Returns true if an expression cannot fail and its operands do not change in the loop.
     fn stays_from(&self, number: usize, front: usize, kept: Kept) -> bool {
         match self.expressions.get(number) {
             Some(expression) => {
@@ -73,7 +77,8 @@ impl Search {
         }
     }
 
-    /// Closes a candidate. If some loop leaves it invariant, it is hoisted before that loop.
+    /// Decides about a candidate. If the candidate is invariant in some loop, it is hoisted before
+    /// that loop.
     fn settle(&mut self, candidate: Candidate) -> Result<(), AllocError> {
         if candidate.front.is_some() {
             self.need(candidate.number);
@@ -82,7 +87,7 @@ impl Search {
         Ok(())
     }
 
-    /// Closes the loops of which an instruction is the last back jump.
+    /// Closes the loops whose last back jump is the given instruction.
     pub(crate) fn close(
         &mut self,
         code: &[Instruction],
@@ -96,7 +101,8 @@ impl Search {
         }
     }
 
-    /// Moves the kept candidates to the front of the list and drops the others.
+    /// Closes a loop: moves the candidates that stay invariant to the front of the list and removes
+    /// the others.
     fn close_loop(&mut self, code: &[Instruction], head: usize) -> Result<(), AllocError> {
         let front = front_of(code, head);
         let first = self.first_from(head);
@@ -115,7 +121,8 @@ impl Search {
         Ok(())
     }
 
-    /// Returns a loop's candidate as a candidate of the enclosing loop, hoisted before the inner loop, if that is allowed.
+    /// Returns a loop's candidate as a candidate of the enclosing loop, hoisted before the inner loop, if hoisting is
+    /// allowed there.
     fn held_on(
         &mut self,
         candidate: Candidate,
@@ -145,7 +152,7 @@ impl Search {
         Ok(Some(candidate))
     }
 
-    /// Returns the first trailing candidate at or after `head`.
+    /// Returns the list index of the first candidate whose instruction is at or after `head`.
     fn first_from(&self, head: usize) -> usize {
         let count = self.candidates.len();
         for at in (0..count).rev() {
@@ -158,7 +165,7 @@ impl Search {
         0
     }
 
-    /// Closes every expression that is still a candidate after the last loop.
+    /// Decides about every expression that is still a candidate after the last loop.
     pub(crate) fn settle_all(&mut self) -> Result<(), AllocError> {
         for at in 0..self.candidates.len() {
             if let Some(candidate) = self.candidates.get(at) {
@@ -184,7 +191,8 @@ impl Search {
         }
     }
 
-    /// Returns the instruction that computes an expression of this code for its slot.
+    /// Returns the instruction that computes an expression of the code into the expression's own
+    /// slot.
     fn hoisted_of(&self, code: &[Instruction], number: usize) -> Option<Instruction> {
         let expression = self.expressions.get(number)?;
         let destination = expression.slot;
@@ -220,7 +228,7 @@ impl Search {
         Ok(())
     }
 
-    /// For each instruction of this code, returns the instructions hoisted before it.
+    /// Returns, for each instruction of a code, the instructions hoisted before it.
     pub(crate) fn preceded(
         &self,
         alloc: Global,

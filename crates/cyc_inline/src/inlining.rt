@@ -1,4 +1,4 @@
-//! Inlines small functions that call nothing.
+//! Inlines small functions that call no function.
 ghost use Rattle.std.specs.Prelude.{◌≡◌, ◌+◌, ◌<◌, ◌≤◌, ◌⊎◌, IfOk, length, max, sum_by};
 ghost use Rattle.cyc_plain.specs.declared.limits.TheConstants as limits;
 ghost use Rattle.cyc_plain.specs.inside.Program.{size};
@@ -15,19 +15,20 @@ use crate::sizes::spare_of;
 use cyc_plain::Plain;
 use std::alloc::{AllocError, Global};
 
-/// The result of inlining a program.
+/// The result of inlining: the new program and the origins of its functions.
 #[derive(Drop)]
 pub struct Inlined {
-    /// The inlined program, which behaves as the given one.
+    /// The inlined program, which behaves as the source program.
     pub plain: Plain,
-    /// For each function, its origin if it was replaced.
+    /// For each function, the source function and instruction origins if the function was replaced.
     pub opened: Vec<Option<Opened>>,
 }
 
-/// The change made to the functions of a program.
+/// The kind of change made to the functions of a program.
 #[derive(Clone, Copy)]
 pub(crate) enum Work<'a> {
-    /// Inline calls of leafs: for each function, the number of its instructions that stand in line if it is a leaf, else 0.
+    /// Calls of leaf functions are inlined. `leafs` gives, for each function, the number of its in-line instructions if it
+    /// is a leaf, else 0.
     Calls { leafs: &'a [usize] },
     /// Duplicate instructions.
     Duplicates,
@@ -56,7 +57,8 @@ fn first_of(search: &mut Search, plain: &Plain, work: Work) -> Result<usize, All
     }
 }
 
-/// Returns by how many words a program may grow, if the functions from `first` on may change.
+/// Returns the number of words by which a program may grow, if the functions from `first` on may
+/// change.
 fn spare_for(plain: &Plain, first: usize, room: usize) -> usize
     ensures { (result ≡ 0) ⊎ ((sum_by size plain.now.functions + result ≤ room) × (sum_by size plain.now.functions + result ≤ limits.MOST_SIZE)) }
 {
@@ -67,7 +69,7 @@ fn spare_for(plain: &Plain, first: usize, room: usize) -> usize
     }
 }
 
-/// Returns by how many words the functions after one may grow.
+/// Returns the number of words by which the functions after a changed function may grow.
 fn left_of(change: &Option<Made>, spare: usize) -> usize
     ensures { result ≡ left_of change.now spare }
 {
@@ -77,8 +79,8 @@ fn left_of(change: &Option<Made>, spare: usize) -> usize
     }
 }
 
-/// Returns the replacement of the function of this number, if there is one. Functions before the first changed function have no
-/// replacement.
+/// Returns the replacement of the function with number `number`, if there is one. Functions before the first changed function
+/// have no replacement.
 fn change_of(
     alloc: Global,
     search: &mut Search,
@@ -102,7 +104,7 @@ fn change_of(
     }
 }
 
-/// Returns for each function of a program its replacement, if it has one.
+/// Returns, for each function of a program, its replacement if it has one.
 fn changes_of(
     alloc: Global,
     plain: &Plain,
@@ -126,7 +128,7 @@ fn changes_of(
     Ok(changes)
 }
 
-/// Returns the program with this change made to its functions.
+/// Returns the program after the requested change to its functions.
 pub(crate) fn remake(
     alloc: Global,
     plain: Plain,
@@ -147,8 +149,8 @@ pub(crate) fn remake(
     })
 }
 
-/// Returns the program with calls of small leafs inlined and without the code of functions that nothing then calls. The program's size is
-/// at most `room` words, or at most its former size.
+/// Returns the program with calls of small leaf functions inlined; functions that are then never called are reduced to a return. The
+/// program's size is at most `room` words, or at most its former size.
 pub fn inline(alloc: Global, plain: Plain, room: usize) -> Result<Inlined, AllocError>
     ensures inlined { IfOk result (λ made. IsInlined plain made.plain) }
     ensures size { IfOk result (λ made. sum_by size made.plain.functions ≤ max (sum_by size plain.functions) room) }

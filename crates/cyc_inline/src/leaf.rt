@@ -1,4 +1,4 @@
-//! Functions that may be inlined: small ones that call nothing.
+//! Finds the functions that may be inlined: small functions that call no function.
 ghost use Rattle.std.specs.Prelude.{◌≡◌, ◌<◌, ◌≤◌, true, length, IfOk};
 ghost use Rattle.std.specs.List.{AllByRecursion};
 ghost use Rattle.cyc_plain.specs.inside.Program.{routine_at, routine_of};
@@ -11,7 +11,8 @@ use crate::limits::MOST_LEAF_CODE;
 use cyc_plain::{Function, Instruction, Plain};
 use std::alloc::{AllocError, Global};
 
-/// Returns true if an instruction may be part of a leaf. A back jump may not: a loop costs much more than the call.
+/// Returns true if a leaf may contain the instruction. A jump back is not allowed in a leaf, because a loop costs
+/// much more than the call.
 fn is_of_leaf(instruction: Instruction, index: usize) -> bool
     ensures { result ≡ true → is_of_leaf instruction ≡ true }
 {
@@ -83,8 +84,8 @@ fn is_target(code: &[Instruction], place: usize) -> bool {
     false
 }
 
-/// Returns the number of a leaf's instructions that stand in line: all up to the last reachable return, which then falls through to the
-/// code after the call. Instructions that raise exceptions and unreachable ones are placed out of line.
+/// Returns the number of a leaf's in-line instructions: all up to the last reachable return, which then falls through to the code after
+/// the call. Instructions that raise exceptions and unreachable instructions are placed out of line.
 pub fn line_of(code: &[Instruction]) -> usize
     ensures { result ≤ length code.now }
 {
@@ -100,7 +101,7 @@ pub fn line_of(code: &[Instruction]) -> usize
     line
 }
 
-/// Returns the number of the function's instructions that stand in line if it is a leaf, else 0.
+/// Returns the number of the function's in-line instructions if the function is a leaf, else 0.
 fn leaf_line(function: &Function) -> usize
     ensures { 0 < result → IsLeaf (routine_of function.now) result }
 {
@@ -115,7 +116,7 @@ fn leaf_line(function: &Function) -> usize
     }
 }
 
-/// Returns `leaf_line` of the function of this number. The function `main` is never a leaf.
+/// Returns `leaf_line` of the function with number `number`. The function `main` is never a leaf.
 fn line_at(plain: &Plain, number: usize) -> usize
     requires { number < length plain.now.functions }
     ensures { 0 < result → IsLeaf (routine_at plain.now number) result }
@@ -127,7 +128,8 @@ fn line_at(plain: &Plain, number: usize) -> usize
     }
 }
 
-/// Returns for each function the number of its instructions that stand in line if it is a leaf, else 0.
+/// Returns, for each function, the number of its in-line instructions if the function is a leaf, else
+/// 0.
 pub(crate) fn leafs_of(alloc: Global, plain: &Plain) -> Result<Vec<usize>, AllocError>
     ensures { IfOk result (λ lines. AreLeafs plain.now lines.items) }
 {

@@ -1,4 +1,5 @@
-//! Inlining of small functions that call nothing, and slots of their own for recomputed expressions.
+//! Inlining of small functions that call no function, and extra slots for the values of repeated
+//! expressions.
 #![tactic(auto)]
 
 mod caller;

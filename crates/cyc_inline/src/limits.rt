@@ -1,10 +1,10 @@
-//! The limits of inlining.
+//! The limits of inlining: code sizes and hoisted expressions.
 
-/// The most instructions that an inlined function may have.
+/// The maximum number of instructions of a function that is inlined.
 pub(crate) const MOST_LEAF_CODE: usize = 32;
 
-/// The most instructions by which a function may grow.
+/// The maximum number of instructions by which inlining may extend a function.
 pub(crate) const MOST_GROWTH: usize = 4000;
 
-/// The most expressions hoisted before one loop.
+/// The maximum number of expressions that are hoisted before one loop.
 pub(crate) const MOST_HOISTED: usize = 8;

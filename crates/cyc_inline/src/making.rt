@@ -1,4 +1,5 @@
-//! Replacements of a program's functions, with some calls inlined or some instructions duplicated.
+//! Makes replacements of a program's functions, in which some calls are inlined or some
+//! instructions are duplicated.
 ghost use Rattle.std.specs.Prelude.{◌+◌, ◌<◌, ◌≤◌, length, IfOk, IfSome};
 ghost use Rattle.cyc_plain.specs.inside.Program.{routine_at, routine_of, size};
 ghost use Rattle.cyc_plain.specs.inside.WellFormed.{IsPlain};
@@ -16,17 +17,18 @@ use crate::tables::place_in;
 use cyc_plain::{Function, Instruction, LAYOUT_WORDS, MOST_SIZE, Plain};
 use std::alloc::{AllocError, Global};
 
-/// A replacement of a function.
+/// A replacement of a function: the new function, the origins of its instructions, and the growth
+/// left.
 #[derive(Drop)]
 pub(crate) struct Made {
     pub(crate) function: Function,
     /// The origin of each of the replacement's instructions.
     pub(crate) origins: Vec<Origin>,
-    /// The number of words by which the functions after the replaced one may grow.
+    /// The number of words by which the functions after the replaced function may grow.
     pub(crate) spare: usize,
 }
 
-/// Returns the function with these calls inlined and these instructions duplicated.
+/// Returns the function with the chosen calls inlined and the chosen instructions duplicated.
 fn opened(
     alloc: Global,
     plain: &Plain,
@@ -67,7 +69,8 @@ fn opened(
     })
 }
 
-/// Returns by how many words the functions after this one may grow, unless this one grows too much.
+/// Returns the number of words by which later functions may grow, or `None` if the replacement
+/// `made` grows too much.
 fn spare_after(given: &Function, made: &Function, spare: usize) -> Option<usize>
     ensures { IfSome result (λ left. size (routine_of made.now) + left ≤ size (routine_of given.now) + spare) }
 {
@@ -80,7 +83,7 @@ fn spare_after(given: &Function, made: &Function, spare: usize) -> Option<usize>
     Some(most - following)
 }
 
-/// Returns the function of this number with these calls inlined and these instructions duplicated, if its code fits the size limit.
+/// Returns a function with the chosen calls inlined and the chosen instructions duplicated, if its code fits the size limit.
 fn opened_in(
     alloc: Global,
     plain: &Plain,
@@ -101,7 +104,7 @@ fn opened_in(
     Ok(None)
 }
 
-/// Returns true if a function calls one that may be inlined.
+/// Returns true if a function calls a function that may be inlined.
 fn has_site(function: &Function, leafs: &[usize]) -> bool {
     for instruction in &function.code {
         if let Instruction::Call { function, .. } = *instruction {
@@ -113,7 +116,7 @@ fn has_site(function: &Function, leafs: &[usize]) -> bool {
     false
 }
 
-/// Returns the function of this number with calls inlined, or none if no call of it can be inlined or its code would be too large.
+/// Returns a function with calls inlined, or `None` if none of its calls can be inlined or its code would be too large.
 pub(crate) fn make(
     alloc: Global,
     plain: &Plain,
@@ -138,7 +141,7 @@ pub(crate) fn make(
     }
 }
 
-/// Returns the function of this number with instructions duplicated, or none if nothing is duplicated or its code would be too large.
+/// Returns a function with instructions duplicated, or `None` if no instruction is duplicated or its code would be too large.
 pub(crate) fn make_duplicates(
     alloc: Global,
     search: &mut Search,

@@ -1,4 +1,4 @@
-//! Instructions with shifted slots and moved jump targets.
+//! Shifts the slots of instructions and moves their jump targets.
 ghost use Rattle.std.specs.Prelude.{◌≡◌, ◌+◌, ◌<◌, ◌^◌};
 ghost use Rattle.cyc_inline.specs.inside.Emission.{IsFit, IsFitOperand};
 ghost use Rattle.cyc_inline.specs.inside.Opened as opened;

@@ -1,15 +1,17 @@
-//! Chooses the expressions of a function that get slots of their own: those that are computed again after their slot was overwritten, and
-//! loop invariants, which are hoisted too. Unverified: the checker validates each choice.
+//! Chooses the expressions of a function that get extra slots. Extra slots are given to expressions that are computed again after their
+//! slot was overwritten, and to loop invariants, which are also hoisted. The search for such expressions is not verified; the verified
+//! code checks each choice.
 use crate::hoisting::Candidate;
 use crate::shapes::{LOAD, LOAD_GLOBAL, Shape, Value, bucket_of, is_same_shape, is_slot, kind_of};
 use crate::writing::{Slots, pinned_by, slots_from, stores, written_by};
 use cyc_plain::{BinaryOperator, Function, Instruction, Operand, Plain};
 use std::alloc::{AllocError, Global};
 
-/// The most expressions of one bucket that are compared.
+/// The maximum number of expressions in a hash bucket that are compared.
 const MOST_COMPARED: usize = 8;
 
-/// The most instructions of a small function. In a small function an expression may get a slot outside loops too.
+/// The maximum number of instructions of a small function. In a small function an expression may get a slot
+/// outside loops too.
 const MOST_SMALL: usize = 256;
 
 #[derive(Clone, Copy)]
@@ -17,76 +19,82 @@ pub(crate) struct Expression {
     pub(crate) shape: Shape,
     /// The first instruction that computes the expression.
     pub(crate) index: usize,
-    /// The number plus 1 of the previous expression in this expression's bucket, or 0.
+    /// The number plus 1 of the previous expression in the same hash bucket, or 0.
     before: usize,
-    /// The time of the expression's last computation, and the time since which the expression has this value.
+    /// The time at which the expression was last computed, and the time since which the expression has had
+    /// its present value.
     seen_at: usize,
     since: usize,
-    /// The slot that received the expression last.
+    /// The slot into which the expression was last computed.
     holder: usize,
     /// True if the expression was computed again after the slot that held it was overwritten, or is hoisted before a loop.
     pub(crate) is_needed: bool,
-    /// The expression's own slot, or 0.
+    /// The extra slot of the expression, or 0 if it has none.
     pub(crate) slot: usize,
 }
 
-/// The knowledge about a slot.
+/// The facts known about a slot.
 #[derive(Clone, Copy)]
 struct Held {
-    /// The time of the last write to the slot, and the value that the slot has held since.
+    /// The time of the last write to the slot, and the value that the slot has had since then.
     written: usize,
     value: Value,
     /// True if the slot's address is taken.
     is_pinned: bool,
 }
 
-/// A slot that was never written.
+/// The facts about a slot that was never written.
 const UNWRITTEN: Held = Held {
     written: 0,
     value: Value::Word { word: 0 },
     is_pinned: false,
 };
 
-/// The knowledge about an instruction.
+/// The facts known about an instruction.
 #[derive(Clone, Copy)]
 pub(crate) struct Place {
-    /// The number plus 1 of the last instruction that jumps back to this one, or 0.
+    /// The number plus 1 of the last instruction that jumps back to this instruction, or 0 if none
+    /// does.
     end: usize,
-    /// The number plus 1 of the instruction's expression, or 0.
+    /// The number plus 1 of the expression that the instruction computes, or 0.
     pub(crate) seen: usize,
-    /// The number plus 1 of the newest expression in the bucket with the instruction's index, or 0. The table has as many buckets as the
+    /// The number plus 1 of the newest expression in the hash bucket with this index, or 0. The table has as many buckets as the
     /// function has instructions.
     newest: usize,
 }
 
-/// An instruction not visited yet.
+/// The facts about an instruction that has not been visited yet.
 const UNSEEN: Place = Place {
     end: 0,
     seen: 0,
     newest: 0,
 };
 
-/// The known facts about a function. The lists of the facts are reused for the next function, to save allocation.
+/// The facts known about a function. The lists in this struct are reused for the next function, which saves
+/// allocations.
 #[derive(Drop)]
 pub(crate) struct Search {
     held: Vec<Held>,
     pub(crate) places: Vec<Place>,
     pub(crate) expressions: Vec<Expression>,
-    /// Candidates to hoist out of a loop that has not ended, and the hoisted expressions.
+    /// The candidates for hoisting out of loops that have not ended yet, and the hoisted
+    /// expressions.
     pub(crate) candidates: Vec<Candidate>,
     pub(crate) all_hoisted: Vec<Candidate>,
-    /// The time of the last change of memory, and the time since which known values are valid.
+    /// The time of the last change of memory, and the time since which the known values are valid.
     pub(crate) stored: usize,
     begun: usize,
-    /// The last instruction at which an expression is worth a slot: the last one of the loops so far, or of a small function.
+    /// The last instruction at which an expression is worth a slot: the last instruction of the loops so far, or of a small
+    /// function.
     worth: usize,
     /// The number plus 1 of the last instruction of the loops so far, or 0.
     looped: usize,
-    /// The first instruction from which no expression becomes needed: it follows every loop and any small function.
+    /// The first instruction after which no expression can become needed; it follows every loop and any small
+    /// function.
     pub(crate) decided: usize,
     /// True if some expression is needed.
     pub(crate) has_needed: bool,
-    /// The number plus 1 of the function that this knowledge describes, or 0 if unknown.
+    /// The number plus 1 of the function that these facts describe, or 0 if they describe none.
     pub(crate) reported: usize,
 }
 
@@ -114,7 +122,7 @@ impl Search {
 
     // ---- the tables of a function
 
-    /// Resets the tables for another function.
+    /// Resets the tables of facts for another function.
     pub(crate) fn begin(&mut self, function: &Function) -> Result<(), AllocError> {
         self.held.clear();
         self.held.resize(function.slots, UNWRITTEN)?;
@@ -137,7 +145,7 @@ impl Search {
         Ok(())
     }
 
-    /// Notes where loops end, and which slots have their addresses taken.
+    /// Records where loops end, and which slots have their addresses taken.
     fn note_ends(&mut self, code: &[Instruction]) {
         for (index, instruction) in code.iter().enumerate() {
             match instruction {
@@ -154,7 +162,7 @@ impl Search {
         }
     }
 
-    /// Notes that a loop begins at one instruction and ends before another.
+    /// Records that a loop begins at instruction `head` and ends before instruction `end`.
     fn end_at(&mut self, head: usize, end: usize) {
         if let Some(place) = self.places.get_mut(head) {
             place.end = end;
@@ -170,7 +178,8 @@ impl Search {
         }
     }
 
-    /// Returns the number plus 1 of the last instruction that jumps back to this one, or 0.
+    /// Returns the number plus 1 of the last instruction that jumps back to the given one, or 0 if
+    /// none does.
     pub(crate) fn end_of(&self, index: usize) -> usize {
         match self.places.get(index) {
             Some(place) => place.end,
@@ -207,7 +216,7 @@ impl Search {
         }
     }
 
-    /// Returns the value of a slot: the value last written if that is still valid, else the slot itself.
+    /// Returns the value of a slot: the value written last, if it is still valid, else the slot itself.
     fn value_by(&self, held: &Held, slot: usize) -> Value {
         if held.written >= self.begun && self.changed(held.value) <= held.written {
             held.value
@@ -216,7 +225,7 @@ impl Search {
         }
     }
 
-    /// Returns the value of a slot whose address is not taken.
+    /// Returns the value of a slot, or `None` if the slot's address is taken.
     fn free_in(&self, slot: usize) -> Option<Value> {
         let held = self.held.get(slot)?;
         if held.is_pinned {
@@ -226,7 +235,7 @@ impl Search {
         }
     }
 
-    /// Returns the value of an operand that no address reaches.
+    /// Returns the value of an operand, or `None` if it is a slot whose address is taken.
     fn free_of(&self, operand: Operand) -> Option<Value> {
         match operand {
             Operand::Word { word } => Some(Value::Word { word }),
@@ -234,7 +243,8 @@ impl Search {
         }
     }
 
-    /// Returns the value of an operand. Nothing is known of a slot whose address is taken.
+    /// Returns the value of an operand. The value of a slot whose address is taken is the slot
+    /// itself.
     fn value_of(&self, operand: Operand) -> Value {
         match operand {
             Operand::Word { word } => Value::Word { word },
@@ -245,7 +255,8 @@ impl Search {
         }
     }
 
-    /// Returns the expression that an operator computes for a slot whose address is not taken.
+    /// Returns the expression that an operator computes into a slot, if the slot's address is not
+    /// taken.
     fn shape_of(
         &self,
         operator: BinaryOperator,
@@ -263,7 +274,7 @@ impl Search {
         }
     }
 
-    /// Returns the expression of a load from an address.
+    /// Returns the expression that a load from an address computes.
     fn loaded_from(&self, address: Operand, offset: u32) -> Shape {
         Shape {
             kind: LOAD,
@@ -272,7 +283,7 @@ impl Search {
         }
     }
 
-    /// Returns the time of the last change of an expression's operands.
+    /// Returns the time at which an operand of an expression last changed.
     fn made(&self, shape: Shape) -> usize {
         if shape.kind == LOAD_GLOBAL {
             return self.stored;
@@ -287,7 +298,8 @@ impl Search {
 
     // ---- computed expressions
 
-    /// Returns the number plus 1 of the first known expression of this bucket that has this shape, or 0.
+    /// Returns the number plus 1 of the first known expression with the given shape in a hash bucket, or
+    /// 0.
     fn find(&self, shape: Shape, newest: usize) -> usize {
         let mut at = newest;
         for _ in 0..MOST_COMPARED {
@@ -309,7 +321,7 @@ impl Search {
         0
     }
 
-    /// Notes that the expression of this number is computed again, for a slot.
+    /// Records that a known expression is computed again into a slot.
     fn see_again(&mut self, number: usize, made: usize, slot: usize, time: usize) {
         let written = match self.expressions.get(number) {
             Some(expression) => self.written(expression.holder),
@@ -330,7 +342,7 @@ impl Search {
         self.has_needed = self.has_needed || is_needed;
     }
 
-    /// Notes that an expression is computed for a slot. Returns the expression's number plus 1.
+    /// Records that an expression is computed into a slot. Returns the expression's number plus 1.
     fn see(&mut self, shape: Shape, index: usize, slot: usize) -> Result<usize, AllocError> {
         let time = index.wrapping_add(1);
         let bucket = bucket_of(shape, self.places.len());
@@ -361,7 +373,8 @@ impl Search {
         Ok(at)
     }
 
-    /// Notes that an instruction computes or loads an expression for a slot. Within a loop the expression becomes a candidate to hoist.
+    /// Records that an instruction computes or loads an expression into a slot. Within a loop the expression becomes a candidate for
+    /// hoisting.
     fn compute(&mut self, shape: Shape, index: usize, slot: usize) -> Result<(), AllocError> {
         let time = index.wrapping_add(1);
         if self.is_pinned(slot) {
@@ -384,7 +397,7 @@ impl Search {
         Ok(())
     }
 
-    /// Marks the expression of this number as needed.
+    /// Marks the expression with the given number as needed.
     pub(crate) fn need(&mut self, number: usize) {
         if let Some(expression) = self.expressions.get_mut(number) {
             expression.is_needed = true;
@@ -394,7 +407,7 @@ impl Search {
 
     // ---- writes
 
-    /// Notes that a slot is written with this value.
+    /// Records that a slot is written with the given value.
     fn write(&mut self, slot: usize, value: Value, time: usize) {
         let mut is_pinned = true;
         if let Some(held) = self.held.get_mut(slot) {
@@ -409,7 +422,7 @@ impl Search {
         }
     }
 
-    /// Notes that consecutive slots are copied to other slots.
+    /// Records that consecutive slots are copied to other slots.
     fn copy(&mut self, destination: usize, source: usize, count: usize, time: usize) {
         for word in 0..count {
             let slot = destination.wrapping_add(word);
@@ -421,7 +434,7 @@ impl Search {
         }
     }
 
-    /// Notes that the slots that an instruction writes hold unknown values.
+    /// Records that the slots that an instruction writes have unknown values.
     fn renew(&mut self, slots: Slots, time: usize) {
         for word in 0..slots.count {
             let slot = slots.first.wrapping_add(word);
@@ -429,7 +442,7 @@ impl Search {
         }
     }
 
-    /// Records that an operator writes a slot.
+    /// Records that an operator computes a value into a slot.
     fn operate(
         &mut self,
         operator: BinaryOperator,
@@ -447,7 +460,7 @@ impl Search {
         }
     }
 
-    /// Notes that a slot receives the word at an address.
+    /// Records that a slot receives the word loaded from an address.
     fn load(
         &mut self,
         destination: usize,
@@ -459,7 +472,7 @@ impl Search {
         self.compute(shape, index, destination)
     }
 
-    /// Updates the knowledge before an instruction: if a loop begins there, no known value stays valid.
+    /// Updates the facts before an instruction: if a loop begins there, no known value stays valid.
     fn come_to(&mut self, index: usize) {
         let end = self.end_of(index);
         if end > 0 {
@@ -469,7 +482,7 @@ impl Search {
         }
     }
 
-    /// Updates the knowledge by one instruction of this code.
+    /// Updates the facts by the effect of one instruction.
     pub(crate) fn look(
         &mut self,
         plain: &Plain,
@@ -518,7 +531,7 @@ impl Search {
     }
 }
 
-/// Returns the expression of a load of a global.
+/// Returns the expression that a load of a global computes.
 fn loaded_global(global: usize) -> Shape {
     Shape {
         kind: LOAD_GLOBAL,

@@ -1,9 +1,10 @@
-//! Decides in which functions expressions need slots of their own, and assigns these slots.
+//! Decides which functions need extra slots for expressions, and assigns these slots.
 use crate::naming::{Search, is_small};
 use cyc_plain::{Function, Instruction, LAYOUT_WORDS, MOST_FRAME_WORDS, Plain};
 use std::alloc::{AllocError, Global};
 
-/// The number of slots including the extra ones, and for each instruction the slot of its duplicate (or 0) and its hoisted instructions.
+/// The number of slots including the extra ones. For each instruction, the struct also stores the slot of its duplicate (or 0) and its
+/// hoisted instructions.
 #[derive(Drop)]
 pub(crate) struct Duplicates {
     pub(crate) slots: usize,
@@ -11,7 +12,7 @@ pub(crate) struct Duplicates {
     pub(crate) all_hoisted: Vec<Vec<Instruction>>,
 }
 
-/// Returns true if code jumps back.
+/// Returns true if the code contains a jump or branch back to an earlier or the same instruction.
 fn has_loop(code: &[Instruction]) -> bool {
     for (index, instruction) in code.iter().enumerate() {
         match instruction {
@@ -27,7 +28,8 @@ fn has_loop(code: &[Instruction]) -> bool {
 }
 
 impl Search {
-    /// Scans a function until no further expression can become needed. Returns true if the function needs a slot for an expression.
+    /// Scans a function until no further expression can become needed. Returns true if the function needs an extra slot for an
+    /// expression.
     fn look_at(&mut self, plain: &Plain, function: &Function) -> Result<bool, AllocError> {
         if function.frame_count > MOST_FRAME_WORDS {
             return Ok(false);
@@ -49,8 +51,8 @@ impl Search {
         Ok(self.has_needed)
     }
 
-    /// Returns the number of the first function that needs a slot for an expression, or the number of functions. The known facts about the
-    /// returned function are kept.
+    /// Returns the number of the first function that needs an extra slot for an expression, or the number of functions. The facts about
+    /// the returned function are kept.
     pub(crate) fn first_needing(&mut self, plain: &Plain) -> Result<usize, AllocError> {
         let functions = plain.functions();
         for (number, function) in functions.iter().enumerate() {
@@ -62,7 +64,8 @@ impl Search {
         Ok(functions.len())
     }
 
-    /// Assigns slots to needed expressions while the frame has room. Returns the number of slots of the function after the assignment.
+    /// Assigns extra slots to needed expressions while the frame has space. Returns the function's number of slots after the
+    /// assignment.
     fn give_slots(&mut self, slots: usize) -> usize {
         let mut next = slots;
         for number in 0..self.expressions.len() {
@@ -76,7 +79,7 @@ impl Search {
         next
     }
 
-    /// Returns for each instruction the slot of its expression, or 0.
+    /// Returns, for each instruction, the extra slot of its expression, or 0.
     fn wanted(&self, alloc: Global) -> Result<Vec<usize>, AllocError> {
         let mut wanted = Vec::with_capacity(alloc, self.places.len())?;
         for place in &self.places {
@@ -92,7 +95,7 @@ impl Search {
     }
 }
 
-/// Returns the duplicates and hoisted instructions of the function of this number, if it gets any.
+/// Returns the duplicates and hoisted instructions of a function, or `None` if it gets neither.
 pub(crate) fn duplicates_of(
     alloc: Global,
     search: &mut Search,

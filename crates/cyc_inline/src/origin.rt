@@ -1,10 +1,10 @@
 //! The origins of the instructions of an inlined program.
 
-/// An instruction of the given program, from which one or more instructions are made.
+/// An instruction of the source program, as the origin of one or more instructions.
 #[derive(Clone, Copy, Debug, PartialEq, Eq)]
 pub struct Origin {
-    /// The number of the origin's function.
+    /// The number of the function that contains the origin.
     pub function: usize,
-    /// The origin's place in the code of its function.
+    /// The index of the origin in the code of its function.
     pub index: usize,
 }

@@ -1,4 +1,4 @@
-//! The functions of a program, some of which are replaced.
+//! Replaces some functions of a program.
 ghost use Rattle.std.specs.Prelude.{◌≡◌, IfOk, length};
 ghost use Rattle.std.specs.Vec.Iter.{into_iter_items, into_iter_len};
 ghost use Rattle.cyc_inline.specs.inside.Changes.{first_of, function_of, note_of, noted, others, replaced};
@@ -9,23 +9,23 @@ use cyc_plain::Function;
 use std::alloc::{AllocError, Global};
 use std::vec::IntoIter;
 
-/// The origin of a replaced function.
+/// The source of a replaced function: the source function and the origins of the new instructions.
 #[derive(Drop)]
 pub struct Opened {
-    /// The function that was given.
+    /// The source function, before its replacement.
     pub given: Function,
-    /// The origin of each instruction of the replacement.
+    /// The origin of each instruction in the replacement.
     pub origins: Vec<Origin>,
 }
 
-/// A function of the program, and its origin if it was replaced.
+/// A function of the program, and its source if the function was replaced.
 #[derive(Drop)]
 pub(crate) struct Placed {
     pub(crate) function: Function,
     pub(crate) opened: Option<Opened>,
 }
 
-/// The functions of the program, and for each its origin if it was replaced.
+/// The functions of the program, and the source of each function that was replaced.
 #[derive(Drop)]
 pub(crate) struct Replaced {
     pub(crate) functions: Vec<Function>,
@@ -63,7 +63,7 @@ fn place(given: Function, change: Option<Made>) -> Placed
     }
 }
 
-/// Returns the functions, each with its replacement in its place if it has one.
+/// Returns the functions; each function that has a replacement is replaced by it.
 pub(crate) fn replace(
     alloc: Global,
     given: Vec<Function>,

@@ -1,13 +1,14 @@
-//! The operation and operands of an instruction, used to compare expressions.
+//! The operation and operands of an instruction, by which expressions are compared.
 use cyc_plain::BinaryOperator;
 
-/// The first kind of the comparison operators; the kinds of loads follow them.
+/// The kind number of the first comparison operator; the kinds of loads follow those of the
+/// comparisons.
 pub(crate) const COMPARED: usize = 10;
 
-/// The kind of a load from an address, numbered after the kinds of the operators.
+/// The kind number of a load from an address, after the kinds of the operators.
 pub(crate) const LOAD: usize = 16;
 
-/// The kind of a load of a global.
+/// The kind number of a load of a global.
 pub(crate) const LOAD_GLOBAL: usize = 17;
 
 /// The known value of an operand: a word, a slot, or an expression.
@@ -18,7 +19,7 @@ pub(crate) enum Value {
     Expression { number: usize },
 }
 
-/// The operation and the operands of an instruction.
+/// The operation and the operands of an instruction, as known values.
 #[derive(Clone, Copy)]
 pub(crate) struct Shape {
     pub(crate) kind: usize,
@@ -43,12 +44,12 @@ fn is_same(one: Value, other: Value) -> bool {
     }
 }
 
-/// Returns true if two instructions of these shapes compute the same value.
+/// Returns true if two instructions with these shapes compute the same value.
 pub(crate) fn is_same_shape(one: Shape, other: Shape) -> bool {
     one.kind == other.kind && is_same(one.left, other.left) && is_same(one.right, other.right)
 }
 
-/// Returns true if a value is the content of this slot.
+/// Returns true if a value is the content of the given slot.
 pub(crate) fn is_slot(value: Value, slot: usize) -> bool {
     match value {
         Value::Slot { number } => number == slot,
@@ -65,7 +66,7 @@ fn sum_of(value: Value) -> usize {
     }
 }
 
-/// Returns the bucket, out of `count`, that holds a shape.
+/// Returns the hash bucket, out of `count`, for a shape.
 pub(crate) fn bucket_of(shape: Shape, count: usize) -> usize {
     if count == 0 {
         return 0;
@@ -75,7 +76,7 @@ pub(crate) fn bucket_of(shape: Shape, count: usize) -> usize {
     left.wrapping_add(right).wrapping_add(shape.kind) % count
 }
 
-/// Returns the kind of an operator that may be duplicated.
+/// Returns the kind number of an operator, or `None` if the operator may not be duplicated.
 pub(crate) fn kind_of(operator: BinaryOperator) -> Option<usize> {
     match operator {
         BinaryOperator::Add => Some(0),

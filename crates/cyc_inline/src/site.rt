@@ -1,4 +1,5 @@
-//! Inlined calls: the callee's code replaces the call, and part of it is placed out of line after the caller's code.
+//! Emits inlined calls: the callee's code replaces the call, and part of it is placed out of line after the caller's
+//! code.
 ghost use Rattle.std.specs.Prelude.{◌≡◌, ◌+◌, ◌*◌, ◌<◌, ◌≤◌, ◌^◌, IfOk, length, replicate, nat_lt, if◌then◌else◌, [], true, false};
 ghost use Rattle.cyc_plain.specs.declared.limits.TheConstants.{GREATEST_VALUE};
 ghost use Rattle.cyc_inline.specs.declared.limits.TheConstants.{MOST_LEAF_CODE};
@@ -13,18 +14,18 @@ use crate::origin::Origin;
 use cyc_plain::Instruction;
 use std::alloc::{AllocError, Global};
 
-/// An inlined call, as its instruction gives it.
+/// An inlined call, with the operands of its call instruction.
 #[derive(Clone, Copy)]
 pub(crate) struct Call {
-    /// The number of the callee.
+    /// The number of the called function.
     pub(crate) callee: usize,
-    /// The first of the slots that hold the arguments.
+    /// The first of the caller's slots that hold the arguments.
     pub(crate) arguments: usize,
-    /// The number of words passed.
+    /// The number of words passed as arguments.
     pub(crate) count: usize,
-    /// The first of the slots that receive the results.
+    /// The first of the caller's slots that receive the results.
     pub(crate) result: usize,
-    /// The number of the callee's instructions that stand in line. The caller continues after the last of these instructions.
+    /// The number of the callee's in-line instructions. The caller continues after the last of these instructions.
     pub(crate) line: usize,
 }
 
@@ -32,17 +33,17 @@ pub(crate) struct Call {
 #[derive(Clone, Copy)]
 pub(crate) struct Site {
     pub(crate) call: Call,
-    /// The first of the caller's slots that the callee uses.
+    /// The first of the caller's slots that the callee's code uses.
     pub(crate) shift: usize,
     /// The number of words that the callee returns.
     pub(crate) results: usize,
-    /// The place at which the caller continues.
+    /// The code position at which the caller continues after the call.
     pub(crate) following: usize,
-    /// The place of the out-of-line part of the callee's code.
+    /// The code position of the out-of-line part of the callee's code.
     pub(crate) rest: usize,
 }
 
-/// Returns the call that the instruction makes, if this call is chosen for inlining: `line` instructions of the callee then stand in line.
+/// Returns the call that the instruction makes, if the call is chosen for inlining with `line` in-line instructions of the callee.
 pub(crate) fn chosen_call(instruction: Instruction, line: usize) -> Option<Call>
     ensures { result ≡ sites.chosen_call instruction line }
 {
@@ -69,14 +70,16 @@ pub(crate) fn chosen_call(instruction: Instruction, line: usize) -> Option<Call>
     }
 }
 
-/// Returns true if an instruction of the callee belongs to the requested part: in line or out of line.
+/// Returns true if an instruction of the callee belongs to the requested part: the in-line or the
+/// out-of-line part.
 fn stands_in(in_line: bool, line: usize, index: usize) -> bool
     ensures { result ≡ sites.stands_in in_line line index }
 {
     if in_line { index < line } else { line <= index }
 }
 
-/// Returns the first of the slots that a return reads, if the instruction is a return.
+/// Returns the first of the slots that a return reads, or `None` if the instruction is not a
+/// return.
 fn end_of(instruction: Instruction) -> Option<usize>
     ensures { result ≡ is_end instruction }
 {
@@ -87,7 +90,7 @@ fn end_of(instruction: Instruction) -> Option<usize>
     }
 }
 
-/// Returns the number of instructions that replace one of the callee's.
+/// Returns the number of instructions that replace one of the callee's instructions.
 fn inside_count(results: usize, line: usize, index: usize, instruction: Instruction) -> usize
     requires index { index + 1 < 2 ^ 64 }
     requires results { results ≤ GREATEST_VALUE }
@@ -106,7 +109,8 @@ fn inside_count(results: usize, line: usize, index: usize, instruction: Instruct
     }
 }
 
-/// Returns the number of these instructions in the requested part, in line or out of line.
+/// Returns the number of instructions that a callee's instruction contributes to the requested
+/// part, in line or out of line.
 fn count_in(
     results: usize,
     line: usize,
@@ -126,7 +130,7 @@ fn count_in(
     }
 }
 
-/// Returns the size of the replaced callee's code, in instructions: in line, or out of line.
+/// Returns the number of instructions that replace the callee's code, in line or out of line.
 pub(crate) fn inside_size(results: usize, line: usize, in_line: bool, code: &[Instruction]) -> usize
     requires results { results ≤ GREATEST_VALUE }
     requires few { length code.now ≤ MOST_LEAF_CODE }
@@ -140,14 +144,16 @@ pub(crate) fn inside_size(results: usize, line: usize, in_line: bool, code: &[In
     size
 }
 
-/// Returns the next place in line, or out of line.
+/// Returns the next code position for a callee's instruction: `here` if the instruction is in line,
+/// `there` if it is out of line.
 fn next_place(line: usize, index: usize, here: usize, there: usize) -> usize
     ensures { result ≡ (if nat_lt index line then here else there) }
 {
     if index < line { here } else { there }
 }
 
-/// Returns the place of each of the callee's instructions if the first in line stands at `here` and the first out of line at `there`.
+/// Returns the code position of each of the callee's instructions, from the positions where the in-line and the out-of-line part
+/// begin.
 fn inside_places(
     alloc: Global,
     site: &Site,
@@ -173,7 +179,7 @@ fn inside_places(
 }
 
 impl Emission {
-    /// Appends the replacement of an instruction of the callee.
+    /// Appends the replacement of one instruction of the callee.
     fn push_inside(
         &mut self,
         site: &Site,
@@ -207,7 +213,8 @@ impl Emission {
         }
     }
 
-    /// Appends the replacement of an instruction if it belongs to the requested part, in line or out of line.
+    /// Appends the replacement of a callee's instruction if it belongs to the requested part, in line or out
+    /// of line.
     fn push_inside_in(
         &mut self,
         site: &Site,
@@ -251,8 +258,8 @@ impl Emission {
         Ok(())
     }
 
-    /// Appends the replacement of an inlined call: moves of the arguments, the check of stack room, and the in-line part of the callee's
-    /// code. If `in_line` is false, appends the callee's out-of-line part instead.
+    /// Appends the replacement of an inlined call: moves of the arguments, the check of stack space, and the in-line part of the
+    /// callee's code. If `in_line` is false, appends the out-of-line part of the callee's code instead.
     pub(crate) fn push_site(
         &mut self,
         alloc: Global,

@@ -29,7 +29,8 @@ fn request_size(request: Request) -> usize
     }
 }
 
-/// Returns the size of an instruction, or none for an instruction that no program contains.
+/// Returns the size of an instruction in words, or `None` for an instruction that no program
+/// contains.
 fn instruction_size(instruction: Instruction) -> Option<usize>
     ensures { IfSome result (λ it. it ≡ instruction_size instruction) }
 {
@@ -69,7 +70,7 @@ fn instruction_size(instruction: Instruction) -> Option<usize>
     Some(size)
 }
 
-/// Returns the size of code, if it is at most `most`.
+/// Returns the size of a code in words, if it is at most `most`.
 pub(crate) fn code_size(code: &[Instruction], most: usize) -> Option<usize>
     requires { most ≤ limits.MOST_SIZE }
     ensures size { IfSome result (λ it. it ≡ sum_by instruction_size code.now) }
@@ -86,7 +87,7 @@ pub(crate) fn code_size(code: &[Instruction], most: usize) -> Option<usize>
     Some(size)
 }
 
-/// Returns the size of a program, if it is at most `most`.
+/// Returns the size of a program in words, if it is at most `most`.
 fn program_size(plain: &Plain, most: usize) -> Option<usize>
     requires { most ≤ limits.MOST_SIZE }
     ensures size { IfSome result (λ it. it ≡ sum_by size plain.now.functions) }
@@ -100,7 +101,7 @@ fn program_size(plain: &Plain, most: usize) -> Option<usize>
     Some(size)
 }
 
-/// Returns by how many words a program may grow, if it may have `room` words.
+/// Returns the number of words by which a program may grow if its size limit is `room` words.
 pub(crate) fn spare_of(plain: &Plain, room: usize) -> usize
     ensures { (result ≡ 0) ⊎ ((sum_by size plain.now.functions + result ≤ room) × (sum_by size plain.now.functions + result ≤ limits.MOST_SIZE)) }
 {

@@ -1,8 +1,8 @@
-//! Tables indexed by function numbers or by places of instructions.
+//! Tables that are indexed by function numbers or by code positions.
 ghost use Rattle.std.specs.Prelude.{◌≡◌};
 ghost use Rattle.cyc_inline.specs.inside.Sites as sites;
 
-/// Returns the entry of a table for a function or an instruction, and 0 if there is none.
+/// Returns the table entry for a function or an instruction, or 0 if the table has no such entry.
 pub(crate) fn place_in(places: &[usize], index: usize) -> usize
     ensures { result ≡ sites.place_in places.now index }
 {

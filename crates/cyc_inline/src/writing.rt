@@ -1,7 +1,8 @@
-//! The effects of instructions: the slots that they write, and memory, which contains the slots whose address is taken.
+//! The effects of instructions: the slots that an instruction writes, and memory, which contains the slots whose
+//! address is taken.
 use cyc_plain::{Instruction, Plain, RECORD_WORDS, Request};
 
-/// A range of slots that an instruction writes.
+/// A range of consecutive slots: the first slot and the number of slots.
 #[derive(Clone, Copy)]
 pub(crate) struct Slots {
     pub(crate) first: usize,
@@ -12,7 +13,7 @@ pub(crate) fn slots_from(first: usize, count: usize) -> Slots {
     Slots { first, count }
 }
 
-/// Returns the slots that receive a request's result.
+/// Returns the slots that receive the result of a heap request.
 fn answered(request: Request) -> Slots {
     match request {
         Request::OpenLexical { destination } => slots_from(destination, 2),

@@ -1,11 +1,11 @@
--- The quantifier `Any` over the parts of a list.
+-- Lemmas about the quantifier `Any` over the parts of a list.
 use Rattle.std.proofs.Common.{List, [], ◌∷◌, Any, inl, inr, arith}
 use Rattle.cyc_words.proofs.Members.{Any-cons, Any-append, Any-append_left, Any-append_right}
 use Rattle.cyc_isa.specs.Table.{joined}
 
 -- ---- a list of groups
 
--- For each group of the list, `Q` follows if some element of the group satisfies `P`.
+-- Says that, for each group of a list, `Q` follows if some element of the group satisfies `P`.
 abbrev pub FromEach : {X : Type 0} → (X → Type 0) → Type 0 → List (List X) → Type 0
 FromEach P Q [] = Unit {0}
 FromEach P Q (xs ∷ rest) = (Any P xs → Q) × FromEach P Q rest

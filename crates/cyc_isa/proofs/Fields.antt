@@ -1,4 +1,4 @@
--- The fields of a word composed from the numbers of its format have these numbers again.
+-- If a word is composed from the numbers of its format, its fields contain these numbers.
 use Rattle.std.proofs.Common.{◌≡◌, ℕ, ◌+◌, ◌*◌, ◌^◌, ◌<◌, [], ◌∷◌, arith}
 use Rattle.cyc_isa.specs.Field.{Opcode, Rs, Rt, Rd, Sa, Function, Half, Target, Trap, HasFields}
 

@@ -1,4 +1,5 @@
--- The words that decode are exactly the instances of the rows.
+-- The words that decode to an instruction are exactly the instances of the rows of the instruction
+-- table.
 use Rattle.std.proofs.Common.{◌≡◌, ℕ, Some, arith, eq-eqb}
 use Rattle.cyc_words.proofs.Members.{Any-one_to, Any-map_to}
 use Rattle.cyc_isa.specs.Table.{Row, groups, immediate_row, load_upper_row, memory_row, branch_row, branch_zero_row, jump_row, shift_row, shift_variable_row, jump_register_row, jump_register_link_row, exception_row}
@@ -20,7 +21,7 @@ use Rattle.cyc_isa.specs.declared.instr.MoveFromOp.{MoveFromOp}
 use Rattle.cyc_isa.specs.declared.instr.MultiplyDivideOp.{MultiplyDivideOp}
 use Rattle.cyc_isa.specs.declared.instr.ArithmeticOp.{ArithmeticOp}
 
--- A word decodes to some instruction.
+-- Says that a word decodes to some instruction.
 abbrev pub Decodes : ℕ → Type 0
 Decodes w = (i : Instr) × (decode_of w ≡ Some i)
 

@@ -1,4 +1,5 @@
--- A decoded instruction encodes to its word, and fits its fields.
+-- If a word decodes to an instruction, the instruction encodes to the word, and its operands fit
+-- their fields.
 use Rattle.std.proofs.Common.{◌≡◌, ℕ, ◌^◌, ◌<◌, ◌==◌, true, false, List, [], ◌∷◌, Option, Some, None, option_and_then, IsSome, ◌↔◌, if◌then◌else◌, lit<, refl, subst}
 use Rattle.std.proofs.Math.Nat.{mod-lt}
 use Rattle.std.proofs.lemmas.Bool.{eqb-true, eq-eqb, ne_eqb}
@@ -9,7 +10,7 @@ use Rattle.cyc_isa.proofs.Instances.{Decodes-from_instruction}
 use Rattle.cyc_isa.proofs.Listed.{IsInstruction-word_of}
 use Rattle.cyc_isa.specs.declared.instr.Instr.{Instr}
 
--- Each entry of a table yields an instruction that fits its fields.
+-- Says that each entry of a table yields an instruction whose operands fit their fields.
 abbrev AllEncodable : List Entry → ℕ → Type 0
 AllEncodable [] w = Unit {0}
 AllEncodable (e ∷ rest) w = IsEncodable (e.1 w) × AllEncodable rest w
@@ -46,7 +47,7 @@ selected_of-encodable w i e =
       ]
     ]) e
 
--- The last check of `decode_of` on the selected instruction.
+-- The last check of `decode_of`: the selected instruction must encode to the word.
 abbrev confirmed : ℕ → Option Instr → Option Instr
 confirmed w o = option_and_then (λ i. if word_of i == w then Some i else None) o
 
@@ -64,7 +65,7 @@ word_of-decoded w i e = (confirmed-some w (selected_of w) i e).1
 pub IsEncodable-decoded : (w : ℕ) (i : Instr) → decode_of w ≡ Some i → IsEncodable i
 IsEncodable-decoded w i e = selected_of-encodable w i (confirmed-some w (selected_of w) i e).0
 
--- A word decodes exactly if it is an instance of a row.
+-- A word decodes to an instruction exactly if it is an instance of a row.
 pub IsSome-decode_of : (w : ℕ) → IsSome (decode_of w) ↔ IsInstruction w
 IsSome-decode_of w = (go (decode_of w) refl, λ h. let found = Decodes-from_instruction w h in rw found.1 refl) where
   go : (o : Option Instr) → decode_of w ≡ o → IsSome o → IsInstruction w

@@ -1,4 +1,4 @@
--- Laws of the registers that an instruction may write.
+-- Lemmas for the laws about the registers that an instruction may write.
 use Rattle.std.proofs.Common.{◌≡◌, ◌≢◌, ℕ, Bool, true, false, not, ◌==◌, ◌&&◌, refl, sym, ◌∙◌}
 use Rattle.std.proofs.lemmas.Bool.{eqb-true}
 use Rattle.cyc_words.proofs.Booleans.{and_right}

@@ -1,10 +1,11 @@
--- the table of instructions, and the contracts of `encode`, `decode` and `write_text`
+-- the table of instructions, and the definitions for the contracts of `encode`, `decode` and
+-- `write_text`
 pub mod Field
 pub mod Table
 pub mod Encoding
 pub mod Decoding
 pub mod Text
--- the result of each operation, for the machine to cite
+-- the result of each operation, for the definition of the machine
 pub mod Effect
 -- the registers that an instruction reads and writes
 pub mod Uses

@@ -1,6 +1,6 @@
--- The text of an instruction: its name and its operands, as the MIPS32 architecture orders them. The spelling of
--- operands is this project's own choice: registers by number after `$`, numbers in decimal, and targets of branches
--- and jumps as addresses of eight hexadecimal digits after `0x`.
+-- The text of an instruction: its name and its operands, in the order of the MIPS32 architecture. The spelling of
+-- operands is this project's own choice. Registers are written by number after `$` and numbers in decimal. Targets
+-- of branches and jumps are addresses, written as eight hexadecimal digits after `0x`.
 use Rattle.std.specs.Prelude.{ℕ, ◌+◌, ◌/◌, ◌%◌, ◌^◌, List, [], ◌∷◌, ◌++◌, nat_lt, if◌then◌else◌, codes, decimal}
 use Rattle.std.specs.Fmt.{signed_decimal}
 use Rattle.cyc_words.specs.Word.{signed_half}
@@ -18,11 +18,11 @@ use Rattle.cyc_isa.specs.declared.instr.Instr.TheVariants.{Immediate, LoadUpper,
 abbrev pub register_text : Register → List ℕ
 register_text r = codes "$" ++ decimal r.number
 
--- The 16 bits of an immediate or an offset, as a signed number.
+-- The text of the 16 bits of an immediate or an offset, as a signed number.
 abbrev pub signed_text : ℕ → List ℕ
 signed_text half = signed_decimal (signed_half half)
 
--- A sign-extended immediate is written as a signed number, that of a bit operation as an unsigned one.
+-- The text of an immediate: that of a bit operation is an unsigned number, any other a signed number.
 abbrev pub immediate_text : ImmediateOp → ℕ → List ℕ
 immediate_text AddUnsigned half = signed_text half
 immediate_text SetLess half = signed_text half
@@ -35,7 +35,7 @@ immediate_text Xor half = decimal half
 abbrev pub based_text : ℕ → Register → List ℕ
 based_text offset base = signed_text offset ++ codes "(" ++ register_text base ++ codes ")"
 
--- A hexadecimal digit, in lower case: 48 is `0`, and 87 + 10 is `a`.
+-- The character code of a hexadecimal digit, in lower case: 48 is `0`, and 87 + 10 is `a`.
 abbrev pub hex_digit_of : ℕ → ℕ
 hex_digit_of d = if nat_lt d 10 then 48 + d else 87 + d
 
@@ -57,7 +57,7 @@ address_text addr = codes "0x" ++ hex_digits_of addr
 
 -- ---- instructions
 
--- A name and its operands, separated by commas.
+-- The operands of an instruction, separated by commas.
 abbrev pub listed : List (List ℕ) → List ℕ
 listed [] = []
 listed (x ∷ []) = x
@@ -66,7 +66,7 @@ listed (x ∷ y ∷ rest) = x ++ codes ", " ++ listed (y ∷ rest)
 abbrev pub line : List ℕ → List (List ℕ) → List ℕ
 line name operands = name ++ codes " " ++ listed operands
 
--- The operands of an instruction at an address.
+-- The texts of the operands of an instruction at the given address.
 abbrev pub operand_texts : Instr → ℕ → List (List ℕ)
 operand_texts (Immediate op target source immediate) addr =
     register_text target ∷ register_text source ∷ immediate_text op immediate ∷ []
@@ -89,6 +89,6 @@ operand_texts (MultiplyDivide op left right) addr = register_text left ∷ regis
 operand_texts (Arithmetic op destination left right) addr =
     register_text destination ∷ register_text left ∷ register_text right ∷ []
 
--- The text of the instruction at an address.
+-- The text of an instruction at the given address.
 abbrev pub text_of : Instr → ℕ → List ℕ
 text_of i addr = line (row_of i).name (operand_texts i addr)

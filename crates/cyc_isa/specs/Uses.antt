@@ -1,5 +1,5 @@
--- The general registers that an instruction reads and writes, by its row of the architecture's manual, volume II. HI, LO, memory and the
--- program counter do not count as registers. (The used registers are those of the MIPS32 architecture, volume II.)
+-- The general registers that an instruction reads and writes, according to its entry in the architecture's manual, volume II. HI, LO,
+-- memory and the program counter do not count as registers. (The used registers are those of the MIPS32 architecture, volume II.)
 use Rattle.std.specs.Prelude.{ℕ, Bool, false, not, ◌==◌, ◌||◌, ◌&&◌}
 use Rattle.cyc_isa.specs.declared.instr.Instr.{Instr}
 use Rattle.cyc_isa.specs.declared.instr.Instr.TheVariants.{Immediate, LoadUpper, Memory, Branch, BranchZero, Jump, Shift, ShiftVariable, JumpRegister, JumpRegisterLink, Exception, MoveFrom, MultiplyDivide, Arithmetic}
@@ -7,8 +7,8 @@ use Rattle.cyc_isa.specs.declared.instr.MemoryOp.TheVariants.{LoadWord, StoreWor
 use Rattle.cyc_isa.specs.declared.instr.JumpOp.TheVariants.{Plain, AndLink}
 use Rattle.cyc_isa.specs.declared.instr.ExceptionOp.TheVariants.{Syscall, Break}
 
--- The register is a source. `syscall` passes a service's number, in 2, and its arguments, in 4 and 5, to the system: this project's own
--- choice.
+-- Returns true if an instruction reads a register. `syscall` passes a service's number, in register 2, and its arguments, in registers
+-- 4 and 5, to the system: this project's own choice.
 abbrev pub reads : Instr → ℕ → Bool
 reads (Immediate op target source immediate) number = source.number == number
 reads (LoadUpper target immediate) number = false
@@ -29,7 +29,8 @@ reads (MoveFrom op destination) number = false
 reads (MultiplyDivide op left right) number = left.number == number || right.number == number
 reads (Arithmetic op destination left right) number = left.number == number || right.number == number
 
--- The register is the destination of the result. `jal` leaves its return address in 31, and `syscall` its results in 2 and 3.
+-- Returns true if a register is the destination of an instruction's result. `jal` stores its return address in register 31,
+-- and `syscall` its results in registers 2 and 3.
 abbrev pub names_result : Instr → ℕ → Bool
 names_result (Immediate op target source immediate) number = target.number == number
 names_result (LoadUpper target immediate) number = target.number == number
@@ -51,6 +52,7 @@ names_result (MoveFrom op destination) number = destination.number == number
 names_result (MultiplyDivide op left right) number = false
 names_result (Arithmetic op destination left right) number = destination.number == number
 
--- The register is written. Register 0 is never written, even if it is the named destination.
+-- Returns true if an instruction writes a register. Register 0 is never written, even if the
+-- instruction names it as the destination.
 abbrev pub writes : Instr → ℕ → Bool
 writes instruction number = not (number == 0) && names_result instruction number

@@ -1,2 +1,2 @@
--- the contracts between the functions inside the crate
+-- the contracts between functions inside the crate
 pub mod Operand

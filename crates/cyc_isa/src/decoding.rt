@@ -212,7 +212,7 @@ fn arithmetic(op: ArithmeticOp, word: u32) -> Instr
 
 // ---- the architecture's encoding tables
 
-/// Returns the operation under opcode 0.
+/// Returns the instruction that a word with opcode 0 encodes, selected by the function field.
 fn by_function(word: u32) -> Option<Instr>
     ensures { result ≡ entry_at functions (field_of Function word) word }
 {
@@ -244,7 +244,8 @@ fn by_function(word: u32) -> Option<Instr>
     Some(instr)
 }
 
-/// Returns the operation of a word, by its opcode and the fields that the opcode leaves open.
+/// Returns the instruction that a word may encode, selected by its opcode and, for opcodes 0 and 1,
+/// by a further field.
 fn selected(word: u32) -> Option<Instr>
     ensures { result ≡ selected_of word }
 {
@@ -277,9 +278,10 @@ fn selected(word: u32) -> Option<Instr>
     Some(instr)
 }
 
-/// Returns the instruction that this word encodes.
+/// Returns the instruction that a word encodes.
 ///
-/// Returns `None` if the word is no instance of a row of the table: its operation does not exist, or an unused field is not 0.
+/// Returns `None` if the word is not an instance of a row of the table: its operation does not exist, or an unused field is
+/// not 0.
 pub fn decode(word: u32) -> Option<Instr>
     ensures instruction { IsSome result ↔ IsInstruction word }
     ensures encodes { IfSome result (λ instr. word_of instr ≡ word) }

@@ -1,4 +1,4 @@
-//! Encodes instructions as words.
+//! Encodes instructions as machine words.
 
 ghost use Rattle.std.specs.Prelude.{◌≡◌, ◌+◌, ◌*◌, ◌^◌, ◌<◌, Some};
 ghost use Rattle.cyc_isa.specs.Encoding.{row_of, word_of, IsInstance};
@@ -7,7 +7,7 @@ ghost use Rattle.cyc_isa.specs.Decoding.{decode_of};
 use crate::instr::Instr;
 use crate::table;
 
-/// Returns a word of a format with a 16-bit immediate or offset.
+/// Returns the word of an instruction in a format with a 16-bit immediate or offset.
 fn half_word(opcode: u32, rs: u8, rt: u8, half: u16) -> u32
     requires { (opcode < 64) × (rs < 32) × (rt < 32) }
     ensures { result ≡ opcode * 2 ^ 26 + rs * 2 ^ 21 + rt * 2 ^ 16 + half }
@@ -15,7 +15,7 @@ fn half_word(opcode: u32, rs: u8, rt: u8, half: u16) -> u32
     (opcode << 26) + (u32::from(rs) << 21) + (u32::from(rt) << 16) + u32::from(half)
 }
 
-/// Returns a word of a format with a function field, under opcode 0.
+/// Returns the word of an instruction in a format with a function field, under opcode 0.
 fn function_word(rs: u8, rt: u8, rd: u8, sa: u8, function: u32) -> u32
     requires { (rs < 32) × (rt < 32) × (rd < 32) × (sa < 32) × (function < 64) }
     ensures { result ≡ rs * 2 ^ 21 + rt * 2 ^ 16 + rd * 2 ^ 11 + sa * 2 ^ 6 + function }
@@ -129,7 +129,7 @@ fn word(instr: Instr) -> u32
     }
 }
 
-/// Returns the word of an instruction, which `decode` maps back to the instruction.
+/// Returns the word that encodes an instruction; `decode` maps the word back to the instruction.
 pub fn encode(instr: Instr) -> u32
     ensures word { result ≡ word_of instr }
     ensures instance { IsInstance (row_of instr) result }

@@ -1,4 +1,4 @@
-//! The instructions of the machine, by format.
+//! The instructions of the machine, grouped by format.
 
 use crate::operand::{JumpIndex, Register, ShiftAmount, TrapCode};
 
@@ -29,7 +29,7 @@ pub enum BranchOp {
     NotEqual,
 }
 
-/// A branch on the sign of one register.
+/// A branch that compares one register with zero.
 #[derive(Clone, Copy, Debug, PartialEq, Eq)]
 pub enum BranchZeroOp {
     LessOrEqual,
@@ -45,7 +45,7 @@ pub enum JumpOp {
     AndLink,
 }
 
-/// A shift; `RightLogical` shifts zeros in, `RightArithmetic` copies of the sign bit.
+/// The kind of a shift: `RightLogical` shifts zeros in, `RightArithmetic` copies of the sign bit.
 #[derive(Clone, Copy, Debug, PartialEq, Eq)]
 pub enum ShiftOp {
     Left,
@@ -53,14 +53,14 @@ pub enum ShiftOp {
     RightArithmetic,
 }
 
-/// An instruction that leaves the program: to a service of the system, or a breakpoint.
+/// An instruction that transfers control to the system: a service call or a breakpoint.
 #[derive(Clone, Copy, Debug, PartialEq, Eq)]
 pub enum ExceptionOp {
     Syscall,
     Break,
 }
 
-/// The part of a product or a division that is read: HI or LO.
+/// The register that a move instruction reads after a multiplication or a division: HI or LO.
 #[derive(Clone, Copy, Debug, PartialEq, Eq)]
 pub enum MoveFromOp {
     High,

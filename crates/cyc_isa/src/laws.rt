@@ -1,5 +1,5 @@
-//! Laws of the definitions in `specs/`. Each function of this file is empty, and its contract states one law, which is proved with the
-//! crate. The lemmas that other proofs cite are in `proofs/`.
+//! Laws of the definitions in `specs/`. Each function in this file has an empty body, and its contract states one law, which is proved
+//! with the crate. The lemmas that other proofs cite are in `proofs/`.
 
 ghost use Rattle.std.specs.Prelude.{◌≡◌, ◌≢◌, ℕ, true, false, ◌+◌, ◌*◌, ◌/◌, ◌%◌, ◌^◌, ◌<◌, pos, ◌+ℤ◌, ◌*ℤ◌, ◌++◌, ◌↔◌, Some, IsSome};
 ghost use Rattle.cyc_words.specs.Word.{IsWord, IsHalf, unsigned, signed_half};
@@ -18,7 +18,8 @@ ghost use Rattle.cyc_isa.specs.declared.instr.ArithmeticOp.{ArithmeticOp};
 ghost use Rattle.cyc_isa.specs.declared.instr.ShiftOp.{ShiftOp};
 ghost use Rattle.cyc_isa.specs.declared.instr.MultiplyDivideOp.{MultiplyDivideOp};
 
-/// An instruction whose operands fit has one word, which is an instance of its row and encodes no other instruction.
+/// If the operands of an instruction fit their fields, the instruction has exactly one word. The word is an instance
+/// of the instruction's row and encodes no other instruction.
 pub fn words_of_instructions()
     ensures is_word { (i : Instr) → IsEncodable i → word_of i < 2 ^ 32 }
     ensures fields { (i : Instr) → IsEncodable i → HasFields ((row_of i).fixed ++ operands_of i) (word_of i) }
@@ -27,15 +28,16 @@ pub fn words_of_instructions()
     ensures distinct { (i j : Instr) → IsEncodable i → IsEncodable j → word_of i ≡ word_of j → i ≡ j }
 {}
 
-/// A word decodes exactly if it is an instance of a row of the table, and then to an instruction that it encodes.
+/// A word decodes to an instruction exactly if it is an instance of a row of the table; the instruction encodes
+/// to the word.
 pub fn instructions_of_words()
     ensures instruction { (w : ℕ) → IsSome (decode_of w) ↔ IsInstruction w }
     ensures encodes { (w : ℕ) (i : Instr) → decode_of w ≡ Some i → word_of i ≡ w }
     ensures fits { (w : ℕ) (i : Instr) → decode_of w ≡ Some i → IsEncodable i }
 {}
 
-/// The target of a branch is its slot's address plus four times its signed offset, modulo 2^32. The target of a jump has the upper four
-/// bits of its slot's address, and below them the index times four.
+/// The target of a branch is the address of its delay slot plus four times its signed offset, modulo 2^32. The target of a jump has the
+/// upper four bits of its delay slot's address, and below them the index times four.
 pub fn targets()
     ensures branch { (addr offset : ℕ) → IsWord addr →
         branch_target addr offset ≡ unsigned ((pos addr +ℤ pos 4) +ℤ (pos 4 *ℤ signed_half offset)) }
@@ -44,7 +46,7 @@ pub fn targets()
     ensures jump_lower { (addr index : ℕ) → index < 2 ^ 26 → jump_target addr index % 2 ^ 28 ≡ index * 4 }
 {}
 
-/// The result of an operation on words is a word.
+/// If the operands of an operation are words, its result is a word.
 pub fn results_are_words()
     ensures immediate { (op : ImmediateOp) (s h : ℕ) → IsWord s → IsHalf h → IsWord (immediate_result op s h) }
     ensures load_upper { (h : ℕ) → IsHalf h → IsWord (load_upper_result h) }
@@ -57,7 +59,7 @@ pub fn results_are_words()
     ensures jump { (addr x : ℕ) → x < 2 ^ 26 → IsWord (jump_target addr x) }
 {}
 
-/// Register 0 is never written, and only `syscall` writes two registers.
+/// No instruction writes register 0, and only `syscall` writes two registers.
 pub fn registers_are_set_alone()
     ensures zero { (i : Instr) → writes i 0 ≡ false }
     ensures alone { (i : Instr) (m n : ℕ) → ((op : ExceptionOp) (code : TrapCode) → i ≢ Exception op code)

@@ -1,4 +1,4 @@
-//! The instruction set: instructions, their words, and their text.
+//! The instruction set: instructions, the words that encode them, and their text.
 #![tactic(auto)]
 
 mod decoding;

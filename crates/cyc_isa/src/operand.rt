@@ -1,4 +1,4 @@
-//! The operands of an instruction: registers, and numbers in fields of fewer bits than a Rust type has.
+//! The operands of an instruction: registers, and numbers in fields with fewer bits than a Rust type.
 
 ghost use Rattle.std.specs.Prelude.{◌<◌, ◌^◌};
 
@@ -16,14 +16,16 @@ pub struct ShiftAmount {
     pub ghost in_range: { bits < 32 },
 }
 
-/// The low 26 bits of a jump: the target's position in words within its region of 256 megabytes.
+/// The 26-bit index field of a jump: the target's position, in words, within its region of 256
+/// megabytes.
 #[derive(Clone, Copy, Debug, PartialEq, Eq)]
 pub struct JumpIndex {
     pub index: u32,
     pub ghost in_range: { index < 2 ^ 26 },
 }
 
-/// The 20 bits of a system call or a breakpoint that the machine passes to software and ignores.
+/// The 20 bits of a `syscall` or `break` instruction that the machine ignores and leaves to
+/// software.
 #[derive(Clone, Copy, Debug, PartialEq, Eq)]
 pub struct TrapCode {
     pub code: u32,

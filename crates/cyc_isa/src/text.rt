@@ -85,7 +85,8 @@ fn hex_digits(word: u32) -> [u8; 8]
     ]
 }
 
-// The `put_` functions below write a text in order, up to the first failure. On success a working device still works.
+// Each `put_` function below writes a text in order, up to the first failure. If the writing succeeds, a device that
+// worked before still works.
 
 fn put_two<W: ByteOut>(first: &[u8], second: &[u8], out: &mut W) -> Result<(), Failed>
     ensures bytes { TakesText (W.written out.old) (first.now ++ second.now) result (W.written out.new) }
@@ -143,7 +144,7 @@ fn put_one<W: ByteOut>(name: &str, operand: Operand, out: &mut W) -> Result<(), 
     put_operand(operand, out)
 }
 
-/// Writes a further operand, with the preceding comma.
+/// Writes an operand after the first one, with the comma before it.
 fn put_further<W: ByteOut>(operand: Operand, out: &mut W) -> Result<(), Failed>
     ensures bytes { TakesText (W.written out.old) (codes ", " ++ operand_text operand) result (W.written out.new) }
     ensures works { OnOk result (W.failed out.new ≡ W.failed out.old) }
@@ -185,9 +186,10 @@ fn put_triple<W: ByteOut>(
     put_further(third, out)
 }
 
-/// Writes the text of the instruction at an address.
+/// Writes the text of an instruction at the given address.
 ///
-/// A branch or a jump shows its target, which depends on the address. After a failed write, the bytes before the failure stay written.
+/// The text of a branch or a jump contains its target, which depends on the instruction's address. After a failed write, the bytes
+/// before the failure stay written.
 pub fn write_text<W: ByteOut>(instr: Instr, addr: u32, out: &mut W) -> Result<(), Failed>
     ensures bytes { TakesText (W.written out.old) (text_of instr addr) result (W.written out.new) }
     ensures fails { W.failed out.new ≡ is_err result }

@@ -1,16 +1,18 @@
-//! The registers that an instruction reads and writes.
+//! Computes the general registers that an instruction reads and writes.
 
 ghost use Rattle.std.specs.Prelude.{◌≡◌, ◌<◌};
 ghost use Rattle.cyc_isa.specs.Uses.{reads, names_result, writes};
 
 use crate::instr::{ExceptionOp, Instr, JumpOp, MemoryOp};
 
-/// The register in which `jal` leaves its return address.
+/// The register in which `jal` stores its return address.
 const RETURN_ADDRESS: u8 = 31;
 
-/// Returns true if an instruction reads the general register of this number: its row has the register as a source.
+/// Returns true if an instruction reads the general register with the given number, that is, if the register is a
+/// source.
 ///
-/// `syscall` reads 2, 4 and 5. HI, LO, memory and the program counter do not count as registers.
+/// `syscall` reads registers 2, 4 and 5. HI, LO, memory and the program counter do not count as
+/// registers.
 pub fn reads(instr: Instr, register: u8) -> bool
     requires { register < 32 }
     ensures { result ≡ reads instr register }
@@ -52,7 +54,8 @@ pub fn reads(instr: Instr, register: u8) -> bool
     }
 }
 
-/// Returns true if the register of this number is the destination of an instruction's result.
+/// Returns true if the register with the given number is the destination of an instruction's
+/// result.
 fn names_result(instr: Instr, register: u8) -> bool
     ensures { result ≡ names_result instr register }
 {
@@ -82,9 +85,9 @@ fn names_result(instr: Instr, register: u8) -> bool
     }
 }
 
-/// Returns true if an instruction writes the general register of this number.
+/// Returns true if an instruction writes the general register with the given number.
 ///
-/// Register 0 is never written, `jal` writes 31, and `syscall` writes 2 and 3.
+/// Register 0 is never written, `jal` writes register 31, and `syscall` writes registers 2 and 3.
 pub fn writes(instr: Instr, register: u8) -> bool
     requires { register < 32 }
     ensures { result ≡ writes instr register }

@@ -1,4 +1,4 @@
--- Finding the end of a comment, byte by byte.
+-- This file finds the end of a comment, byte by byte.
 use Rattle.std.proofs.Common.{◌≡◌, ℕ, ◌+◌, ◌-◌, ◌<◌, ◌≤◌, Bool, true, false, eqb, ◌&&◌, List, [], ◌∷◌, ◌++◌, length, get_or, take, refl, sym, ap, subst, ◌∙◌, append_assoc, arith}
 use Rattle.std.specs.Prelude.{codes}
 use Rattle.std.proofs.lemmas.Bool.{true≢false, eqb-true, or_from, or_parts, and_right}
@@ -7,7 +7,7 @@ use Rattle.std.proofs.lemmas.List.{take_more, take_at, take-take, length_push, l
 use Rattle.cyc_syntax.specs.Spelling.{HasNoClose}
 use Rattle.cyc_syntax.proofs.PieceLemmas.{has_close, HasNoClose-from_has_close}
 
--- true if the last byte is a star
+-- Holds if the last byte of the list is a star.
 abbrev pub ends_in_star : List ℕ → Bool
 ends_in_star [] = false
 ends_in_star (b ∷ []) = eqb b 42
@@ -18,7 +18,7 @@ ends_in_star-push [] b = refl
 ends_in_star-push (c ∷ []) b = refl
 ends_in_star-push (c ∷ d ∷ bytes) b = ends_in_star-push (d ∷ bytes) b
 
--- an appended byte closes a comment only if it follows a star
+-- A byte that is appended to a comment closes the comment only if it follows a star.
 pub has_close-push : (bytes : List ℕ) (b : ℕ) → has_close bytes ≡ false → ends_in_star bytes && eqb b 47 ≡ false → has_close (bytes ++ b ∷ []) ≡ false
 has_close-push [] b none apart = or_from _ _ (and_right _ _ refl) refl
 has_close-push (x ∷ []) b none apart = or_from _ _ (two x b apart) (or_from _ _ (and_right _ _ refl) refl)
@@ -36,7 +36,7 @@ before_star (b ∷ c ∷ bytes) ends =
     let rest = before_star (c ∷ bytes) ends in
     (b ∷ rest.0, ap (λ l. b ∷ l) rest.1)
 
--- the comment is closed by a slash at this index, after a star
+-- Says that the comment is closed by a slash at index i, after a star.
 pub record ClosesAt (text : List ℕ) (i : ℕ) : Type 0 where
   pub positive : 1 ≤ i
   pub star : take i text ≡ take (i + 1 - 2) text ++ codes "*"
@@ -56,11 +56,12 @@ closes_at text i within ends slash =
       close = take_more text i 0 within ∙ (λ j. star j ++ slash j ∷ []) ∙ append_assoc (take (i + 1 - 2) text) (codes "*") (47 ∷ []);
     }
 
--- the bytes before the first `*/` contain no `*/`
+-- The bytes of a comment before the first `*/` contain no `*/`.
 pub first_close : (text : List ℕ) (i : ℕ) → ClosesAt text i → has_close (take i text) ≡ false → HasNoClose (take (i + 1 - 2) text ++ codes "*")
 first_close text i closes none = subst HasNoClose closes.star (HasNoClose-from_has_close (take i text) none)
 
--- if the byte at the index does not close the comment, the comment is still open after it
+-- If the byte at an index does not close the comment, then the comment is still open after this
+-- byte.
 pub not_yet : (text : List ℕ) (i : ℕ) → i < length text → has_close (take i text) ≡ false
     → ends_in_star (take i text) && eqb (get_or text i 0) 47 ≡ false → has_close (take (i + 1) text) ≡ false
 not_yet text i within none apart =

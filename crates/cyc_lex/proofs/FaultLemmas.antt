@@ -1,4 +1,4 @@
--- The first fault of a text. A text has at most one result.
+-- This file is about the first fault of a text, and proves that a text has at most one result.
 use Rattle.std.proofs.Common.{◌≡◌, ◌≢◌, ℕ, ◌<◌, ◌≤◌, ⊎_elim, Some, List, [], ◌∷◌, ◌++◌, length, take, drop, eqb, cond, refl, sym, ap, subst, ◌∙◌, append-nil, arith}
 use Rattle.std.proofs.lemmas.List.{take-append-drop, length-append, length-map, get_or_at}
 use Rattle.cyc_words.specs.declared.fault.Code.{Code}
@@ -16,7 +16,7 @@ use Rattle.cyc_lex.specs.inside.Found.{IsFound}
 use Rattle.cyc_lex.specs.Refusals.{Begins, FailsHere, Holds, IsFirstFault, IsRefused, IsAccepted}
 use Rattle.cyc_lex.proofs.LexLemmas.{IsReadUpTo}
 
--- at most one piece is read at the start of a text
+-- At most one piece (token, space or comment) is read at the start of a text.
 one_begins : (m n : Piece) (text : List ℕ) → Begins m text → Begins n text → m ≡ n
 one_begins m n text begins also =
     ap (λ (p : Part). p.piece)
@@ -32,14 +32,14 @@ begins_nothing m begins = by begins.0 begins.2 begins.3.spelled
     by [] e spelled = piece_nonempty m spelled
     by (b ∷ bs) e spelled = cc
 
--- a fault of the rest of the text holds for any number of tokens before it
+-- A fault that holds for the rest of the text holds for any number of tokens before it.
 holds_here : (code : Code) (count : ℕ) (text : List ℕ) → FailsHere code text → Holds code count text
 holds_here codes.UnknownByte count text fails = fails
 holds_here codes.UnclosedComment count text fails = fails
 holds_here codes.NumberTooLarge count text fails = fails
 holds_here _ count text fails = absurd fails
 
--- the lowest code of a position
+-- The lowest fault code that holds at a position of the text.
 
 least_unknown : (other : Code) (count : ℕ) (text : List ℕ) → Holds other count text → 1 ≤ number_of other
 least_unknown codes.UnknownByte count text h = omega arith
@@ -62,7 +62,7 @@ least_large codes.NumberTooLarge count text k begins h = omega arith
 least_large codes.TooManyTokens count text k begins h = omega arith
 least_large _ count text k begins h = absurd h
 
--- a token within the limits is not a number above the limit
+-- If a token is within the limits, then no number above the limit begins at its position.
 not_large : (text : List ℕ) (k : Kind) → Begins (Lexeme k) text → IsSmall k → FailsHere codes.NumberTooLarge text → ⊥
 not_large text k begins small large =
     let e = one_begins (Lexeme k) (Lexeme (Number large.0)) text begins large.1 in
@@ -122,7 +122,7 @@ module _ (text : List ℕ) (tokens : List CodeToken) (start : ℕ) (place : Span
 
 -- ---- a text has at most one result
 
--- a code is determined by its number
+-- A fault code is determined by its number.
 code_with : ℕ → Code
 code_with n = cond (eqb n 1) codes.UnknownByte (cond (eqb n 2) codes.UnclosedComment (cond (eqb n 3) codes.NumberTooLarge codes.TooManyTokens))
 
@@ -134,7 +134,7 @@ code_is codes.NumberTooLarge count text h = refl
 code_is codes.TooManyTokens count text h = refl
 code_is _ count text h = absurd h
 
--- a token among tokens within the limits is within the limits, and the tokens before it are fewer than the limit
+-- A token among tokens within the limits is within the limits, and fewer tokens than the limit come before it.
 middle : (front more : List Token) (t : Token) → IsWithinLimits (front ++ t ∷ more) → IsSmall t.kind × (length front < max_tokens)
 middle front more t within =
     let count = within.count in
@@ -143,7 +143,7 @@ middle front more t within =
       omega (arith, count, size),
     )
 
--- at a position with a fault, no piece can be read within the limits
+-- At a position with a fault, no token, space or comment can be read within the limits.
 no_way_on : (code : Code) (front : List Token) (p : Part) (text after : List ℕ) (bytes : List ℕ) (more : List Token) → Holds code (length front) text
     → text ≡ p.bytes ++ after → IsRead p.piece p.bytes after → p.piece ≢ OpenComment → IsWithinLimits (front ++ (part_tokens bytes p.piece ++ more)) → ⊥
 no_way_on codes.UnknownByte front p text after bytes more h whole read closed within = begins_piece p.piece text (p.bytes, after, whole, read) h
@@ -173,7 +173,8 @@ holds_nothing codes.NumberTooLarge count h = begins_nothing (Lexeme (Number h.0)
 holds_nothing codes.TooManyTokens count h = begins_nothing (Lexeme h.0) h.1
 holds_nothing _ count h = h
 
--- a cut that another cut cannot extend is equal to it
+-- If a division of a text into pieces cannot be extended by another division, then the two are
+-- equal.
 end_of : (ps qs more : List Part) (r s : List ℕ) → qs ≡ ps ++ more → IsCut more r s → more ≡ [] → (qs ≡ ps) × (r ≡ s)
 end_of ps qs more r s e cut none = (e ∙ ap (λ l. ps ++ l) none ∙ append-nil ps, subst (λ l. IsCut l r s) none cut)
 

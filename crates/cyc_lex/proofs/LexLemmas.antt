@@ -1,4 +1,5 @@
--- One step of the lexer: the part of the text read so far, extended by one piece.
+-- This file is about one step of the lexer: the part of the text read so far is extended by one
+-- token, space or comment.
 use Rattle.std.proofs.Common.{◌≡◌, ◌≢◌, ℕ, ◌+◌, ◌-◌, ◌<◌, ◌≤◌, true, false, inl, ⊎_elim, Option, Some, None, List, [], ◌∷◌, ◌++◌, length, get_or, take, drop, map, refl, sym, ap, subst, ◌∙◌, append-nil, arith}
 use Rattle.std.specs.Prelude.{All, slice_range}
 use Rattle.std.proofs.lemmas.Bool.{cases_lt, cond-true, cond-false}
@@ -19,7 +20,7 @@ use Rattle.cyc_lex.specs.inside.Found.{IsReadAs, IsFound}
 use Rattle.cyc_lex.proofs.ShapeLemmas.{read_at}
 use Rattle.cyc_syntax.specs.inside.Place.{IsAfter}
 
--- a piece that was read has at least one byte
+-- A piece (token, space or comment) that was read has at least one byte.
 pub found_some : (text : List ℕ) (kind : Option TokenKind) (len : ℕ) → IsFound text kind len → 0 < len
 found_some text kind len found =
     ⊎_elim (λ some. some) (λ none. absurd (by kind (subst (λ n. IsReadAs kind (take n text) (drop n text)) (let zero : len ≡ 0 = omega arith in zero) found.piece))) (cases_lt 0 len)
@@ -28,7 +29,7 @@ found_some text kind len found =
     by None read = ⊎_elim (λ space. piece_nonempty Space space.spelled) (λ comment. piece_nonempty Comment comment.spelled) read
     by (Some k) read = piece_nonempty (Lexeme (kind_of [] k)) read.0.spelled
 
--- a space at the start of a text is a piece of length 1
+-- A space at the start of a text is read as a piece of length 1.
 pub found_space : (text : List ℕ) → 0 < length text → is_space (get_or text 0 0) ≡ true → IsFound text None 1
 found_space [] some space = absurd (omega arith)
 found_space (b ∷ bs) some space = record {
@@ -45,7 +46,8 @@ found_space (b ∷ bs) some space = record {
     starts : start_of b ≡ AtSpace
     starts = cond-false (is_letter b) _ _ no_letter ∙ cond-false (is_digit b) _ _ no_digit ∙ cond-true (is_space b) _ _ space
 
--- the text before `start` has been read, with these tokens, and `place` is the place of `start`
+-- Says that the text before `start` has been read as these tokens, and that `place` is the source
+-- position of `start`.
 pub record IsReadUpTo (text : List ℕ) (tokens : List CodeToken) (start : ℕ) (place : Span) : Type 0 where
   pub parts : List Part
   pub cut : IsCut parts text (drop start text)
@@ -66,7 +68,7 @@ tokens_within text tokens start place done =
 tokens_push : (ps : List Part) (p : Part) → tokens_of [] (ps ++ p ∷ []) ≡ tokens_of [] ps ++ part_tokens (bytes_of ps) p.piece
 tokens_push ps p = tokens_of-append [] ps (p ∷ []) ∙ ap (λ l. tokens_of [] ps ++ l) (append-nil (part_tokens (bytes_of ps) p.piece))
 
--- the next part of a text, and its token in the code, if it is a token
+-- The next piece of a text; below it, the token that the code makes of it, if it is a token.
 abbrev part_at : List ℕ → ℕ → ℕ → Piece → Part
 part_at text start len m = record { piece = m; bytes = take len (drop start text) }
 

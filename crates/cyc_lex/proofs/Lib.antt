@@ -1,10 +1,10 @@
--- lemmas that the proofs of `lex` and of the laws cite
+-- These modules have lemmas that the proofs of `lex` and of the laws cite.
 pub mod AnswerLemmas
 pub mod FaultLemmas
 pub mod LexLemmas
 pub mod LineLemmas
 pub mod ShapeLemmas
--- lemmas that the piece read is the longest
+-- These modules have lemmas that the piece that is read is the longest one.
 pub mod CommentLemmas
 pub mod NameReading
 pub mod NumberLemmas

@@ -1,4 +1,4 @@
--- No token contains a line feed, so the place after a token is on the same line.
+-- No token contains a line feed, so the source position after a token is on the same line.
 use Rattle.std.proofs.Common.{◌≡◌, ℕ, ◌+◌, ◌==◌, ◌&&◌, ◌||◌, Bool, true, not, Some, List, [], ◌∷◌, ◌++◌, length, refl, sym, ap, subst, ◌∙◌, append-nil, ⊎_elim, arith}
 use Rattle.std.specs.List.{list_all}
 use Rattle.std.proofs.lemmas.Bool.{true≢false, cases_Bool, and_from, and_parts, eqb-true, not-true}
@@ -15,7 +15,7 @@ use Rattle.cyc_syntax.proofs.PieceLemmas.{leading_digit, is_name-keyword_text}
 use Rattle.cyc_syntax.proofs.PlaceLemmas.{after_other}
 use Rattle.cyc_lex.proofs.NameReading.{name_bytes}
 
--- true if the byte is not a line feed
+-- Holds if the byte is not a line feed.
 abbrev stays : ℕ → Bool
 stays b = not (is_line_feed b)
 
@@ -40,7 +40,7 @@ hex_digit_stays b h = grind (arith, nat_tests)
 plain_stays : (b : ℕ) → is_plain b ≡ true → stays b ≡ true
 plain_stays b h = grind (arith, nat_tests)
 
--- no escape is written with a backslash and a line feed
+-- No escape sequence consists of a backslash and a line feed.
 escape_stays : (b c : ℕ) → escaped b ≡ Some c → stays b ≡ true
 escape_stays b c is =
     ⊎_elim (λ feed. absurd (none (sym (ap escaped (eqb-true b 10 feed)) ∙ is))) (λ other. ap not other) (cases_Bool (is_line_feed b))
@@ -121,7 +121,8 @@ token_stays (Character c) bytes h =
 token_stays (Word k) bytes h = ap is_one_line h ∙ name_stays (keyword_text k) (is_name-keyword_text k)
 token_stays (Mark s) bytes h = ap is_one_line h ∙ sign_stays s
 
--- the place after a token is on the same line, its length further
+-- The source position after a token is on the same line, and its column is greater by the token's
+-- length.
 pub after_one_line : (place next : Span) (front bytes : List ℕ) → is_one_line bytes ≡ true → next.line ≡ place.line → next.column ≡ place.column + length bytes
     → IsAfter place front → IsAfter next (front ++ bytes)
 after_one_line place next front [] passes line column following = record {

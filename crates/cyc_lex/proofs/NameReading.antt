@@ -1,4 +1,4 @@
--- Names and region names at the start of a text.
+-- This file is about names and region names at the start of a text.
 use Rattle.std.proofs.Common.{◌≡◌, ◌≢◌, ℕ, ◌+◌, ◌<◌, ◌≤◌, true, Some, List, [], ◌∷◌, ◌++◌, length, get_or, take, drop, refl, sym, ap, ◌∙◌, arith}
 use Rattle.std.specs.List.{list_all, prefix_len}
 use Rattle.std.proofs.lemmas.Bool.{true≢false, cond-true, and_from, and_parts, or_left}
@@ -20,7 +20,8 @@ name_bytes (b ∷ bs) named =
     let parts = and_parts (is_letter b) (list_all is_name_byte bs) named in
     and_from _ _ (or_left _ _ parts.0) parts.1
 
--- the run of name bytes at the start of a text is a name if its first byte is a letter
+-- If the first byte of a text is a letter, then the run of name bytes at the start of the text is a
+-- name.
 name_run : (text : List ℕ) → is_letter (get_or text 0 0) ≡ true → 0 < length text → is_name (take (prefix_len is_name_byte text) text) ≡ true
 name_run [] letter within = absurd (omega arith)
 name_run (b ∷ bs) letter within =

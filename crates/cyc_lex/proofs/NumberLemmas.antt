@@ -1,4 +1,4 @@
--- The value of a digit string grows with each further digit.
+-- The value of a string of digits grows with each further digit.
 use Rattle.std.proofs.Common.{◌≡◌, ℕ, ◌+◌, ◌*◌, ◌<◌, ◌≤◌, List, [], ◌∷◌, length, get_or, take, drop, fold, sym, ap, ◌∙◌, arith}
 use Rattle.std.proofs.lemmas.List.{take-append-drop}
 use Rattle.std.proofs.lemmas.List.Sums.{fold-append, fold_more}
@@ -14,7 +14,7 @@ grows base n (d ∷ ds) positive =
     at_least : (n base : ℕ) → 0 < base → n ≤ n * base
     at_least n base positive = grind arith
 
--- if a prefix of the digits exceeds the limit, all digits do
+-- If a prefix of a string of digits exceeds the limit, then the complete string does.
 pub too_large : (base : ℕ) (digits : List ℕ) (i limit : ℕ) → 0 < base → i < length digits
     → limit < number_in base (take i digits) * base + digit_value (get_or digits i 0) → limit < number_in base digits
 too_large base digits i limit positive within over =

@@ -1,4 +1,4 @@
--- Numbers at the start of a text.
+-- This file is about numbers at the start of a text.
 use Rattle.std.proofs.Common.{◌≡◌, ◌≢◌, ℕ, suc, ◌+◌, ◌<◌, ◌≤◌, true, ◌&&◌, ◌||◌, eqb, Some, inl, inr, ⊎_elim, List, [], ◌∷◌, ◌++◌, length, get_or, take, drop, refl, sym, ap, ◌∙◌, arith}
 use Rattle.std.specs.Prelude.{All}
 use Rattle.std.specs.List.{list_all, prefix_len}
@@ -20,7 +20,7 @@ use Rattle.cyc_lex.specs.inside.Found.{IsFound}
 use Rattle.cyc_lex.specs.Refusals.{FailsHere}
 use Rattle.cyc_lex.proofs.ShapeLemmas.{Shape, read_at}
 
--- a number is read with its value, or rejected as too large
+-- A number at the start of a text is read with its value, or rejected as too large.
 pub found_number : (text : List ℕ) (n v : ℕ) → n ≤ length text → IsRead (Lexeme (Number v)) (take n text) (drop n text) → v ≤ max_number
     → IsFound text (Some (kinds.Number v)) n
 found_number text n v within read small = record { within = within; piece = (read, small) }
@@ -29,14 +29,14 @@ pub large_number : (text : List ℕ) (n v : ℕ) → IsRead (Lexeme (Number v)) 
     → FailsHere codes.NumberTooLarge text
 large_number text n v read large = (v, (take n text, drop n text, sym (take-append-drop n text), read), large)
 
--- `0x` followed by digits is a hexadecimal number
+-- The bytes `0x` followed by at least one hexadecimal digit are a hexadecimal number.
 
 hexadecimal_from : (b c : ℕ) (digits : List ℕ) → b ≡ 48 → (eqb c 120 || eqb c 88) ≡ true → list_all is_hex_digit digits ≡ true → 0 < length digits
     → is_hexadecimal (b ∷ c ∷ digits) ≡ true
 hexadecimal_from b c [] zero_first x digits some = absurd (omega arith)
 hexadecimal_from b c (d ∷ ds) zero_first x digits some = and_from _ _ (and_from _ _ (eq-eqb b 48 zero_first) x) digits
 
--- the parts of a hexadecimal number
+-- The parts of which a hexadecimal number consists.
 record IsHex (bytes : List ℕ) : Type 0 where
   first : get_or bytes 0 0 ≡ 48
   second : (eqb (get_or bytes 1 0) 120 || eqb (get_or bytes 1 0) 88) ≡ true
@@ -52,7 +52,7 @@ hexadecimal_parts (b ∷ c ∷ d ∷ ds) hex =
     let head = and_parts (eqb b 48) (eqb c 120 || eqb c 88) parts.0 in
     record { first = eqb-true b 48 head.0; second = head.1; digits = parts.1; long = omega arith }
 
--- a decimal number that begins with 0 is 0
+-- A decimal number whose first digit is 0 is the number 0.
 decimal_zero : (bytes : List ℕ) → is_decimal bytes ≡ true → get_or bytes 0 0 ≡ 48 → length bytes ≤ 1
 decimal_zero [] decimal first = omega arith
 decimal_zero (b ∷ []) decimal first = omega arith
@@ -69,7 +69,7 @@ hexadecimal_bound text (b ∷ c ∷ bs) rest whole first shape =
     (λ hex. omega (arith, prefix_len-at_least is_hex_digit (drop 2 text) bs rest (ap (drop 2) whole) (hexadecimal_parts (b ∷ c ∷ bs) hex).digits))
     shape
 
--- the text begins with `0x` or `0X` and a hexadecimal digit
+-- Says that the text begins with `0x` or `0X` and a hexadecimal digit.
 record BeginsHex (text : List ℕ) : Type 0 where
   first : get_or text 0 0 ≡ 48
   second : (eqb (get_or text 1 0) 120 || eqb (get_or text 1 0) 88) ≡ true

@@ -1,4 +1,5 @@
--- The form of a piece with a given first byte, and the longest piece at the start of a text.
+-- This file is about the form of a piece (a token, space or comment) with a given first byte, and
+-- about the longest piece at the start of a text.
 use Rattle.std.proofs.Common.{◌≡◌, ℕ, ◌≤◌, true, Some, ◌⊎◌, inl, inr, ⊎_elim, List, [], ◌∷◌, ◌++◌, length, get_or, take, drop, refl, sym, ap, subst, ◌∙◌, arith}
 use Rattle.std.specs.Prelude.{codes}
 use Rattle.std.proofs.lemmas.List.{take-append-drop, length-take-le}
@@ -9,7 +10,7 @@ use Rattle.cyc_syntax.specs.Spelling.{sign_text, is_name, is_decimal, is_hexadec
 use Rattle.cyc_syntax.specs.TokenRule.{IsRead}
 use Rattle.cyc_syntax.proofs.PieceLemmas.{Start, AtName, AtNumber, AtRegion, AtQuote, AtSpace, AtSlash, AtSign, start_of, starts_as, sign_start, piece_start, piece_starts, is_name-keyword_text}
 
--- a character constant, plain or escaped
+-- Says that bytes are a character constant, plain or escaped.
 abbrev pub IsCharacter : List ℕ → Type 0
 IsCharacter bytes =
     ((c : ℕ) × (bytes ≡ 39 ∷ c ∷ 39 ∷ []) × (is_plain c ≡ true))
@@ -28,7 +29,7 @@ sign_shape : (s : Sign) → Shape (sign_start s) (sign_text s)
 sign_shape signs.Slash = inl refl
 sign_shape s = (s, refl)
 
--- a piece has the form that its first byte determines
+-- Every token, space or comment has the form that its first byte determines.
 shape : (m : Piece) (bytes : List ℕ) → Spells m bytes → Shape (piece_start m) bytes
 shape (Lexeme (Identifier name)) bytes h = ap is_name h.0 ∙ h.1
 shape (Lexeme (RegionName name)) bytes h = (name, h.0, h.1)
@@ -40,7 +41,8 @@ shape Space bytes h = ap length h.1
 shape Comment bytes h = ⊎_elim (λ line. inr (inl line)) (λ block. inr (inr (inl block))) h
 shape OpenComment bytes h = inr (inr (inr h))
 
--- each prefix of a text that is a piece has the form that the text's first byte determines
+-- If a prefix of a text is a piece, then the prefix has the form that the text's first byte
+-- determines.
 front_shape : (m : Piece) (text front rest : List ℕ) → text ≡ front ++ rest → Spells m front → Shape (start_of (get_or text 0 0)) front
 front_shape m text front rest e spelled = by front (piece_starts m front spelled) (shape m front spelled) e
   where
@@ -49,7 +51,8 @@ front_shape m text front rest e spelled = by front (piece_starts m front spelled
     by (b ∷ bs) start shaped e =
         subst (λ s. Shape s (b ∷ bs)) (sym (ap (λ l. start_of (get_or l 0 0)) e ∙ start)) shaped
 
--- a piece of the text's form is read if no longer prefix has that form
+-- If a piece has the form of a text's first byte and no longer prefix has this form, then the lexer
+-- reads the piece.
 pub read_at : (m : Piece) (s : Start) (text : List ℕ) (n : ℕ) → start_of (get_or text 0 0) ≡ s → n ≤ length text → Spells m (take n text)
     → ((front rest : List ℕ) → text ≡ front ++ rest → Shape s front → length front ≤ n) → IsRead m (take n text) (drop n text)
 read_at m s text n start within spelled bound = record {

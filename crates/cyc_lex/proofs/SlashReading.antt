@@ -1,4 +1,4 @@
--- Comments and signs at the start of a text.
+-- This file is about comments and punctuation tokens at the start of a text.
 use Rattle.std.proofs.Common.{◌≡◌, ◌≢◌, ℕ, ◌+◌, ◌-◌, ◌<◌, ◌≤◌, true, false, not, Some, None, inl, inr, ⊎_elim, List, [], ◌∷◌, ◌++◌, length, get_or, take, drop, refl, sym, ap, ◌∙◌, append_assoc, append-nil, arith}
 use Rattle.std.specs.Prelude.{codes}
 use Rattle.std.specs.List.{list_all, list_any, prefix_len}
@@ -18,7 +18,7 @@ use Rattle.cyc_lex.specs.inside.Found.{IsFound}
 use Rattle.cyc_lex.specs.Refusals.{FailsHere}
 use Rattle.cyc_lex.proofs.ShapeLemmas.{Shape, read_at}
 
--- the second byte excludes the other kinds of pieces
+-- The second byte of a comment excludes all other kinds of tokens, spaces and comments.
 module _ (text front rest body : List ℕ) (b c : ℕ) (whole : text ≡ front ++ rest) (is : front ≡ b ∷ c ∷ body) where
   second_byte : get_or text 1 0 ≡ c
   second_byte = ap (λ l. get_or l 1 0) (whole ∙ ap (λ l. l ++ rest) is)
@@ -73,7 +73,7 @@ found_line_comment text n long first second len =
 
 -- ---- block comments
 
--- a prefix without `*/` is shorter than the closed comment
+-- A prefix of a comment's text without `*/` is shorter than the closed comment.
 shorter : (body front rest : List ℕ) (n : ℕ) → body ≡ front ++ rest → HasNoClose front → take n body ≡ take (n - 2) body ++ codes "*/" → length front < n
 shorter body front rest n whole none closed =
     ⊎_elim
@@ -133,7 +133,8 @@ open_comment text long first second none = (
 
 -- ---- signs
 
--- only comments and the sign `/` begin with a slash; no other piece begins with the first byte of a sign
+-- Only comments and the token `/` begin with a slash; only a punctuation token begins with the first
+-- byte of a punctuation token other than `/`.
 at_sign : (s : Sign) (rest : List ℕ) → get_or (sign_text s ++ rest) 0 0 ≢ 47 → start_of (get_or (sign_text s ++ rest) 0 0) ≡ AtSign
 at_sign signs.Swap rest other = refl
 at_sign signs.AndAnd rest other = refl

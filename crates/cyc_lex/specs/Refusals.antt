@@ -1,4 +1,5 @@
--- The texts that the lexer accepts, and the faults of rejected texts with their places. (This project's own choice, as the limits are.)
+-- This file defines the texts that the lexer accepts, and the faults of rejected texts with their source positions. (The definition is
+-- this project's own choice, like the limits.)
 use Rattle.std.specs.Prelude.{◌≡◌, ◌≢◌, ℕ, ◌<◌, ◌≤◌, ◌⊎◌, List, [], ◌++◌, length}
 use Rattle.cyc_words.specs.declared.fault.Code.{Code}
 use Rattle.cyc_words.specs.declared.fault.Code.TheVariants as codes
@@ -8,11 +9,12 @@ use Rattle.cyc_syntax.specs.Spelling.{Piece, Lexeme, OpenComment, Spells}
 use Rattle.cyc_syntax.specs.Tokens.{Kind, Number, Token}
 use Rattle.cyc_syntax.specs.TokenRule.{IsRead, Part, IsCut, bytes_of, tokens_of, line_after, column_after, HasTokens, IsWithinLimits, max_bytes, max_tokens, max_number}
 
--- the text begins with this piece, read as the longest
+-- Says that a text begins with this piece (token, space or comment), and that the piece is the
+-- longest one.
 abbrev pub Begins : Piece → List ℕ → Type 0
 Begins m text = (bytes : List ℕ) × (after : List ℕ) × (text ≡ bytes ++ after) × IsRead m bytes after
 
--- the meaning of a fault code for the rest of the text at a position
+-- The meaning of a fault code for the rest of the text from a position on.
 abbrev pub FailsHere : Code → List ℕ → Type 0
 -- no token, space or comment begins at this position
 FailsHere codes.UnknownByte text = (text ≢ []) × ((m : Piece) (front rest : List ℕ) → text ≡ front ++ rest → Spells m front → ⊥)
@@ -24,12 +26,12 @@ FailsHere _ text = ⊥
 
 -- The meaning of a fault code at a position with `count` tokens before it; `text` is the remaining text from that position on.
 abbrev pub Holds : Code → ℕ → List ℕ → Type 0
--- a token begins at this position, and it is one more than the limit
+-- A token begins at this position of the text, and it is one token more than the limit.
 Holds codes.TooManyTokens count text = (k : Kind) × Begins (Lexeme k) text × (max_tokens ≤ count)
 Holds code count text = FailsHere code text
 
--- The fault is at the first position where a code holds: everything before it is tokens within the limits, spaces and comments. If several
--- codes hold at that position, the lowest is reported.
+-- Says that a fault is at the first position where a code holds: everything before it is tokens within the limits, spaces and comments. If
+-- several codes hold at this position, then the lowest code is reported.
 pub record IsFirstFault (text : List ℕ) (fault : Fault) : Type 0 where
   pub parts : List Part
   pub rest : List ℕ
@@ -40,13 +42,15 @@ pub record IsFirstFault (text : List ℕ) (fault : Fault) : Type 0 where
   pub line : fault.line ≡ line_after (bytes_of parts)
   pub column : fault.column ≡ column_after (bytes_of parts)
 
--- The text is rejected with this fault: it is too long, or else this is its first fault.
+-- Says that a text is rejected with this fault: the text is too long, or else the fault is the
+-- first fault of the text.
 abbrev pub IsRefused : List ℕ → Fault → Type 0
 IsRefused text fault =
     ((max_bytes < length text) × (fault ≡ record { code = codes.TextTooLong; line = 1; column = 1 }))
     ⊎ ((length text ≤ max_bytes) × IsFirstFault text fault)
 
--- The text is accepted with these tokens: they are its tokens, and the text and its tokens are within the limits.
+-- Says that a text is accepted with these tokens: they are the text's tokens, and the text and its tokens are
+-- within the limits.
 pub record IsAccepted (text : List ℕ) (tokens : List Token) : Type 0 where
   pub short : length text ≤ max_bytes
   pub rule : HasTokens text tokens

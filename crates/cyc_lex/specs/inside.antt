@@ -1,3 +1,3 @@
--- contracts between the functions of this crate
+-- These modules have the contracts between the functions of this crate.
 pub mod Beginnings
 pub mod Found

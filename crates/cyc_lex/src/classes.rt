@@ -62,7 +62,7 @@ pub fn is_name_byte(b: u8) -> bool
     NAME_BYTES[usize::from(b)]
 }
 
-/// Returns true for a hexadecimal digit, of either case.
+/// Returns true for a hexadecimal digit, in upper or lower case.
 pub fn is_hex_digit(b: u8) -> bool
     ensures { result ≡ spec.is_hex_digit b }
 {
@@ -107,7 +107,7 @@ pub fn is_plain(b: u8) -> bool
     matches!(b, b' '..=b'~') && b != b'\'' && b != b'\\'
 }
 
-/// Returns the byte that an escape denotes, given the byte after the backslash.
+/// Returns the byte that an escape sequence denotes, given the byte after the backslash.
 pub fn escaped(b: u8) -> Option<u8>
     ensures { result ≡ spec.escaped b }
 {

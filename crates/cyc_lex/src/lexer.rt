@@ -1,4 +1,4 @@
-//! The lexer: from a text to its tokens, or to its first fault.
+//! This file is the lexer: it turns a text into its tokens, or into its first fault.
 ghost use Rattle.std.specs.Prelude.{◌≡◌, ◌≤◌, ◌⊎◌, length, map, IfOk, IfErr};
 ghost use Rattle.cyc_words.specs.Decision.{Decides};
 ghost use Rattle.cyc_words.specs.Fault.{memory_fault};
@@ -21,12 +21,12 @@ pub const MAX_TOKENS: usize = 60000;
 /// Returns the tokens of a text, by the token rule: at each position the longest token, space or comment is read.
 ///
 /// A text with too many bytes is rejected at 1:1. In any other text, the first fault is reported, and of several codes at one position the
-/// lowest. The faults are a position at which no token, space or comment begins, an unclosed comment, a number above the limit, and one
-/// token too many. Any growth of the token list may fail for lack of memory.
+/// lowest one. The faults are a position at which no token, space or comment begins, an unclosed comment, a number above the limit, and
+/// one token too many. Any growth of the token list may fail for lack of memory.
 pub fn lex(alloc: Global, text: &[u8]) -> Result<Vec<Token>, Fault>
-    // An accepted text gives its tokens, a rejected text its first fault.
+    // For an accepted text the result is its tokens, and for a rejected text its first fault.
     ensures decides { Decides (IsAccepted text.now) (λ tokens v. map (token_of text.now) v.items ≡ tokens) (IsRefused text.now) (IsRefused text.now) result }
-    // Each token is located at its place in the text.
+    // Each token records its position and length in the text.
     ensures lie { IfOk result (λ v. AreTokensOf text.now v.items) }
 {
     if text.len() > MAX_BYTES {
@@ -67,7 +67,7 @@ fn read_tokens(alloc: Global, text: &[u8]) -> Result<Vec<Token>, Fault>
                 start,
                 end,
             })?;
-            // No token contains a line feed, so only the column advances.
+            // No token contains a line feed, so after a token only the column advances.
             place.column += found.len as u32;
         } else {
             place = place_after(place, &text[start..end]);

@@ -1,4 +1,4 @@
-//! The lexer: from the bytes of a text to its tokens.
+//! This crate is the lexer: it turns the bytes of a text into its tokens.
 #![tactic(auto)]
 
 mod classes;

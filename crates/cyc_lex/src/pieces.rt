@@ -1,4 +1,4 @@
-//! Reading one piece: the longest token, space or comment at the start of a text.
+//! This file reads one piece: the longest token, space or comment at the start of a text.
 ghost use Rattle.std.specs.Prelude.{◌≡◌, ℕ, ◌<◌, ◌≤◌, true, Some, None, length, take, All, IfOk, IfErr, slice_index};
 ghost use Rattle.cyc_syntax.specs.Spelling as spec;
 ghost use Rattle.cyc_lex.specs.inside.Found.{IsFound};
@@ -12,7 +12,8 @@ use crate::spellings::{keyword, sign};
 use cyc_syntax::{Sign, TokenKind};
 use cyc_words::Code;
 
-/// The piece at the start of a text: its kind, if it is a token, and its length.
+/// The piece (token, space or comment) at the start of a text: its kind, if it is a token, and its
+/// length.
 #[derive(Clone, Copy)]
 pub struct Found {
     pub kind: Option<TokenKind>,
@@ -34,7 +35,7 @@ fn blank(len: usize) -> Found
     Found { kind: None, len }
 }
 
-/// Reads a name, or the keyword that it spells.
+/// Reads a name, or the keyword that the name spells.
 fn read_name(text: &[u8]) -> Found
     requires nonempty { 0 < length text.now }
     requires letter { spec.is_letter (slice_index text.now 0) ≡ true }
@@ -104,7 +105,7 @@ fn read_number(text: &[u8]) -> Result<Found, Code>
     number(10, &text[..len], len)
 }
 
-/// Reads a character constant: one byte between quotes, or an escape.
+/// Reads a character constant: one byte between single quotes, or an escape sequence.
 fn read_character(text: &[u8]) -> Result<Found, Code>
     requires nonempty { 0 < length text.now }
     requires quote { slice_index text.now 0 ≡ 39 }
@@ -123,7 +124,7 @@ fn read_character(text: &[u8]) -> Result<Found, Code>
     }
 }
 
-/// Reads a comment, or the sign `/`.
+/// Reads a comment, or the token `/`.
 fn read_slash(text: &[u8]) -> Result<Found, Code>
     requires nonempty { 0 < length text.now }
     requires slash { slice_index text.now 0 ≡ 47 }
@@ -143,7 +144,8 @@ fn read_slash(text: &[u8]) -> Result<Found, Code>
     }
 }
 
-/// Reads the piece at the start of a text. Fails if no piece begins there, or if it is a number above the limit.
+/// Reads the piece (token, space or comment) at the start of a text. Fails if no piece begins there, or if the
+/// piece is a number above the limit.
 pub fn read_piece(text: &[u8]) -> Result<Found, Code>
     requires { 0 < length text.now }
     ensures found { IfOk result (λ f. IsFound text.now f.kind f.len) }

@@ -1,4 +1,4 @@
-//! The spellings of keywords and signs.
+//! This file has the spellings of keywords and punctuation tokens.
 ghost use Rattle.std.specs.Prelude.{◌≡◌, ◌≢◌, ◌≤◌, List, ℕ, ◌++◌, length, drop, IfNone, IfSome};
 ghost use Rattle.cyc_syntax.specs.declared.tokens.Keyword.{Keyword};
 ghost use Rattle.cyc_syntax.specs.declared.tokens.Sign.{Sign};
@@ -126,7 +126,7 @@ pub fn keyword(bytes: &[u8]) -> Option<Keyword>
     }
 }
 
-/// Returns the longest sign that the text begins with, and its length.
+/// Returns the longest punctuation token with which the text begins, and the token's length.
 pub fn sign(text: &[u8]) -> Option<(Sign, usize)>
     ensures none { IfNone result ((s : Sign) (rest : List ℕ) → text.now ≢ spec.sign_text s ++ rest) }
     ensures len { IfSome result (λ found. found.1 ≡ length (spec.sign_text found.0)) }

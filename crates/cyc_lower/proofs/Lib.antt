@@ -1,5 +1,5 @@
--- code that is emitted piece by piece
+-- proofs about code that is emitted piece by piece
 pub mod emission
 pub mod Routines
--- the result of `lower`
+-- the proof that the result of `lower` is correct
 pub mod LoweringAnswers

@@ -1,4 +1,4 @@
--- The result of `lower`: a program with too many functions is rejected, and any other is lowered.
+-- The function `lower` rejects a program with too many functions, and lowers any other program.
 use Rattle.std.proofs.Common.{◌≡◌, ◌⊎◌, ℕ, ◌<◌, ◌≤◌, List, Option, Result, Ok, Err, refl, sym, ap, subst, ◌∙◌, arith, length}
 use Rattle.std.proofs.lemmas.Option.{slice_get_within}
 use Rattle.cyc_words.specs.declared.fault.Fault.{Fault}
@@ -14,7 +14,8 @@ use Rattle.cyc_lower_proof.specs.inside.Lowered.{CanBeLowered, IsAccepted, IsLow
 use Rattle.cyc_lower_proof.proofs.sizes.Lowerings.{is_lowered}
 use Rattle.cyc_lower.proofs.Routines.{one_too_many}
 
--- too many functions are more than the limit
+-- If `lower` rejects a program with `TooManyFunctions`, the program has more than `max_functions`
+-- functions.
 pub too_many_functions : (source : Program) (fault : Fault) → HasTooMany source fault → max_functions < length source.functions
 too_many_functions source fault (h, there, is) = slice_get_within source.functions max_functions h there
 

@@ -1,4 +1,4 @@
--- Functions and globals that are lowered one after the other.
+-- The functions and the globals of a program are lowered one after the other.
 use Rattle.std.proofs.Common.{◌≡◌, ℕ, suc, ◌+◌, ◌<◌, ◌≤◌, List, [], ◌∷◌, ◌++◌, ◌-◌, length, get_or, map, take, min, Option, Some, sym, ap, subst, ◌∙◌, arith}
 use Rattle.cyc_words.specs.declared.fault.Code.{Code}
 use Rattle.cyc_words.specs.declared.fault.Code.TheVariants.{TooManyFunctions}
@@ -25,13 +25,14 @@ use Rattle.cyc_lower_proof.proofs.emission.Alike.{same_length, turned_alike}
 use Rattle.cyc_lower_proof.proofs.emission.Lengths.{body_alike}
 use Rattle.cyc_lower_proof.proofs.emission.Blocks.{some_blocks}
 
--- a frame has room for the slots of the locals
+-- If the number of words of a frame is within the limit, the frame has space for the slots of the
+-- locals.
 pub few_locals : (f : FunctionCode) → frame_count (view_function f) ≤ most_frame_count
     → (words_of_all (view_function f).parameters ≤ most_frame_count) × (first_temporary (view_function f) + kept_by_items (view_function f).body ≤ most_locals)
 few_locals f small = (omega (arith, small), omega (arith, small, slots-few (view_function f)))
 
--- The code of the body of a function. The body's code is emitted with far targets for the blocks, and leads to the blocks after it once
--- these targets are replaced. A return comes between, and only the blocks that jumps lead to are kept.
+-- The body of a function is emitted with far targets for the blocks that raise exceptions. Once these targets are replaced, the body's
+-- jumps go to the blocks after it. A return comes before the blocks, and only blocks that are jump targets are kept.
 pub function_made : (structs : List StructType) (globals : List ℕ) (scopes : Option ℕ) (h : Function) (locals : List ℕ) (slot free far raises end : ℕ) (count kept : ℕ) (first body ended all code : List Instruction) → locals ≡ starts_from 0 (slot_types h) → slot ≡ tag_slot h → free ≡ first_temporary h
     → first ≡ items_code (record { locals = locals; tag_slot = slot; structs = structs; raises = far; counters = []; globals = globals; scopes = scopes }) h.body 0 outside_loops free → raises ≡ length first
     → AreTurned far raises first body → IsClose structs globals scopes h → raises + 7 ≤ far
@@ -51,7 +52,7 @@ function_made structs globals scopes h locals slot free far raises end count kep
 
 -- ---- lists that are lowered element by element
 
--- one more element is lowered
+-- Lowering one more element extends the list of lowered elements by one.
 pub one_more_mapped : {A B C D : Type 0} (f : A → D) (g : C → D) (view : B → C) (made new : List A) (xs : List B) (i : ℕ) (a : A) (x : B) → i < length xs → x ≡ get_or xs i x → new ≡ made ++ a ∷ []
     → f a ≡ g (view x) → map f made ≡ map g (map view (take i xs)) → map f new ≡ map g (map view (take (i + 1) xs))
 one_more_mapped {A} {B} {C} {D} f g view made new xs i a x inside at is one made_is =

@@ -1,4 +1,4 @@
--- the emitting and counting code
+-- proofs about the functions that emit code and count words
 pub mod Emitting
 pub mod ExpressionEmitting
 pub mod CellCode

@@ -1,2 +1,2 @@
--- how the functions of the emitter describe the code that they add
+-- the contracts in which the functions of the emitter describe the code that they append
 pub mod Emission

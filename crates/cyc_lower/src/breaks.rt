@@ -1,4 +1,4 @@
-//! The search for a `break` that leaves the body of a loop.
+//! Searches for a `break` that leaves the body of a loop.
 ghost use Rattle.std.specs.Prelude.{◌≡◌};
 ghost use Rattle.cyc_types.specs.TypedTrees.{NoClauses};
 ghost use Rattle.cyc_types.specs.TypedTreeView.{view_statement, items_of, clauses_of, default_of};

@@ -1,4 +1,4 @@
-//! The code of calls and of their arguments.
+//! Emits the code of calls and of their arguments.
 ghost use Rattle.std.specs.Prelude.{◌+◌, ◌≤◌, length};
 ghost use Rattle.cyc_types.specs.Types.{Void};
 ghost use Rattle.cyc_types.specs.TypedTreeView.{arguments_of};
@@ -53,7 +53,7 @@ impl Emitter {
         }
     }
 
-    /// Emits a `putchar` of its only argument.
+    /// Emits a call of `putchar` with its only argument.
     #[cycle(expression)]
     fn print(
         &mut self,
@@ -73,7 +73,8 @@ impl Emitter {
         Ok(byte)
     }
 
-    /// Emits the code of the arguments, each in the slots after those of the previous one. Returns the number of words of the arguments.
+    /// Emits the code of the arguments of a call, each in the slots after those of the previous one. Returns the number of words of the
+    /// arguments.
     #[cycle(expression)]
     pub(crate) fn lower_arguments(
         &mut self,

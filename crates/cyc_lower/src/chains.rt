@@ -1,4 +1,4 @@
-//! The code of chains of operators: each operator is applied to the value of the previous part and to its right operand.
+//! Emits chains of operators. Each operator is applied to the value of the preceding part and to its right operand.
 ghost use Rattle.std.specs.Prelude.{◌+◌, ◌≤◌, length};
 ghost use Rattle.cyc_types.specs.TypedTreeView.{view_expression, operations_of};
 ghost use Rattle.cyc_plain.specs.declared.instruction.Operand.TheVariants as operands;
@@ -17,7 +17,7 @@ use cyc_types::typed::{Expr, Kind, Operation, Operator, PointerOperator};
 use std::alloc::AllocError;
 
 impl Emitter {
-    /// Emits the test of a divisor, unless it is a number other than 0.
+    /// Emits the test that a divisor is not 0, unless the divisor is a constant other than 0.
     fn check_divisor(&mut self, starts: &Starts, value: Operand) -> Result<(), AllocError>
         ensures { Appends result self.old self.new (divisor_code (view_starts starts.now) value) }
     {
@@ -29,7 +29,7 @@ impl Emitter {
         }
     }
 
-    /// Emits an operator with two operands.
+    /// Emits the code of an operator on two operands, with the test of a divisor.
     fn lower_operator(
         &mut self,
         starts: &Starts,
@@ -51,7 +51,8 @@ impl Emitter {
         })
     }
 
-    /// Emits the truth value of the word in `free`: 0 remains 0, and any other word becomes 1.
+    /// Emits the conversion of the word in slot `free` to a truth value: 0 remains 0, and any other
+    /// word becomes 1.
     fn make_truth(&mut self, free: usize, slot: usize) -> Result<(), AllocError>
         ensures { Appends result self.old self.new (truth_code free slot) }
     {
@@ -82,7 +83,7 @@ impl Emitter {
         made
     }
 
-    /// Emits an operator of a chain whose place in the text is already set.
+    /// Emits an operator of a chain whose source position is already set.
     #[cycle(expression)]
     fn apply(
         &mut self,
@@ -124,7 +125,7 @@ impl Emitter {
         }
     }
 
-    /// Emits an operator on pointers, whose left operand is in the first free slots, with its right operand.
+    /// Emits an operator on pointers, whose left operand is in the first free slots, and its right operand.
     #[cycle(expression)]
     fn lower_pointer_operation(
         &mut self,
@@ -143,7 +144,8 @@ impl Emitter {
         self.apply_pointer(operator, left, right, slot)
     }
 
-    /// Emits an operator on pointers: it compares the first words, or changes the index and moves the first two words in front of it.
+    /// Emits an operator on pointers. The operator compares the first words, or changes the index and moves the first two words to
+    /// the slots before the index.
     fn apply_pointer(
         &mut self,
         operator: PointerOperator,
@@ -167,7 +169,8 @@ impl Emitter {
         })
     }
 
-    /// Emits the change of an index, and moves the first two words of its pointer in front of it, unless they are already there.
+    /// Emits the change of a fat pointer's index, and moves the pointer's first two words to the slots before the index, unless
+    /// they are there already.
     fn change_index(
         &mut self,
         operator: BinaryOperator,
@@ -200,7 +203,8 @@ impl Emitter {
         }
     }
 
-    /// Emits a chain from its first operator on, and moves the result of the last one to a slot.
+    /// Emits a chain of operators from its first operator on, and moves the result of the last
+    /// operator to a slot.
     #[cycle(expression)]
     pub(crate) fn lower_operations(
         &mut self,

@@ -1,4 +1,4 @@
-//! Checks, and the blocks that raise an exception if a check fails.
+//! Emits checks, and the blocks that raise an exception if a check fails.
 ghost use Rattle.std.specs.Prelude.{◌≡◌};
 ghost use Rattle.cyc_lower_proof.specs.inside.ValueCode.{raising, telling, blocks, guard_code, check_code};
 ghost use Rattle.cyc_lower.specs.inside.Emission.{Appends, view_starts};
@@ -8,7 +8,8 @@ use crate::starts::Starts;
 use cyc_plain::{BinaryOperator, Comparison, Instruction, Operand};
 use std::alloc::AllocError;
 
-/// The tag of the exception for null, the first of the exceptions that the language raises.
+/// The tag of the exception for a null pointer, the first of the exceptions that the language
+/// raises.
 pub(crate) const NULL_EXCEPTION: u32 = 1;
 
 pub(crate) const ARRAY_BOUNDS: u32 = 2;
@@ -28,8 +29,8 @@ fn raising(tag: u32) -> Instruction
 }
 
 impl Emitter {
-    /// Emits the code that raises the exception of an access through a fat pointer. The slot holds 0 if the pointer is null, and 1
-    /// otherwise.
+    /// Emits the code that raises the exception of an access through a fat pointer. The slot contains 0 if the pointer is null,
+    /// otherwise 1.
     fn lower_telling(&mut self, slot: usize) -> Result<(), AllocError>
         ensures { Appends result self.old self.new (telling slot) }
     {
@@ -48,8 +49,8 @@ impl Emitter {
         self.emit_both(number, throw)
     }
 
-    /// Emits the blocks after the body of a function. The first block is for accesses and tests this slot. After the block for accesses
-    /// comes one for each exception of the language, in the order of tags.
+    /// Emits the blocks after the body of a function. The first block is for failed accesses and tests this slot. After the first block
+    /// comes one block for each exception of the language, in the order of tags.
     pub(crate) fn lower_blocks(&mut self, slot: usize) -> Result<(), AllocError>
         ensures { Appends result self.old self.new (blocks slot) }
     {
@@ -58,7 +59,7 @@ impl Emitter {
         self.emit_both(raising(ARRAY_SIZE), raising(DIVISION_BY_ZERO))
     }
 
-    /// Emits a check that raises an exception if this comparison of two operands holds.
+    /// Emits a check that raises an exception if a comparison of two operands holds.
     pub(crate) fn guard(
         &mut self,
         starts: &Starts,

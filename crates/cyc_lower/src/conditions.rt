@@ -1,4 +1,4 @@
-//! The code of conditions: two operands and their comparison, before a jump that is taken if the condition fails.
+//! Emits conditions: two operands and their comparison, before a jump that is taken if the condition fails.
 ghost use Rattle.std.specs.Prelude.{◌≡◌, ◌≤◌, ◌<◌, ◌+◌, IfOk, length, set};
 ghost use Rattle.cyc_types.specs.TypedTreeView.{view_expression, operations_of};
 ghost use Rattle.cyc_lower_proof.specs.inside.ControlCode.{is_same, all_test, are_tests, turned_test, failing_jump};
@@ -18,14 +18,15 @@ use cyc_plain::{Comparison, Operand};
 use cyc_types::typed::{Expr, Kind, LogicalOperator, Operation, UnaryOperator};
 use std::alloc::AllocError;
 
-/// A jump at a place, whose target is not yet known, and which is taken if a condition fails.
+/// A jump in the code that is taken if a condition fails, and whose target is not yet known.
 #[derive(Clone, Copy)]
 pub(crate) struct Pending {
     pub(crate) place: usize,
     pub(crate) condition: Condition,
 }
 
-/// The condition of a branch before the jump over its first statement, and the inner jumps that share the target of this jump.
+/// The condition of a branch before the jump over its first statement, and the inner jumps that will have the same target as
+/// this jump.
 #[derive(Drop)]
 pub(crate) struct Tested {
     pub(crate) last: Condition,
@@ -41,7 +42,8 @@ fn is_same(operator: LogicalOperator, other: LogicalOperator) -> bool
     }
 }
 
-/// Returns the operator of the tests that are equal to the negation of tests by this operator.
+/// Returns the logical operator that negated tests by this operator have: `&&` for `||`, and `||`
+/// for `&&`.
 fn turned_test(operator: LogicalOperator) -> LogicalOperator
     ensures { result ≡ turned_test operator }
 {
@@ -51,7 +53,7 @@ fn turned_test(operator: LogicalOperator) -> LogicalOperator
     }
 }
 
-/// Returns true if an operator of a chain is a test by this one.
+/// Returns true if an operator of a chain is a test by this logical operator.
 fn is_test(operator: LogicalOperator, operation: &Operation) -> bool
     ensures { result ≡ is_test operator operation.now }
 {
@@ -64,7 +66,7 @@ fn is_test(operator: LogicalOperator, operation: &Operation) -> bool
     }
 }
 
-/// Returns true if all operators of a chain are tests by this one.
+/// Returns true if all operators of a chain are tests by this logical operator.
 fn all_test(operator: LogicalOperator, operations: &[Operation]) -> bool
     ensures { result ≡ all_test operator (operations_of operations.now) }
 {
@@ -76,7 +78,8 @@ fn all_test(operator: LogicalOperator, operations: &[Operation]) -> bool
     true
 }
 
-/// Returns true if a chain has at least one operator and all are tests by this one.
+/// Returns true if a chain has at least one operator, and all of them are tests by this logical
+/// operator.
 fn are_tests(operator: LogicalOperator, operations: &[Operation]) -> bool
     ensures { result ≡ are_tests operator (operations_of operations.now) }
 {
@@ -126,7 +129,8 @@ impl Emitter {
         })
     }
 
-    /// Emits the first of two compared operands. The first operand is used without code only if the second one is simple.
+    /// Emits the first of two compared operands. The first operand is used without code only if the second operand is
+    /// simple.
     fn lower_first(
         &mut self,
         starts: &Starts,
@@ -170,7 +174,8 @@ impl Emitter {
         })
     }
 
-    /// Emits a condition that is a chain: a single operator that compares is left to the jump.
+    /// Emits a condition that is a chain of operators. If the only operator is a comparison, the
+    /// jump performs it.
     fn compare_chain(
         &mut self,
         starts: &Starts,
@@ -224,7 +229,8 @@ impl Emitter {
         }
     }
 
-    /// Emits the right operand of a test, after a jump on this condition that is taken if the left operand decides.
+    /// Emits the right operand of a test, after a jump that is taken if the condition of the left operand decides
+    /// the test.
     fn lower_other(
         &mut self,
         starts: &Starts,
@@ -247,8 +253,8 @@ impl Emitter {
         }
     }
 
-    /// Emits the operands of a chain of tests. If an operand before the last one decides, a jump leads to this place. Returns the condition
-    /// of the last operand.
+    /// Emits the operands of a chain of tests. If an operand before the last one decides, a jump goes to the position `following`. Returns
+    /// the condition of the last operand.
     fn lower_tests(
         &mut self,
         starts: &Starts,
@@ -295,8 +301,8 @@ impl Emitter {
         Ok(Tested { last, early })
     }
 
-    /// Emits the operands of a chain of tests, with jumps to the place after the following jump. The place after the following jump is
-    /// known after the code was emitted once.
+    /// Emits the operands of a chain of tests, with jumps to the position after the jump that follows. The position after the jump
+    /// that follows is known only after the code was emitted once.
     fn lower_chain(
         &mut self,
         starts: &Starts,
@@ -319,7 +325,7 @@ impl Emitter {
         self.lower_tests(starts, operator, first, rest, following, free)
     }
 
-    /// Emits a condition that is a chain, of tests or of other operators.
+    /// Emits a condition that is a chain of operators, which may be tests or not.
     fn choose_chain(
         &mut self,
         starts: &Starts,
@@ -340,8 +346,8 @@ impl Emitter {
         self.lower_condition(starts, value, free)
     }
 
-    /// Emits a condition before a jump. Tests by this operator are emitted operand by operand: if one decides, execution continues after
-    /// the jump.
+    /// Emits a condition before a jump. A chain of tests by this operator is emitted operand by operand: if one operand decides, control
+    /// continues after the jump.
     pub(crate) fn lower_choice(
         &mut self,
         starts: &Starts,
@@ -369,7 +375,8 @@ impl Emitter {
         }
     }
 
-    /// Emits the condition of a branch with tests by the other operator, all of whose jumps have their targets.
+    /// Emits the condition of a branch whose tests are by the other logical operator, so that all of its jumps
+    /// have their targets.
     fn lower_settled(
         &mut self,
         starts: &Starts,
@@ -389,7 +396,8 @@ impl Emitter {
         })
     }
 
-    /// Emits the condition of a branch that is a chain, of tests by this operator or of others.
+    /// Emits the condition of a branch that is a chain of operators, which may be tests by this
+    /// logical operator or not.
     fn branch_chain(
         &mut self,
         starts: &Starts,
@@ -409,8 +417,8 @@ impl Emitter {
         self.lower_settled(starts, operator, value, free)
     }
 
-    /// Emits the condition of a branch before the jump over its first statement. In tests by this operator, each deciding jump leads to the
-    /// other statement.
+    /// Emits the condition of a branch before the jump over its first statement. In tests by this logical operator, each deciding jump goes
+    /// to the other statement.
     pub(crate) fn lower_branch(
         &mut self,
         starts: &Starts,
@@ -441,7 +449,7 @@ impl Emitter {
         }
     }
 
-    /// Sets the target of jumps to the next instruction.
+    /// Sets the target of these jumps to the next instruction.
     fn lead_here(&mut self, jumps: &[Pending])
         requires { AreBefore jumps.now (length self.old.code.items) }
         ensures { self.new.code.items ≡ failed jumps.now (length self.old.code.items) self.old.code.items }
@@ -451,8 +459,8 @@ impl Emitter {
         }
     }
 
-    /// Sets the next instruction as the target for a failing condition of a branch. The jumps are the one after the condition, at this
-    /// place, and its inner jumps.
+    /// Sets the next instruction as the target of a branch whose condition fails. The target is set in the jump at `place`, which
+    /// follows the condition, and in the condition's inner jumps.
     pub(crate) fn fail_here(&mut self, place: usize, tested: &Tested)
         requires { (place < length self.old.code.items) × AreBefore tested.now.early.items (length self.old.code.items) }
         ensures code { self.new.code.items ≡ failed tested.now.early.items (length self.old.code.items)

@@ -1,4 +1,4 @@
-//! Conversions of values in slots, and the code that moves words and addresses to slots.
+//! Emits conversions of values in slots, and the code that moves words and addresses to slots.
 ghost use Rattle.std.specs.Prelude.{[], ◌∷◌, length};
 ghost use Rattle.cyc_types.specs.TypedTreeView.{view_expression};
 ghost use Rattle.cyc_meaning.specs.Values.{words_of_kind};
@@ -19,9 +19,8 @@ use cyc_types::typed::{Converted, Kind};
 use std::alloc::AllocError;
 
 impl Emitter {
-    /// Emits the conversion of a value in place.
-    /// A value that must not be null is tested. A thin pointer gets the other words of a fat one. A fat pointer becomes the address of its
-    /// cell.
+    /// Emits the conversion of a value in place. A value that must not be null is tested. A thin pointer that becomes fat gets two further
+    /// words. A fat pointer that becomes thin becomes the address of its cell.
     pub(crate) fn convert(
         &mut self,
         starts: &Starts,
@@ -37,7 +36,7 @@ impl Emitter {
         made
     }
 
-    /// Emits the conversion of a value whose place in the text is already set.
+    /// Emits the conversion of a value whose source position is already set.
     fn change(
         &mut self,
         starts: &Starts,
@@ -60,7 +59,7 @@ impl Emitter {
         self.thin(starts, conversion.to, span, value)
     }
 
-    /// Emits the move of a value of a kind to a slot, unless it is already there.
+    /// Emits the move of a value of a kind to a slot, unless the value is already there.
     pub(crate) fn copy(
         &mut self,
         kind: Kind,
@@ -75,7 +74,8 @@ impl Emitter {
         self.emit(move_of(words_of_kind(kind), slot, source))
     }
 
-    /// Emits the move of an address to a slot: the word of an operand plus a number of bytes.
+    /// Emits the move of an address to a slot. The address is the word of an operand plus a number
+    /// of bytes.
     pub(crate) fn bring_address(
         &mut self,
         address: Operand,
@@ -95,7 +95,7 @@ impl Emitter {
         }
     }
 
-    /// Emits the move of a number to a slot.
+    /// Emits the move of a constant number to a slot.
     pub(crate) fn bring_word(&mut self, word: u32, slot: usize) -> Result<(), AllocError>
         ensures { Appends result self.old self.new (instructions.Move slot (operands.Word word) ∷ []) }
     {

@@ -17,7 +17,7 @@ use cyc_types::typed::Lvalue;
 use cyc_words::Span;
 use std::alloc::{AllocError, Global};
 
-/// Returns the place that an instruction leads to, besides the next one.
+/// Returns the jump target of an instruction, or 0 if it has none.
 fn target_of(instruction: &Instruction) -> usize
     ensures { result ≡ target_of instruction.now }
 {
@@ -28,7 +28,8 @@ fn target_of(instruction: &Instruction) -> usize
     }
 }
 
-/// Returns the instruction with a nearer target: a target after `far` becomes one as far after `near`.
+/// Returns the instruction with a nearer target: a target at a distance after `far` is replaced by the
+/// one at this distance after `near`.
 fn turned(instruction: Instruction, far: usize, near: usize) -> Instruction
     requires { near ≤ far }
     ensures { result ≡ turned far near instruction }
@@ -52,7 +53,8 @@ fn turned(instruction: Instruction, far: usize, near: usize) -> Instruction
     }
 }
 
-/// Replaces the target of an instruction that leads past `far` in this way.
+/// Replaces the target of an instruction, if it is after `far`, by the one at the same distance
+/// after `near`.
 fn turn(instruction: &mut Instruction, far: usize, near: usize)
     requires { near ≤ far }
     ensures { IsTurned far near instruction.old instruction.new }
@@ -62,20 +64,20 @@ fn turn(instruction: &mut Instruction, far: usize, near: usize)
     }
 }
 
-/// The code of a function under construction, and the place of the text that it is emitted for.
+/// The code of a function under construction, and the source position for which it is emitted.
 #[derive(Drop)]
 pub(crate) struct Emitter {
     pub(crate) code: Vec<Instruction>,
     pub(crate) marks: Vec<Mark>,
-    /// The place of the text for the instructions that follow.
+    /// The source position of the instructions that follow.
     here: Span,
-    /// True if marks are kept.
+    /// True if the emitter records the source positions of instructions.
     is_marked: bool,
 }
 
 impl Emitter {
-    /// Returns an emitter without code, for a function whose name is at this place. If `is_marked` is true, the emitter keeps marks of
-    /// places in the text.
+    /// Returns an emitter without code, for a function whose name is at this source position. If `is_marked` is true, the emitter
+    /// records the source positions of instructions.
     pub(crate) fn new(alloc: Global, name: Span, is_marked: bool) -> Emitter
         ensures { result.code.items ≡ [] }
     {
@@ -87,7 +89,8 @@ impl Emitter {
         }
     }
 
-    /// Sets the place of the text for the following instructions, if one is given. Returns the previous place.
+    /// Sets the source position of the following instructions, if one is given. Returns the previous source
+    /// position.
     pub(crate) fn enter(&mut self, place: Option<Span>) -> Span
         ensures { self.new.code.items ≡ self.old.code.items }
     {
@@ -98,14 +101,14 @@ impl Emitter {
         outer
     }
 
-    /// Sets the place of the text for the following instructions back to the outer place.
+    /// Sets the source position of the following instructions back to the outer one.
     pub(crate) fn leave(&mut self, outer: Span)
         ensures { self.new.code.items ≡ self.old.code.items }
     {
         self.here = outer;
     }
 
-    /// Records the place of the text of the next instruction if it differs from that of the previous one.
+    /// Records the source position of the next instruction if it differs from that of the previous one.
     fn mark(&mut self) -> Result<(), AllocError>
         ensures { self.new.code.items ≡ self.old.code.items }
     {
@@ -125,14 +128,14 @@ impl Emitter {
         }
     }
 
-    /// Returns the place of the next instruction.
+    /// Returns the position of the next instruction in the code.
     pub(crate) fn place(&self) -> usize
         ensures { result ≡ length self.now.code.items }
     {
         self.code.len()
     }
 
-    /// Returns the farthest place that an instruction leads to.
+    /// Returns the farthest jump target in the code.
     pub(crate) fn farthest(&self) -> usize
         ensures { result ≡ farthest self.now.code.items }
     {
@@ -146,7 +149,8 @@ impl Emitter {
         place
     }
 
-    /// Replaces all targets after `far` by targets as far after `near`, which is nearer.
+    /// Replaces each target after `far` by the one at the same distance after `near`, which is
+    /// nearer.
     pub(crate) fn settle(&mut self, far: usize, near: usize)
         requires { near ≤ far }
         ensures { AreTurned far near self.old.code.items self.new.code.items }
@@ -165,7 +169,7 @@ impl Emitter {
         Ok(())
     }
 
-    /// Adds two instructions. A caller then has one exit for lack of memory instead of two.
+    /// Appends two instructions, so that a caller has one exit for lack of memory instead of two.
     pub(crate) fn emit_both(
         &mut self,
         first: Instruction,
@@ -190,7 +194,7 @@ impl Emitter {
         self.emit(third)
     }
 
-    /// Replaces the instruction at a place.
+    /// Replaces the instruction at a position of the code.
     pub(crate) fn patch(&mut self, place: usize, instruction: Instruction)
         requires { place < length self.old.code.items }
         ensures { self.new.code.items ≡ set self.old.code.items place instruction }
@@ -198,7 +202,7 @@ impl Emitter {
         self.code[place] = instruction;
     }
 
-    /// Reserves the place of the next instruction for a jump whose target is not yet known.
+    /// Reserves the position of the next instruction for a jump whose target is not yet known.
     pub(crate) fn reserve(&mut self) -> Result<usize, AllocError>
         ensures { IfOk result (λ place. (place ≡ length self.old.code.items) × (self.new.code.items ≡ self.old.code.items ++ Instruction.Jump 0 ∷ [])) }
     {
@@ -207,7 +211,7 @@ impl Emitter {
         Ok(place)
     }
 
-    /// Removes the marks of instructions that no longer exist.
+    /// Removes the recorded source positions of instructions that no longer exist.
     fn drop_marks(&mut self, place: usize)
         ensures { self.new.code.items ≡ self.old.code.items }
     {
@@ -221,7 +225,7 @@ impl Emitter {
         }
     }
 
-    /// Removes the code from a place on.
+    /// Removes the code from a position on.
     pub(crate) fn take_back(&mut self, place: usize)
         ensures { self.new.code.items ≡ take place self.old.code.items }
     {
@@ -229,7 +233,7 @@ impl Emitter {
         self.drop_marks(place);
     }
 
-    /// Puts a jump to the next instruction at a reserved place.
+    /// Puts a jump to the next instruction at a reserved position.
     pub(crate) fn jump_here(&mut self, place: usize)
         requires { place < length self.old.code.items }
         ensures { self.new.code.items ≡ set self.old.code.items place (Instruction.Jump (length self.old.code.items)) }
@@ -238,7 +242,7 @@ impl Emitter {
         self.patch(place, Instruction::Jump { target });
     }
 
-    /// Puts a jump to the next instruction, for a failing condition, at a reserved place.
+    /// Puts a jump to the next instruction, taken if a condition fails, at a reserved position.
     pub(crate) fn jump_here_if_failing(&mut self, place: usize, condition: Condition)
         requires { place < length self.old.code.items }
         ensures { self.new.code.items ≡ set self.old.code.items place (failing_jump condition (length self.old.code.items)) }
@@ -247,7 +251,7 @@ impl Emitter {
         self.patch(place, failing_jump(condition, target));
     }
 
-    /// Emits the load of the value of a place, with this number of words, into slots.
+    /// Emits the load of a variable's or a cell's value, with this number of words, into slots.
     pub(crate) fn load(
         &mut self,
         starts: &Starts,

@@ -1,4 +1,5 @@
-//! The exits of a statement: what a statement that leaves a loop or a function has to close, and its code.
+//! The exits of a statement: the handlers and regions that a statement must close before it leaves a loop
+//! or a function, and the code that closes them.
 ghost use Rattle.std.specs.Prelude.{◌≡◌, ◌+◌, ◌≤◌, [], ◌∷◌, ◌++◌, length, option_map};
 ghost use Rattle.cyc_types.specs.TypedTreeView.{view_converted};
 ghost use Rattle.cyc_lower_proof.specs.inside.ControlCode.{nothing_opened, outermost, with_handler, with_mark, inside_try, inside_region, leave_code};
@@ -13,7 +14,7 @@ use cyc_plain::Instruction;
 use cyc_types::typed::{Converted, Item};
 use std::alloc::AllocError;
 
-/// Returns the record of nothing opened.
+/// Returns the record that says that no handler and no region is open.
 pub(crate) fn nothing_opened() -> Opened
     ensures { result ≡ nothing_opened }
 {
@@ -23,7 +24,8 @@ pub(crate) fn nothing_opened() -> Opened
     }
 }
 
-/// Returns the outermost opened slot: this one if there was none.
+/// Returns the slot of the outermost opened handler or region: this slot if nothing was opened
+/// before.
 fn outermost(opened: Option<usize>, slot: usize) -> Option<usize>
     ensures { result ≡ outermost opened slot }
 {
@@ -33,7 +35,8 @@ fn outermost(opened: Option<usize>, slot: usize) -> Option<usize>
     }
 }
 
-/// Returns what is opened together with a handler whose record begins at this slot.
+/// Returns the record of opened handlers and regions, extended by a handler whose record begins at
+/// this slot.
 fn with_handler(opened: Opened, slot: usize) -> Opened
     ensures { result ≡ with_handler opened slot }
 {
@@ -43,7 +46,8 @@ fn with_handler(opened: Opened, slot: usize) -> Opened
     }
 }
 
-/// Returns what is opened together with a lexical region whose mark is in this slot.
+/// Returns the record of opened handlers and regions, extended by a lexical region whose closing
+/// number is in this slot.
 fn with_mark(opened: Opened, slot: usize) -> Opened
     ensures { result ≡ with_mark opened slot }
 {
@@ -53,7 +57,8 @@ fn with_mark(opened: Opened, slot: usize) -> Opened
     }
 }
 
-/// Returns the exits in the body of a `try`, the record of whose handler begins at this slot.
+/// Returns the exits of a statement in the body of a `try`, whose handler record begins at this
+/// slot.
 pub(crate) fn inside_try(exits: Exits, slot: usize) -> Exits
     ensures { result ≡ inside_try exits slot }
 {
@@ -65,7 +70,8 @@ pub(crate) fn inside_try(exits: Exits, slot: usize) -> Exits
     }
 }
 
-/// Returns the exits after a region, whose mark is in this slot.
+/// Returns the exits of a statement after the opening of a lexical region, whose closing number is
+/// in this slot.
 fn inside_region(exits: Exits, slot: usize) -> Exits
     ensures { result ≡ inside_region exits slot }
 {
@@ -77,7 +83,8 @@ fn inside_region(exits: Exits, slot: usize) -> Exits
     }
 }
 
-/// Returns the exits after an item of a block, before which the temporaries begin at this slot.
+/// Returns the exits of the statements after an item of a block, before which the temporaries begin
+/// at this slot.
 pub(crate) fn exits_after(item: &Item, exits: Exits, free: usize) -> Exits
     ensures { result ≡ exits_after item.now exits free }
 {
@@ -92,7 +99,8 @@ pub(crate) fn exits_after(item: &Item, exits: Exits, free: usize) -> Exits
 }
 
 impl Emitter {
-    /// Closes the opened handlers and regions: all handlers from the outermost on, and then all lexical regions.
+    /// Emits the closing of opened handlers and regions: all handlers from the outermost on, and then all
+    /// lexical regions.
     pub(crate) fn lower_leave(&mut self, opened: Opened) -> Result<(), AllocError>
         ensures { Appends result self.old self.new (leave_code opened) }
     {
@@ -105,7 +113,7 @@ impl Emitter {
         }
     }
 
-    /// Emits the return of a value in a slot.
+    /// Emits the return from a function whose result is in a slot.
     pub(crate) fn lower_return(
         &mut self,
         starts: &Starts,
@@ -125,7 +133,8 @@ impl Emitter {
         self.emit(Instruction::Finish { value: from })
     }
 
-    /// Emits the closing of the handlers and regions that a loop has opened, and the jump to the end of the loop.
+    /// Emits a `break`: the closing of the handlers and regions opened in the loop, and the jump to the end of
+    /// the loop.
     pub(crate) fn lower_break(&mut self, exits: Exits) -> Result<(), AllocError>
         ensures { Appends result self.old self.new (leave_code exits.in_loop ++ Instruction.Jump (break_target exits) ∷ []) }
     {
@@ -135,7 +144,8 @@ impl Emitter {
         })
     }
 
-    /// Emits the closing of the handlers and regions that a loop has opened, and the jump to the condition at the beginning of the loop.
+    /// Emits a `continue`: the closing of the handlers and regions opened in the loop, and the jump to the condition at the beginning of
+    /// the loop.
     pub(crate) fn lower_continue(&mut self, exits: Exits) -> Result<(), AllocError>
         ensures { Appends result self.old self.new (leave_code exits.in_loop ++ Instruction.Jump (continue_target exits) ∷ []) }
     {

@@ -1,6 +1,5 @@
-//! The code of expressions.
-//! Each method adds its code after the existing code. The last instruction of an expression's code moves the value to its slot. All other
-//! writes go to the slots from `free` on and to assigned locals.
+//! Emits the code of expressions. Each method appends its code to the existing code. The last instruction of an expression's code moves
+//! the value to its slot. All other writes go to the slots from `free` on and to assigned locals.
 ghost use Rattle.std.specs.Prelude.{◌≡◌, ◌+◌, ◌<◌, ◌≤◌, ◌++◌, None, length};
 ghost use Rattle.cyc_types.specs.TypedTreeView.{view_dereference, view_initial, view_expression, view_converted, view_lvalue, operations_of};
 ghost use Rattle.cyc_types.specs.TypedTrees.{Call};
@@ -34,7 +33,7 @@ use cyc_types::typed;
 use cyc_types::typed::{Converted, Dereference, Expr, Initial, Kind, Lvalue, Operation, Placement};
 use std::alloc::AllocError;
 
-/// Returns the number of bytes to add to an address.
+/// Returns the number of bytes that an access adds to the address.
 fn place_offset(starts: &Starts, place: &Dereference) -> u32
     ensures { result ≡ place_offset (view_starts starts.now) (view_dereference place.now) }
 {
@@ -64,7 +63,7 @@ impl Emitter {
         made
     }
 
-    /// Emits an expression whose place in the text is already set, and moves its value to a slot.
+    /// Emits an expression whose source position is already set, and moves its value to a slot.
     #[cycle(expression)]
     fn lower_value(
         &mut self,
@@ -147,7 +146,8 @@ impl Emitter {
                 Placement::AsUnique => {
                     self.lower_object(starts, initial, Operand::Word { word: UNIQUE }, slot, free)
                 }
-                // The handle stays in the first free slot while the values of the object are evaluated.
+                // The region handle stays in the first free slot while the values of the object are
+                // evaluated.
                 Placement::ByHandle { handle } => {
                     self.lower_expression(starts, handle, free, free)?;
                     let following = slot_after(free, Kind::Handle)?;
@@ -185,8 +185,8 @@ impl Emitter {
         }
     }
 
-    /// Emits the code that finds a place that a pointer leads to, with its test. Returns the operand of the address, without the bytes to
-    /// add.
+    /// Emits the code that computes and checks the address to which a pointer refers. Returns the operand of the address, without the
+    /// bytes to add.
     #[cycle(expression)]
     fn locate(
         &mut self,
@@ -204,7 +204,7 @@ impl Emitter {
         address
     }
 
-    /// Emits an expression whose place in the text is already set, and moves its value to a slot.
+    /// Emits an expression whose source position is already set, and moves its value to a slot.
     #[cycle(expression)]
     fn lower_access(
         &mut self,
@@ -245,7 +245,8 @@ impl Emitter {
         }
     }
 
-    /// Emits a fat pointer before its index: it stays in its local if the index is simple, or is moved to slots.
+    /// Emits a fat pointer before its index. The pointer stays in its local if the index is simple, otherwise it
+    /// is moved to slots.
     #[cycle(expression)]
     fn lower_pointer(
         &mut self,
@@ -266,7 +267,7 @@ impl Emitter {
         Ok(free)
     }
 
-    /// Emits the move of the address of a place to a slot.
+    /// Emits the move of the address of a dereferenced object to a slot.
     #[cycle(expression)]
     pub(crate) fn take_address(
         &mut self,
@@ -285,7 +286,8 @@ impl Emitter {
         self.bring_address(address, place_offset(starts, place), slot)
     }
 
-    /// Emits the store of a value in the cell whose address is in `free`. Returns the operand of the value.
+    /// Emits the store of a value in the cell whose address is in the slot `free`. Returns the operand of
+    /// the value.
     #[cycle(expression)]
     fn store(
         &mut self,
@@ -303,7 +305,7 @@ impl Emitter {
         Ok(source)
     }
 
-    /// Emits a new object in the region of a handle. The initial values of the object are moved to slots, the object is allocated and
+    /// Emits the creation of an object in the region of a handle. The initial values are moved to slots, the object is allocated and
     /// filled, and its address is moved to a slot.
     #[cycle(expression)]
     fn lower_object(
@@ -341,8 +343,8 @@ impl Emitter {
         }
     }
 
-    /// Emits the loop that fills an array. The pointer is in the first free slots, with the counter as its index, and is moved to a slot at
-    /// the end.
+    /// Emits the loop that fills a new array. The pointer is in the first free slots, with the counter as its index, and is moved to a slot
+    /// at the end.
     #[cycle(expression)]
     fn lower_elements(
         &mut self,
@@ -375,7 +377,7 @@ impl Emitter {
         self.end_array(slot, following - 1, free)
     }
 
-    /// Emits an expression as an operand: it has no code, or its code moves the value to a slot.
+    /// Emits an expression as an operand. If it needs code, the code moves its value to a slot.
     #[cycle(expression)]
     pub(crate) fn lower_operand(
         &mut self,
@@ -397,7 +399,8 @@ impl Emitter {
         }
     }
 
-    /// Emits a value before its conversion, and moves it to a slot; for an int that becomes a char it moves only the low byte.
+    /// Emits a value before its conversion, and moves it to a slot. For an int that becomes a char, only the low byte is
+    /// moved.
     #[cycle(expression)]
     pub(crate) fn bring(
         &mut self,
@@ -416,7 +419,8 @@ impl Emitter {
         self.lower_expression(starts, &value.value, slot, free)
     }
 
-    /// Emits a value before its conversion: in its place, or in a temporary if its words change.
+    /// Emits a value before its conversion: in its final slot, or in a temporary if the conversion
+    /// changes its words.
     #[cycle(expression)]
     fn lower_source(
         &mut self,
@@ -435,7 +439,7 @@ impl Emitter {
         Ok(Operand::Slot { number: free })
     }
 
-    /// Emits a value and its conversion in place.
+    /// Emits the code of a value, and its conversion in place.
     #[cycle(expression)]
     pub(crate) fn lower_converted(
         &mut self,
@@ -452,7 +456,7 @@ impl Emitter {
         Ok(operand)
     }
 
-    /// Emits a converted value and moves it to a slot, after everything that may raise an exception.
+    /// Emits a converted value, and moves it to a slot after all code that may raise an exception.
     #[cycle(expression)]
     pub(crate) fn lower_initial(
         &mut self,
@@ -471,7 +475,7 @@ impl Emitter {
         self.emit(move_of(words_of_kind(value.to), slot, source))
     }
 
-    /// Emits an assignment. Returns the operand that holds the assigned value.
+    /// Emits an assignment. Returns the operand that contains the assigned value.
     #[cycle(expression)]
     fn lower_assignment(
         &mut self,
@@ -498,7 +502,7 @@ impl Emitter {
         }
     }
 
-    /// Emits the left operand of a chain, which may have no code if the right one is simple.
+    /// Emits the left operand of a chain, which may need no code if the right operand is simple.
     #[cycle(expression)]
     fn lower_left(
         &mut self,
@@ -553,7 +557,8 @@ impl Emitter {
         }
     }
 
-    /// Emits a value that must be in a slot: in that of a local if no words change, or in `free`.
+    /// Emits a value that must be in a slot: in the slot of its local if the conversion changes no
+    /// words, otherwise in `free`.
     pub(crate) fn lower_to_slot(
         &mut self,
         starts: &Starts,

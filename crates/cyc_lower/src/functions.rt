@@ -1,4 +1,4 @@
-//! The plain functions of a typed tree, and the whole plain program.
+//! Lowers the functions of a typed tree and the whole program to a plain program.
 ghost use Rattle.std.specs.Prelude.{◌≡◌, ◌+◌, ◌≤◌, length, map, option_map, IfOk};
 ghost use Rattle.std.specs.List.{list_any};
 ghost use Rattle.cyc_syntax.specs.TokenRule.{max_tokens};
@@ -28,22 +28,22 @@ use cyc_types::typed::{self, StructType};
 use cyc_types::{Ty, TypedTree};
 use std::alloc::{AllocError, Global};
 
-/// The number of words of the largest value.
+/// The number of words of the largest value: a fat pointer has three.
 const SPARE_SLOTS: usize = 3;
 
-/// The number of slots for tags, after the locals.
+/// The number of slots after the locals that hold the tags of exceptions.
 const TAG_SLOTS: usize = 1;
 
-/// The words of a frame besides those of locals, of kept values and of temporaries.
+/// The words of a frame other than those of locals, of kept values and of temporaries.
 const KEPT_WORDS: usize = 24;
 
-/// A place beyond the end of any code and of the blocks after it.
+/// A position beyond the end of any function's code and of the blocks after it.
 const FAR: usize = 9_223_372_036_854_775_816;
 
-/// The number of instructions of the blocks that raise exceptions.
+/// The number of instructions of a function's blocks that raise exceptions.
 const BLOCKS: usize = 6;
 
-/// Returns the number of words that a function returns.
+/// Returns the number of result words of a function.
 fn results_of(of_type: &Option<Ty>) -> usize
     ensures { result ≡ results_of (option_map view_ty of_type.now) }
 {
@@ -53,14 +53,16 @@ fn results_of(of_type: &Option<Ty>) -> usize
     }
 }
 
-/// Returns how many instructions of the blocks are kept, given the farthest target: the first two belong to one block.
+/// Returns the number of instructions of the exception blocks that are kept, computed from the farthest jump target.
+/// The first two instructions belong to one block.
 fn blocks_kept(farthest: usize) -> usize
     ensures { result ≡ blocks_kept farthest }
 {
     if farthest == 1 { 2 } else { farthest }
 }
 
-/// Emits the code of the body of a function, with temporaries from a slot on, and its marks if requested.
+/// Emits the code of a function's body, whose temporaries begin at this slot. Records source positions if
+/// requested.
 fn lower_body(
     alloc: Global,
     starts: &Starts,
@@ -82,10 +84,9 @@ fn lower_body(
     Ok(emitter)
 }
 
-/// Lowers a function.
-/// The slots of a function are the locals, the slot for tags, the handler records, the temporaries and one value more. The body is emitted
-/// with far targets for the blocks, whose places are known only afterwards. The far targets in the emitted body are replaced afterwards.
-/// The blocks are kept up to the last one that a jump leads to.
+/// Lowers a function. The slots of a function are those of the locals, the tags, the handler records, the temporaries and one more value.
+/// The body is emitted with far targets for the exception blocks, whose positions are known only afterwards. The far targets in the
+/// emitted body are then replaced. The exception blocks are kept up to the last one that is a jump target.
 fn lower_function(
     alloc: Global,
     structs: &[StructType],
@@ -146,7 +147,8 @@ fn lower_functions(
     Ok(lowered)
 }
 
-/// Returns true if a function has a local that is a handle, as each region that it opens needs one.
+/// Returns true if one of a function's locals is a region handle. Each lexical region that a
+/// function opens has one.
 fn has_handles(types: &[Ty]) -> bool
     ensures { result ≡ list_any is_handle (map view_ty types.now) }
 {
@@ -170,8 +172,8 @@ fn may_open(functions: &[typed::Function]) -> bool
     false
 }
 
-/// Returns the offset in a handler record at which a `try` keeps the number of open lexical regions, if one of these functions may open
-/// regions.
+/// Returns the offset in a handler record at which a `try` keeps the number of open lexical regions, or `None` if none of these
+/// functions may open regions.
 fn scopes_of(functions: &[typed::Function]) -> Option<usize>
     ensures { result ≡ scopes_if (list_any may_open (map view_function functions.now)) }
 {
@@ -182,7 +184,7 @@ fn scopes_of(functions: &[typed::Function]) -> Option<usize>
     }
 }
 
-/// Returns the plain program, in which each function keeps its number.
+/// Returns the plain program of a typed tree, in which each function keeps its number.
 pub(crate) fn lower_tree(alloc: Global, tree: &TypedTree) -> Result<Plain, AllocError>
     requires few { HaveFewWords (map view_function tree.now.functions.items) }
     requires well_typed { IsWellTypedProgram (view_program tree.now) }
@@ -197,7 +199,8 @@ pub(crate) fn lower_tree(alloc: Global, tree: &TypedTree) -> Result<Plain, Alloc
     Ok(Plain::new(functions, globals, tree.main))
 }
 
-/// Returns the places of the text for the code of a function. The blocks may be at any place, since changing targets changes no mark.
+/// Returns the source positions of a function's code. The exception blocks may be at any position, since changing targets changes no
+/// source position.
 fn marks_of_function(
     alloc: Global,
     structs: &[StructType],
@@ -227,7 +230,7 @@ fn marks_of_function(
     })
 }
 
-/// Returns the places of the text for the code of each function of a program.
+/// Returns the source positions of the code of each function of a program.
 pub(crate) fn marks_of_tree(alloc: Global, tree: &TypedTree) -> Result<Vec<Marks>, AllocError>
     requires few { HaveFewWords (map view_function tree.now.functions.items) }
     requires can_be { CanBeLowered (view_program tree.now) }

@@ -1,4 +1,5 @@
-//! Globals: each has as many words as its type, one after the other, in the order of their numbers.
+//! Lowers globals. Each global has as many words as its type, and they follow each other in the
+//! order of their numbers.
 ghost use Rattle.std.specs.Prelude.{◌≡◌, ◌≤◌, ◌++◌, map, IfOk};
 ghost use Rattle.cyc_types.specs.TypedTreeView.{view_constant, view_global};
 ghost use Rattle.cyc_meaning.specs.FrameCount.{words_of_all};
@@ -16,7 +17,7 @@ use cyc_sizes::words_of;
 use cyc_types::typed::{self, Constant};
 use std::alloc::{AllocError, Global};
 
-/// Returns the first word of the global with this number.
+/// Returns the number of the first word of the global with this number.
 pub(crate) fn global_of(starts: &Starts, number: usize) -> usize
     ensures { result ≡ global_of (view_starts starts.now) number }
 {
@@ -26,7 +27,7 @@ pub(crate) fn global_of(starts: &Starts, number: usize) -> usize
     }
 }
 
-/// Returns the first words of all globals.
+/// Returns the numbers of the first words of all globals.
 pub(crate) fn starts_of_globals(
     alloc: Global,
     globals: &[typed::Global],
@@ -53,7 +54,7 @@ fn initial_word(value: Constant) -> u32
     }
 }
 
-/// Adds the initial words of a global: a number or null, followed by zeros.
+/// Appends the initial words of a global: a number or null, followed by zeros.
 fn add_global(words: &mut Vec<u32>, global: &typed::Global) -> Result<(), AllocError>
     ensures { IfOk result (λ _. words.new.items ≡ words.old.items ++ lower_global (view_global global.now)) }
 {
@@ -81,7 +82,7 @@ pub(crate) fn words_of_globals(
 }
 
 impl Emitter {
-    /// Emits the load of words of globals into slots. No value has more words, and no frame more slots, than a word can count.
+    /// Emits the load of words of a global into slots. The numbers of words and slots fit a machine word.
     pub(crate) fn load_global(
         &mut self,
         words: usize,
@@ -102,7 +103,7 @@ impl Emitter {
         Ok(())
     }
 
-    /// Emits the store of words, which are in consecutive slots, in globals.
+    /// Emits the store of words in consecutive slots to the words of a global.
     fn save_words(&mut self, words: usize, first: usize, slot: usize) -> Result<(), AllocError>
         ensures { Appends result self.old self.new (word_by_word store_word words first slot) }
     {
@@ -120,7 +121,7 @@ impl Emitter {
         Ok(())
     }
 
-    /// Emits the store of a value in a global. A number has one word, since no value with more words is an operand without slots.
+    /// Emits the store of a value in a global. A constant has one word, since every value with more words is in slots.
     pub(crate) fn store_global(
         &mut self,
         words: usize,

@@ -1,4 +1,5 @@
-//! The code of exceptions: throws, and the clauses of a `try`. Each method of this file adds code after the existing code.
+//! Emits the code of exceptions: throws, and the clauses of a `try`. Each method of this file appends code to the existing
+//! code.
 ghost use Rattle.std.specs.Prelude.{◌≡◌, ◌+◌, ◌≤◌, ◌<◌, [], ◌∷◌, ◌++◌, length, set, option_map, IfOk, OnOk};
 ghost use Rattle.cyc_types.specs.TypedTrees.{NoClauses};
 ghost use Rattle.cyc_types.specs.TypedTreeView.{view_expression, items_of, clauses_of, default_of};
@@ -17,7 +18,7 @@ use cyc_types::typed::{Body, Clause, Expr};
 use std::alloc::AllocError;
 
 impl Emitter {
-    /// Emits the throw of an exception with its value, which is 0 if it has no int.
+    /// Emits the throw of an exception with its value, or with 0 if the exception has no int.
     pub(crate) fn lower_throw(
         &mut self,
         starts: &Starts,
@@ -58,7 +59,7 @@ impl Emitter {
         })
     }
 
-    /// Emits a clause. The jump at its end leads to the jump over all clauses.
+    /// Emits a catch clause. The jump at its end goes to the jump over all clauses.
     #[cycle(statement)]
     fn lower_clause(
         &mut self,
@@ -82,7 +83,7 @@ impl Emitter {
         Ok(())
     }
 
-    /// Emits the clauses of a `try` before its default.
+    /// Emits the clauses of a `try` that precede its default clause.
     #[cycle(statement)]
     pub(crate) fn lower_clauses(
         &mut self,
@@ -102,7 +103,8 @@ impl Emitter {
         Ok(())
     }
 
-    /// Emits the default of a `try`. Without a default, an exception that no clause catches is thrown again.
+    /// Emits the default clause of a `try`. Without a default clause, an exception that no clause catches is
+    /// thrown again.
     #[cycle(statement)]
     pub(crate) fn lower_default(
         &mut self,
@@ -122,7 +124,7 @@ impl Emitter {
     }
 
     /// Emits the end of the body of a `try`: it closes the handler and jumps over the clauses. Puts the instruction that opens the handler
-    /// at the reserved place.
+    /// at the reserved position.
     pub(crate) fn end_body(&mut self, opening: usize, free: usize) -> Result<usize, AllocError>
         requires { opening < length self.old.code.items }
         ensures { IfOk result (λ out. (out ≡ length self.old.code.items + 1)

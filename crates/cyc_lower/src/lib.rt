@@ -1,4 +1,4 @@
-//! The lowering of a typed tree to a plain program.
+//! Lowers a typed tree to a plain program (three-address code).
 #![tactic(auto)]
 
 pub use limits::MOST_FUNCTIONS;

@@ -1,4 +1,4 @@
-//! The limits on the size of a program.
+//! Limits the size of a program that is lowered.
 
-/// The greatest number of functions of a program.
+/// The greatest number of functions that a program may have.
 pub const MOST_FUNCTIONS: usize = 4096;

@@ -1,4 +1,4 @@
-//! The slots of the locals of a function, by their types.
+//! Computes the slots of the locals of a function from their types.
 ghost use Rattle.std.specs.Prelude.{◌≡◌, ◌+◌, ◌≤◌, ◌++◌, [], ◌∷◌, map, IfOk};
 ghost use Rattle.cyc_types.specs.Types.{words_of};
 ghost use Rattle.cyc_types.specs.TypeView.{view_ty};
@@ -28,7 +28,7 @@ pub(crate) fn slot_of(starts: &Starts, number: usize) -> usize
     }
 }
 
-/// Returns the slot of the counter at this level.
+/// Returns the slot of the element counter of the enclosing array at this level.
 pub(crate) fn counter_of(starts: &Starts, level: usize) -> usize
     ensures { result ≡ counter_of (view_starts starts.now) level }
 {
@@ -48,7 +48,7 @@ pub(crate) fn with_counter(starts: &Starts, slot: usize) -> Result<Vec<usize>, A
     Ok(counters)
 }
 
-/// Returns the offset of a cell of a kind that comes after this number of bytes. A char begins at once, any other cell at the next multiple
+/// Returns the offset of a cell of a kind that comes after this number of bytes. A char begins there, any other cell at the next multiple
 /// of 4.
 pub(crate) fn begins_word(kind: Kind, at: u32) -> u32
     ensures { result ≡ begins_word kind at }
@@ -60,14 +60,14 @@ pub(crate) fn begins_word(kind: Kind, at: u32) -> u32
     }
 }
 
-/// Returns the offset of a cell of a type that comes after this number of bytes.
+/// Returns the offset of a cell of this type that comes after a number of bytes.
 fn begins_at(of_type: &Ty, at: u32) -> u32
     ensures { result ≡ begins_word (kind_of (view_ty of_type.now)) at }
 {
     begins_word(kind_of(of_type), at)
 }
 
-/// Returns the end of a cell of a type that begins at this offset.
+/// Returns the end offset of a cell of this type that begins at an offset.
 fn ends_at(of_type: &Ty, begin: u32) -> u32
     ensures { result ≡ add_of begin (bytes_of_kind (kind_of (view_ty of_type.now))) }
 {
@@ -101,8 +101,7 @@ pub(crate) fn field_of(starts: &Starts, number: usize, field: usize) -> u32
     }
 }
 
-/// Adds the first slots of parameters or other locals, each with as many slots as its type has words. Returns the slot after all added
-/// locals.
+/// Appends the first slots of parameters or other locals, each with as many slots as its type has words. Returns the slot after them.
 fn add_locals(starts: &mut Vec<usize>, first: usize, types: &[Ty]) -> Result<usize, AllocError>
     requires { first + words_of_all (map view_ty types.now) ≤ most_frame_count }
     ensures { IfOk result (λ following. (following ≡ first + words_of_all (map view_ty types.now))
@@ -116,7 +115,8 @@ fn add_locals(starts: &mut Vec<usize>, first: usize, types: &[Ty]) -> Result<usi
     Ok(slot)
 }
 
-/// Returns the first slots of the locals of a function, the slot after them, and the first slot for temporaries.
+/// Returns the first slots of the locals of a function, the slot after the locals, and the first slot for
+/// temporaries.
 pub(crate) fn slots_of_locals(
     alloc: Global,
     function: &Function,

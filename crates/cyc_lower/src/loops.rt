@@ -1,4 +1,5 @@
-//! The code of loops. A light condition is also emitted before its loop, so that no jump leads from afar to the condition after the body.
+//! Emits the code of loops. A light condition (simple enough to be emitted twice) is also emitted before its loop, so that no jump from
+//! before the loop goes to the condition after the body.
 ghost use Rattle.std.specs.Prelude.{◌≡◌, ◌≤◌, ◌<◌, ◌+◌, length};
 ghost use Rattle.cyc_types.specs.TypedTreeView.{view_expression, view_statement};
 ghost use Rattle.cyc_meaning.specs.FrameCount.{kept_by};
@@ -16,7 +17,7 @@ use cyc_plain::Instruction;
 use cyc_types::typed::{Expr, LogicalOperator, Stmt};
 use std::alloc::AllocError;
 
-/// Returns true if a loop has a light condition and no `break`.
+/// Returns true if a loop has a light condition (simple enough to be emitted twice) and no `break`.
 pub(crate) fn goes_through(starts: &Starts, condition: &Expr, body: &Stmt) -> bool
     ensures { result ≡ goes_through (view_starts starts.now) (view_expression condition.now) (view_statement body.now) }
 {
@@ -24,8 +25,8 @@ pub(crate) fn goes_through(starts: &Starts, condition: &Expr, body: &Stmt) -> bo
 }
 
 impl Emitter {
-    /// Emits the entry into a loop: its condition, and a jump over the next instruction if it holds. For a condition that may have much
-    /// code, the entry is a jump whose target is not yet known.
+    /// Emits the entry of a loop: its condition, and a jump over the next instruction if the condition holds. If the condition may have
+    /// much code, the entry is a jump whose target is not yet known.
     fn begin_loop(
         &mut self,
         starts: &Starts,
@@ -43,7 +44,8 @@ impl Emitter {
         self.emit(holding_jump(condition, body))
     }
 
-    /// Sets the target of the entry of the loop that begins at this place: its condition is the next instruction.
+    /// Sets the target of the entry of the loop that begins at position `head`: the loop's condition begins at
+    /// the next instruction.
     fn enter_loop(&mut self, starts: &Starts, condition: &Expr, head: usize)
         requires { head < length self.old.code.items }
         ensures { self.new.code.items ≡ entered_loop (view_starts starts.now) (view_expression condition.now) self.old.code.items head }
@@ -53,7 +55,8 @@ impl Emitter {
         }
     }
 
-    /// Emits a loop with a light condition and no `break`: the first copy of its condition leads to its end if it fails.
+    /// Emits a loop with a light condition and no `break`. If the first copy of the condition fails, it jumps to the end
+    /// of the loop.
     #[cycle(statement)]
     pub(crate) fn lower_through(
         &mut self,
@@ -85,8 +88,8 @@ impl Emitter {
         self.emit(Instruction::Jump { target: end })
     }
 
-    /// Emits a loop that has none of the special forms in this file. The jump to its end is before its body, so its place is known before
-    /// the body is emitted.
+    /// Emits a loop that has none of the special forms in this file. The jump to the loop's end is before its body, so the position of
+    /// this jump is known before the body is emitted.
     #[cycle(statement)]
     pub(crate) fn lower_loop(
         &mut self,

@@ -1,4 +1,4 @@
-//! The parts of the text that the instructions are emitted for.
+//! The source positions for which instructions are emitted.
 ghost use Rattle.std.specs.Prelude.{◌≡◌, ◌≤◌, length, IfOk};
 ghost use Rattle.cyc_syntax.specs.TokenRule.{max_tokens};
 ghost use Rattle.cyc_types.specs.typing.WellTyped.{IsWellTypedProgram};
@@ -12,26 +12,26 @@ use cyc_types::typed::{Dereference, Expr, Item, Lvalue, Operation, Stmt};
 use cyc_words::Span;
 use std::alloc::{AllocError, Global};
 
-/// The part of the text for the instructions of a function from this one up to the next mark. This part of the text is a call, a `new`, an
-/// access through a pointer, an operator or a variable at exactly this place. If no such expression is at this place, the part is the
-/// enclosing statement or declaration. The code for a body that runs off its end has the place of the name of the function.
+/// The source position of the instructions of a function from number `first` up to the next `Mark`. At this source position is a call, a
+/// `new`, an access through a pointer, an operator or a variable, or else the enclosing statement or declaration. If the code of a
+/// function body runs off its end, its source position is that of the function's name.
 #[derive(Clone, Copy, Debug, PartialEq, Eq)]
 pub struct Mark {
-    /// The number of the first instruction.
+    /// The number of the first instruction with this source position.
     pub first: usize,
     pub span: Span,
 }
 
-/// The places of the text for the code of a function.
+/// The source positions of the code of a function.
 #[derive(Drop)]
 pub struct Marks {
     pub marks: Vec<Mark>,
     /// The number of the first instruction of the blocks that raise exceptions for all failing checks of the function. The instructions of
-    /// these blocks have no place of their own in the text.
+    /// these blocks have no source position of their own.
     pub raises: usize,
 }
 
-/// Returns the places of the text for the code of each function of the program that `lower` returns.
+/// Returns the source positions of the code of each function of the program that `lower` returns.
 pub fn marks_of(alloc: Global, program: &Flowed) -> Result<Vec<Marks>, AllocError>
     requires well_typed { IsWellTypedProgram (view_program program.now.tree) }
     requires small { program_weight (view_program program.now.tree) ≤ max_tokens }
@@ -41,7 +41,7 @@ pub fn marks_of(alloc: Global, program: &Flowed) -> Result<Vec<Marks>, AllocErro
     marks_of_tree(alloc, &program.tree)
 }
 
-/// Returns the place of a variable, if its node has one.
+/// Returns the source position of a variable, if its node has one.
 fn place_of_variable(variable: Lvalue) -> Option<Span> {
     match variable {
         Lvalue::Local { span, .. } => Some(span),
@@ -49,7 +49,7 @@ fn place_of_variable(variable: Lvalue) -> Option<Span> {
     }
 }
 
-/// Returns the place of an access through a pointer.
+/// Returns the source position of an access through a pointer.
 pub(crate) fn place_of_access(access: &Dereference) -> Span {
     match access {
         Dereference::Target { span, .. }
@@ -58,7 +58,7 @@ pub(crate) fn place_of_access(access: &Dereference) -> Span {
     }
 }
 
-/// Returns the place of an expression, if its node has one.
+/// Returns the source position of an expression, if its node has one.
 pub(crate) fn place_of_value(value: &Expr) -> Option<Span> {
     match value {
         Expr::Call { span, .. }
@@ -74,7 +74,8 @@ pub(crate) fn place_of_value(value: &Expr) -> Option<Span> {
     }
 }
 
-/// Returns the place of an operator that computes; of two ints, the place of the right operand.
+/// Returns the source position of an operator that computes. For an operator on two ints, it is
+/// that of the right operand.
 pub(crate) fn place_of_operation(operation: &Operation) -> Option<Span> {
     match operation {
         Operation::Compute { span, .. } => Some(*span),
@@ -82,7 +83,7 @@ pub(crate) fn place_of_operation(operation: &Operation) -> Option<Span> {
     }
 }
 
-/// Returns the place of a statement, if its node has one.
+/// Returns the source position of a statement, if its node has one.
 pub(crate) fn place_of_statement(statement: &Stmt) -> Option<Span> {
     match statement {
         Stmt::Evaluate { span, .. }
@@ -96,7 +97,7 @@ pub(crate) fn place_of_statement(statement: &Stmt) -> Option<Span> {
     }
 }
 
-/// Returns the place of the declaration in an item.
+/// Returns the source position of the declaration in an item of a block.
 pub(crate) fn place_of_item(item: &Item) -> Option<Span> {
     match item {
         Item::Execute { .. } => None,

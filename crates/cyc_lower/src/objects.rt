@@ -1,4 +1,5 @@
-//! The code that allocates and frees objects, once their values are in slots. No object has more words than a block of the store.
+//! Emits the code that allocates and frees objects, once their values are in slots. No object has more words than a block of the
+//! store.
 ghost use Rattle.std.specs.Prelude.{◌≡◌, [], ◌∷◌, ◌+◌, ◌^◌, ◌<◌, ◌≤◌, length, IfOk};
 ghost use Rattle.cyc_types.specs.TypedTreeView.{arguments_of};
 ghost use Rattle.cyc_meaning.specs.Values.{words_of_kind, bytes_from};
@@ -20,7 +21,7 @@ use cyc_store::MOST_BLOCK_WORDS;
 use cyc_types::typed::{Converted, Kind};
 use std::alloc::{AllocError, Global};
 
-/// Returns the condition that fails if an index is equal to the length of an array.
+/// Returns the condition that fails if an index equals the length of an array.
 pub(crate) fn last_element(words: usize, index: usize) -> Condition
     ensures { result ≡ last_element words index }
 {
@@ -31,7 +32,8 @@ pub(crate) fn last_element(words: usize, index: usize) -> Condition
     }
 }
 
-/// Returns the greatest number of elements of an array, each with this number of bytes: as many as a block has room for.
+/// Returns the most elements that an array may have if each has this number of bytes: as many as fit in a block of the
+/// store.
 fn most_elements(bytes: usize) -> u32
     ensures most { result ≡ most_elements bytes }
     ensures few { result ≤ 4000 }
@@ -46,7 +48,7 @@ fn most_elements(bytes: usize) -> u32
     }
 }
 
-/// Returns the kinds with which fields are passed.
+/// Returns the kinds of the values that are passed for fields.
 pub(crate) fn kinds_passed(alloc: Global, values: &[Converted]) -> Result<Vec<Kind>, AllocError>
     ensures { IfOk result (λ kinds. kinds.items ≡ kinds_passed (arguments_of values.now)) }
 {
@@ -57,7 +59,8 @@ pub(crate) fn kinds_passed(alloc: Global, values: &[Converted]) -> Result<Vec<Ki
     Ok(kinds)
 }
 
-/// Returns the number of bytes of an object with cells of these kinds, up to the end of the last one.
+/// Returns the number of bytes of an object with cells of these kinds, up to the end of the last
+/// cell.
 fn bytes_of_kinds(kinds: &[Kind]) -> u32
     requires { bytes_from 0 kinds.now ≤ 4000 }
     ensures { result ≡ bytes_from 0 kinds.now }
@@ -70,7 +73,8 @@ fn bytes_of_kinds(kinds: &[Kind]) -> u32
 }
 
 impl Emitter {
-    /// Emits the allocation of an object with one cell, for a value of this kind in the slots from `free` on.
+    /// Emits the allocation of an object with one cell, which receives a value of this kind from the slots
+    /// from `free` on.
     pub(crate) fn make_cell(
         &mut self,
         handle: Operand,
@@ -84,9 +88,8 @@ impl Emitter {
         self.make_object(handle, &[kind], words_of_kind(kind), slot, free)
     }
 
-    /// Emits the allocation of a block in the region of a handle, with a cell for each of these kinds.
-    /// The block gets the values, which are in the slots from `free` on, and its address is moved to a slot. No object has more words than
-    /// a block.
+    /// Emits the allocation of a block in the region of a handle, with a cell for each of these kinds. The cells receive the values in the
+    /// slots from `free` on, and the block's address is moved to a slot. No object has more words than a block.
     pub(crate) fn make_object(
         &mut self,
         handle: Operand,
@@ -166,8 +169,8 @@ impl Emitter {
         Ok(())
     }
 
-    /// Emits the move of the length of an array, in `free`, to one slot, and of the index 0 to another. A length that is too large for
-    /// elements of this kind raises an exception.
+    /// Emits the move of the length of an array, in the slot `free`, to one slot, and of the index 0 to another. If the length is too
+    /// large for elements of this kind, the emitted code raises an exception.
     fn measure_array(
         &mut self,
         starts: &Starts,
@@ -201,7 +204,8 @@ impl Emitter {
         self.emit_both(counted, begun)
     }
 
-    /// Emits the computation of the number of words of an array from its number of elements in the slot `free`. Four chars share a word.
+    /// Emits the computation of the number of words of an array from its number of elements in the slot `free`. Four chars share one
+    /// word.
     fn size_array(&mut self, kind: Kind, free: usize) -> Result<(), AllocError>
         ensures { Appends result self.old self.new (sized_code kind free) }
     {
@@ -234,8 +238,8 @@ impl Emitter {
         }
     }
 
-    /// Emits the allocation of a block for as many elements as the slot `free` holds, or for one if it is 0. The address of the block
-    /// replaces the number of elements in the slot.
+    /// Emits the allocation of a block for as many words as the slot `free` contains, or for one if it contains 0. The block's
+    /// address replaces this number in the slot.
     fn ask_for_array(
         &mut self,
         handle: Operand,
@@ -269,8 +273,8 @@ impl Emitter {
         self.emit_three(is_none, sum, ask)
     }
 
-    /// Emits the beginning of a new array of elements of this kind, with its length in `free`. The address is moved to `free`, and the
-    /// length and the index to the slots after it.
+    /// Emits the beginning of a new array of elements of this kind, with its length in the slot `free`. The address is moved to
+    /// `free`, and the length and the index to the slots after it.
     pub(crate) fn begin_array(
         &mut self,
         starts: &Starts,
@@ -285,8 +289,8 @@ impl Emitter {
         self.ask_for_array(handle, kind, following, free)
     }
 
-    /// Emits the store of an element in its cell of an array, and the step of the index to the next one. The address of the cell is in the
-    /// slot after the element.
+    /// Emits the store of an element in its cell of an array, and the increment of the index. The address of the cell is in the slot after
+    /// the element.
     pub(crate) fn write_element(
         &mut self,
         kind: Kind,
@@ -317,7 +321,8 @@ impl Emitter {
         self.emit_both(next, Instruction::Jump { target: head })
     }
 
-    /// Emits the end of an array: the index becomes 0, and the pointer is moved to its slot.
+    /// Emits the end of the loop that fills an array: the index becomes 0, and the pointer is moved
+    /// to its slot.
     pub(crate) fn end_array(
         &mut self,
         slot: usize,
@@ -333,7 +338,8 @@ impl Emitter {
         self.copy(Kind::Fat, Operand::Slot { number: free }, slot)
     }
 
-    /// Emits the freeing of the unique block at an address, unless it is 0.
+    /// Emits the freeing of the block at an address, to which the program has a unique pointer,
+    /// unless the address is 0.
     pub(crate) fn free_block(&mut self, address: Operand) -> Result<(), AllocError>
         ensures { Appends result self.old self.new (free_code address (length self.old.code.items)) }
     {

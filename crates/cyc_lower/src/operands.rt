@@ -1,4 +1,4 @@
-//! The places of the values of expressions.
+//! Decides where the values of expressions are: constants, slots of locals, or temporaries.
 ghost use Rattle.std.specs.Prelude.{◌≡◌, ◌+◌, ◌≤◌, IfOk, option_map, unwrap_or};
 ghost use Rattle.cyc_types.specs.TypedTreeView.{view_dereference, view_expression, operations_of};
 ghost use Rattle.cyc_types.specs.Types.{Value};
@@ -25,11 +25,11 @@ use cyc_types::typed::{
 };
 use std::alloc::AllocError;
 
-/// The greatest slot number that the lowering accepts.
+/// The greatest slot number that the lowering of a function accepts.
 pub(crate) const MOST_SLOTS: usize = 4_294_967_000;
 
-/// Returns the operand of an expression without code: a number, null, the handle of the heap, a local, or a counter. A char that is used as
-/// an int keeps its operand.
+/// Returns the operand of an expression that needs no code: a number, null, the handle of the heap, a local, or a counter. A char that is
+/// used as an int keeps its operand.
 pub(crate) fn operand_of(starts: &Starts, value: &Expr) -> Option<Operand>
     ensures { result ≡ operand_of (view_starts starts.now) (view_expression value.now) }
 {
@@ -58,7 +58,8 @@ pub(crate) fn operand_of(starts: &Starts, value: &Expr) -> Option<Operand>
     }
 }
 
-/// Returns the slot for the value of an expression that is an operand: the slot of an assigned local, or `free`.
+/// Returns the slot for the value of an expression: the slot of the assigned local if the expression is an
+/// assignment, otherwise `free`.
 pub(crate) fn value_slot(starts: &Starts, value: &Expr, free: usize) -> usize
     ensures { result ≡ value_slot (view_starts starts.now) (view_expression value.now) free }
 {
@@ -75,7 +76,7 @@ pub(crate) fn value_slot(starts: &Starts, value: &Expr, free: usize) -> usize
     }
 }
 
-/// Returns true if all operators have operands without code.
+/// Returns true if the right operands of all these operators need no code.
 fn are_simple(starts: &Starts, operations: &[Operation]) -> bool
     ensures { result ≡ are_simple (view_starts starts.now) (operations_of operations.now) }
 {
@@ -91,7 +92,7 @@ fn are_simple(starts: &Starts, operations: &[Operation]) -> bool
     true
 }
 
-/// Returns true if a chain of these operators is simple after a simple operand.
+/// Returns true if a chain of these operators is simple, provided that its first operand is.
 fn is_simple_chain(starts: &Starts, rest: &[Operation]) -> bool
     ensures { result ≡ is_simple_chain (view_starts starts.now) (operations_of rest.now) }
 {
@@ -101,8 +102,8 @@ fn is_simple_chain(starts: &Starts, rest: &[Operation]) -> bool
     }
 }
 
-/// Returns true if an expression is simple: its evaluation changes nothing. A simple expression has no code, or consists of operators on
-/// operands without code, and the first operand of a chain may itself be simple.
+/// Returns true if an expression is simple: its evaluation has no side effect. A simple expression needs no code, or consists of
+/// operators on operands without code; the first operand of a chain may itself be simple.
 pub(crate) fn is_simple(starts: &Starts, value: &Expr) -> bool
     ensures { result ≡ is_simple (view_starts starts.now) (view_expression value.now) }
 {
@@ -114,7 +115,8 @@ pub(crate) fn is_simple(starts: &Starts, value: &Expr) -> bool
     }
 }
 
-/// Returns true if a place is light: an element at a simple index, through a pointer without code.
+/// Returns true if a memory access is light: it accesses an element at a simple index, through a
+/// pointer that needs no code.
 fn is_light_place(starts: &Starts, place: &Dereference) -> bool
     ensures { result ≡ is_light_place (view_starts starts.now) (view_dereference place.now) }
 {
@@ -125,7 +127,8 @@ fn is_light_place(starts: &Starts, place: &Dereference) -> bool
     }
 }
 
-/// Returns true if an expression is light: it is simple, or a load at a simple index through a pointer without code.
+/// Returns true if an expression is light: it is simple, or a load at a simple index through a pointer that needs no
+/// code.
 fn is_light(starts: &Starts, value: &Expr) -> bool
     ensures { result ≡ is_light (view_starts starts.now) (view_expression value.now) }
 {
@@ -146,7 +149,7 @@ fn is_light_comparison(starts: &Starts, operator: Operator, left: &Expr, right: 
     failing_comparison(operator).is_some() && is_light(starts, left) && is_light(starts, right)
 }
 
-/// Returns true if a chain is a comparison that a branch can make.
+/// Returns true if a chain is a comparison of light operands that a branch can perform.
 fn compares_light(starts: &Starts, first: &Expr, rest: &[Operation]) -> bool
     ensures { result ≡ compares_light (view_starts starts.now) (view_expression first.now) (operations_of rest.now) }
 {
@@ -165,7 +168,7 @@ fn compares_light(starts: &Starts, first: &Expr, rest: &[Operation]) -> bool
     }
 }
 
-/// Returns true if a condition is so light that it may be emitted twice.
+/// Returns true if a condition is light enough to be emitted twice.
 pub(crate) fn is_guard(starts: &Starts, condition: &Expr) -> bool
     ensures { result ≡ is_guard (view_starts starts.now) (view_expression condition.now) }
 {
@@ -180,8 +183,8 @@ pub(crate) fn is_guard(starts: &Starts, condition: &Expr) -> bool
     }
 }
 
-/// Returns the place of a fat pointer while its index is evaluated. The fat pointer's place is its local if the index is simple, since no
-/// code in between can assign the local.
+/// Returns the operand of a fat pointer while its index is evaluated. The pointer stays in its local if the index is simple, since then
+/// no code in between can assign the local.
 pub(crate) fn pointer_of(starts: &Starts, pointer: &Expr, index: &Expr) -> Option<Operand>
     ensures { result ≡ pointer_of (view_starts starts.now) (view_expression pointer.now) (view_expression index.now) }
 {
@@ -191,7 +194,8 @@ pub(crate) fn pointer_of(starts: &Starts, pointer: &Expr, index: &Expr) -> Optio
     None
 }
 
-/// Returns the operand of the address of the cell that an access through a fat pointer has found: for a struct, its first word.
+/// Returns the operand of the cell address that an access through a fat pointer has computed. For a struct, it is the first
+/// word of the pointer.
 pub(crate) fn reached_operand(span: Option<usize>, first: usize, slot: usize) -> Operand
     ensures { result ≡ reached_operand span first slot }
 {
@@ -239,7 +243,7 @@ pub(crate) fn converts_there(from: Kind, to: Kind) -> bool
     }
 }
 
-/// Returns true if a pointer of a kind is thin.
+/// Returns true if a pointer of this kind is thin (has one word).
 pub(crate) fn is_thin(kind: Kind) -> bool
     ensures { result ≡ is_thin kind }
 {
@@ -249,7 +253,7 @@ pub(crate) fn is_thin(kind: Kind) -> bool
     }
 }
 
-/// Returns the kind of a cell of this type. No cell has a struct type.
+/// Returns the kind of a cell (memory for one value) of this type. No cell has a struct type.
 pub(crate) fn kind_of(of_type: &Ty) -> Kind
     ensures { result ≡ kind_of (view_ty of_type.now) }
 {
@@ -266,7 +270,7 @@ pub(crate) fn kind_of(of_type: &Ty) -> Kind
     }
 }
 
-/// Returns the number of bytes of a cell.
+/// Returns the number of bytes of a cell of this kind.
 pub(crate) fn bytes_of_kind(kind: Kind) -> usize
     ensures bytes { result ≡ bytes_of_kind kind }
     ensures few { result ≤ 12 }
@@ -293,7 +297,8 @@ pub(crate) fn span_in(of_type: &Ty) -> Option<usize>
     }
 }
 
-/// Returns the number of bytes of the cells that a pointer of a type leads to, unless they are structs.
+/// Returns the number of bytes of the cells to which a pointer of this type refers, unless they are
+/// structs.
 fn span_after(of_type: &Ty) -> Option<usize>
     ensures { result ≡ option_map bytes_of_kind (target_of_value (Value (view_ty of_type.now))) }
 {
@@ -330,7 +335,7 @@ pub(crate) fn kind_after(of_type: &Ty) -> Kind
     }
 }
 
-/// Returns the kind of the value at a place that a pointer leads to.
+/// Returns the kind of the value to which a dereferenced pointer refers.
 pub(crate) fn kind_at(place: &Dereference) -> Kind
     ensures { result ≡ kind_of (type_of_place (view_dereference place.now)) }
 {
@@ -341,7 +346,8 @@ pub(crate) fn kind_at(place: &Dereference) -> Kind
     }
 }
 
-/// Returns the number of bytes before a variable in its words: a char is the last byte of its word.
+/// Returns the number of bytes that precede a variable in its words: a char is the last byte of its
+/// word.
 pub(crate) fn variable_bytes(kind: Kind) -> u32
     ensures { result ≡ variable_bytes kind }
 {
@@ -351,7 +357,8 @@ pub(crate) fn variable_bytes(kind: Kind) -> u32
     }
 }
 
-/// Returns the number of bytes of a cell at a place that a pointer leads to, unless it is a struct.
+/// Returns the number of bytes of the cell to which a dereferenced pointer refers, unless it is a
+/// struct.
 fn span_at(place: &Dereference) -> Option<usize>
     ensures { result ≡ option_map bytes_of_kind (target_of_value (Value (type_of_place (view_dereference place.now)))) }
 {
@@ -362,7 +369,7 @@ fn span_at(place: &Dereference) -> Option<usize>
     }
 }
 
-/// Returns the number of bytes of the cells that the pointer of an expression leads to, if it yields a pointer.
+/// Returns the number of bytes of the cells to which a value of this type refers, if it is a pointer.
 fn span_given(of_type: &ValueType) -> Option<usize>
     ensures { result ≡ option_map bytes_of_kind (target_of_value (view_value_type of_type.now)) }
 {
@@ -399,7 +406,7 @@ pub(crate) fn span_of(value: &Expr) -> Option<usize>
     }
 }
 
-/// Returns the slot after a value of a kind. No frame has more slots than a word can count.
+/// Returns the slot after a value of a kind. Slot numbers fit a machine word.
 pub(crate) fn slot_after(slot: usize, kind: Kind) -> Result<usize, AllocError>
     ensures { IfOk result (λ following. (following ≡ slot + words_of_kind kind) × (following ≤ most_locals)) }
 {
@@ -409,7 +416,7 @@ pub(crate) fn slot_after(slot: usize, kind: Kind) -> Result<usize, AllocError>
     Ok(slot + words_of_kind(kind))
 }
 
-/// Returns the operand of the third word of a fat pointer.
+/// Returns the operand of a fat pointer's third word, which is its index.
 pub(crate) fn index_of(pointer: Operand) -> Result<Operand, AllocError>
     ensures { IfOk result (λ index. index ≡ index_of pointer) }
 {
@@ -424,7 +431,7 @@ pub(crate) fn index_of(pointer: Operand) -> Result<Operand, AllocError>
     }
 }
 
-/// Returns true if the value in an operand is in this slot.
+/// Returns true if the operand is this slot.
 pub(crate) fn is_in(source: Operand, slot: usize) -> bool
     ensures { result ≡ is_in source slot }
 {

@@ -1,4 +1,4 @@
-//! The instructions of operators.
+//! Returns the instructions that perform operators.
 ghost use Rattle.std.specs.Prelude.{◌≡◌, ◌≤◌};
 ghost use Rattle.cyc_lower_proof.specs.inside.ValueCode.{low_byte, unary_instruction, binary_operator, left_kind, pointer_operator};
 ghost use Rattle.cyc_lower_proof.specs.inside.ValueCode.{failing_comparison, move_of, jump_if_zero, jump_if_nonzero, test_jump, scale_of, load_of};
@@ -26,7 +26,8 @@ pub(crate) fn low_byte(operand: Operand, destination: usize) -> Instruction
     }
 }
 
-/// Returns the instruction of a unary operator. A char that is used as an int has an unchanged word.
+/// Returns the instruction of a unary operator. For a char that is used as an int, the word is
+/// unchanged.
 pub(crate) fn unary_instruction(
     operator: typed::UnaryOperator,
     destination: usize,
@@ -94,7 +95,8 @@ pub(crate) fn left_kind(operator: typed::PointerOperator) -> Kind
     }
 }
 
-/// Returns the operator on words for an operator on pointers: on the first words of two pointers, or on an index.
+/// Returns the operator on words that performs an operator on pointers: it compares the first words of two
+/// pointers, or changes an index.
 pub(crate) fn pointer_operator(operator: typed::PointerOperator) -> BinaryOperator
     ensures { result ≡ pointer_operator operator }
 {
@@ -112,7 +114,8 @@ pub(crate) fn pointer_operator(operator: typed::PointerOperator) -> BinaryOperat
     }
 }
 
-/// Returns the comparison of the first word of a pointer with 0 that holds if its comparison with null fails.
+/// Returns the comparison of a pointer's first word with 0 that holds if the comparison of the pointer with
+/// null fails.
 fn null_failing(operator: typed::PointerOperator) -> Option<Comparison>
     ensures { result ≡ null_failing operator }
 {
@@ -132,7 +135,8 @@ fn null_failing(operator: typed::PointerOperator) -> Option<Comparison>
     }
 }
 
-/// Returns the comparison with 0 that holds if the comparison of a pointer with null fails, if the right operand is null.
+/// Returns the comparison with 0 that holds if the comparison of a pointer with null fails, provided that the right
+/// operand is null.
 fn null_compared(operator: typed::PointerOperator, right: &typed::Expr) -> Option<Comparison>
     ensures { result ≡ null_compared operator (view_expression right.now) }
 {
@@ -142,7 +146,8 @@ fn null_compared(operator: typed::PointerOperator, right: &typed::Expr) -> Optio
     }
 }
 
-/// Returns the comparison with 0 that holds if an operation of a chain compares with null and fails.
+/// Returns the comparison with 0 that holds if an operator of a chain compares with null and this
+/// comparison fails.
 pub(crate) fn null_operation(operation: &typed::Operation) -> Option<Comparison>
     ensures { result ≡ null_operation operation.now }
 {
@@ -157,7 +162,8 @@ pub(crate) fn null_operation(operation: &typed::Operation) -> Option<Comparison>
     }
 }
 
-/// Returns the comparison that holds if the comparison by an operator fails, if the operator is a comparison.
+/// Returns the comparison that holds if the comparison that an operator performs fails, or `None` if the
+/// operator is no comparison.
 pub(crate) fn failing_comparison(operator: typed::Operator) -> Option<Comparison>
     ensures { result ≡ failing_comparison operator }
 {
@@ -202,7 +208,8 @@ fn pointers_failing(operator: typed::PointerOperator) -> Option<Comparison>
     }
 }
 
-/// Returns the comparison that holds if an operator of a chain, which compares its two operands, fails.
+/// Returns the comparison that holds if an operator of a chain compares its two operands and this
+/// comparison fails.
 pub(crate) fn pair_operation(operation: &typed::Operation) -> Option<Comparison>
     ensures { result ≡ pair_operation operation.now }
 {
@@ -226,7 +233,7 @@ pub(crate) fn right_of(operation: &typed::Operation) -> &typed::Expr
     }
 }
 
-/// Returns the comparison that holds if another one fails.
+/// Returns the comparison that holds exactly if this comparison fails.
 fn opposite(comparison: Comparison) -> Comparison
     ensures { result ≡ opposite comparison }
 {
@@ -242,7 +249,8 @@ fn opposite(comparison: Comparison) -> Comparison
     }
 }
 
-/// Returns the instruction that moves a value with this number of words to slots. A constant operand has one word.
+/// Returns the instruction that moves a value with this number of words to slots. A constant operand always has
+/// one word.
 pub(crate) fn move_of(words: usize, destination: usize, source: Operand) -> Instruction
     ensures { result ≡ move_of words destination source }
 {
@@ -259,7 +267,8 @@ pub(crate) fn move_of(words: usize, destination: usize, source: Operand) -> Inst
     }
 }
 
-/// Returns the instruction that scales an index to bytes, for cells of 4, 1 or 12 bytes.
+/// Returns the instruction that turns an index into a number of bytes, for cells of 4, 1 or 12
+/// bytes.
 pub(crate) fn scale_of(bytes: usize, destination: usize, index: usize) -> Instruction
     ensures { result ≡ scale_of bytes destination index }
 {
@@ -348,7 +357,7 @@ pub(crate) fn holding_jump(condition: Condition, target: usize) -> Instruction
     }
 }
 
-/// Returns the negation of a condition, which compares the condition's operands by another operator.
+/// Returns the negation of a condition, which compares the same operands by another operator.
 pub(crate) fn negated_condition(condition: Condition) -> Condition
     ensures { result ≡ negated_condition condition }
 {
@@ -359,7 +368,7 @@ pub(crate) fn negated_condition(condition: Condition) -> Condition
     }
 }
 
-/// Returns the condition that fails if the left operand of a test decides its result.
+/// Returns the condition that fails if the left operand of a test decides the test's result.
 pub(crate) fn deciding_condition(
     operator: typed::LogicalOperator,
     condition: Condition,
@@ -372,7 +381,7 @@ pub(crate) fn deciding_condition(
     }
 }
 
-/// Returns the jump that is taken if the left operand of a test decides its result.
+/// Returns the jump that is taken if the left operand of a test decides the test's result.
 pub(crate) fn deciding_jump(
     operator: typed::LogicalOperator,
     condition: Condition,
@@ -407,7 +416,8 @@ pub(crate) fn jump_if_nonzero(condition: Operand, target: usize) -> Instruction
     }
 }
 
-/// Returns the jump over the right operand of `&&` or `||`, which is taken if the value in this slot decides.
+/// Returns the jump over the right operand of `&&` or `||`, which is taken if the left operand's value in
+/// this slot decides the result.
 pub(crate) fn test_jump(operator: typed::LogicalOperator, slot: usize, target: usize) -> Instruction
     ensures { result ≡ test_jump operator slot target }
 {
@@ -418,7 +428,7 @@ pub(crate) fn test_jump(operator: typed::LogicalOperator, slot: usize, target: u
     }
 }
 
-/// Returns the word of the tag of an exception, which is less than 2 ^ 32 in every text.
+/// Returns the operand with the tag of an exception, which is less than 2 ^ 32 in every text.
 pub(crate) fn tag_operand(tag: usize) -> Operand
     ensures { result ≡ tag_operand tag }
 {
@@ -427,7 +437,8 @@ pub(crate) fn tag_operand(tag: usize) -> Operand
     }
 }
 
-/// Returns the jump over a clause, which is taken if the tag in a slot is a different one.
+/// Returns the jump over a catch clause, which is taken if the tag in a slot is not that of the
+/// clause.
 pub(crate) fn other_jump(tag: usize, slot: usize, target: usize) -> Instruction
     ensures { result ≡ other_jump tag slot target }
 {
@@ -439,7 +450,7 @@ pub(crate) fn other_jump(tag: usize, slot: usize, target: usize) -> Instruction
     }
 }
 
-/// Returns the instruction that throws an uncaught exception again.
+/// Returns the instruction that throws an exception again that no clause has caught.
 pub(crate) fn goes_on(slot: usize) -> Instruction
     requires { slot ≤ most_locals }
     ensures { result ≡ goes_on slot }

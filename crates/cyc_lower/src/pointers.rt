@@ -1,5 +1,5 @@
-//! The code of accesses through pointers in operands: their cells are found, and read or written. A fat pointer has its address, its length
-//! and its index in consecutive slots.
+//! Emits accesses through pointers in operands: their cells are found, and read or written. A fat pointer has its address, its length and
+//! its index in consecutive slots.
 ghost use Rattle.std.specs.Prelude.{◌≡◌, ◌+◌, ◌≤◌, ◌∷◌, length};
 ghost use Rattle.cyc_types.specs.TypedTreeView.{view_lvalue};
 ghost use Rattle.cyc_meaning.specs.Values.{is_thin};
@@ -26,7 +26,7 @@ use cyc_sizes::words_of_kind;
 use cyc_types::typed::{Kind, Lvalue};
 use std::alloc::AllocError;
 
-/// Returns the length of the jump over the comparison of an index and over the computation of the address of its cell.
+/// Returns the number of instructions that compare an index and compute the address of its cell, which a jump skips.
 fn past_bounded(span: Option<usize>) -> usize
     ensures same { result ≡ past_bounded span }
     ensures few { result ≤ 4 }
@@ -37,7 +37,7 @@ fn past_bounded(span: Option<usize>) -> usize
     }
 }
 
-/// Returns the address of the global of a kind with this first word.
+/// Returns the address of a global of this kind whose first word has this number.
 fn address_of_global(kind: Kind, first: usize) -> u32
     ensures { result ≡ address_of_global kind first }
 {
@@ -48,8 +48,8 @@ fn address_of_global(kind: Kind, first: usize) -> u32
 }
 
 impl Emitter {
-    /// Emits the step from the address of the first word of a variable, in a slot, to the address of the variable. A char is the last byte
-    /// of its word.
+    /// Emits the addition that turns the address of a variable's first word, in a slot, into the address of the variable. A char is the
+    /// last byte of its word.
     fn reach_last_byte(&mut self, kind: Kind, slot: usize) -> Result<(), AllocError>
         ensures { Appends result self.old self.new (last_byte_code kind slot) }
     {
@@ -94,7 +94,7 @@ impl Emitter {
         }
     }
 
-    /// Emits the other words of a thin pointer that becomes a fat one: the length 1 and the index 0; for null the length 0.
+    /// Emits the two further words of a thin pointer that becomes fat: the length 1 and the index 0; for null the length 0.
     pub(crate) fn widen(&mut self, pointer: Operand) -> Result<(), AllocError>
         ensures { Appends result self.old self.new (widened_code pointer) }
     {
@@ -227,7 +227,8 @@ impl Emitter {
         self.emit_three(compare, tell, raise)
     }
 
-    /// Emits an access through a fat pointer: it is tested, and its cell is found. The index is scaled to bytes before the comparison.
+    /// Emits an access through a fat pointer: the pointer is checked, and the address of its cell is computed. The index is scaled to
+    /// bytes before the comparison.
     fn reach(
         &mut self,
         starts: &Starts,
@@ -244,8 +245,8 @@ impl Emitter {
         self.add_distance(span, first, distance, slot)
     }
 
-    /// Emits an access to an element through a fat pointer, after adding an index to it. Returns the operand of the address. Only the third
-    /// word of the pointer changes, in a temporary.
+    /// Emits an access to an element through a fat pointer, after adding an index to the pointer. Returns the operand of the address. Only
+    /// the third word of the pointer changes, in a temporary.
     pub(crate) fn reach_element(
         &mut self,
         starts: &Starts,
@@ -270,7 +271,8 @@ impl Emitter {
         Ok(reached_operand(span, first, free))
     }
 
-    /// Emits the conversion in place of a fat pointer to a thin one that may be null; for null no cell is looked up.
+    /// Emits the conversion in place of a fat pointer to a thin one that may be null. For null, no cell address is
+    /// computed.
     fn thin_nullable(
         &mut self,
         starts: &Starts,
@@ -286,7 +288,8 @@ impl Emitter {
         self.reach_inside(starts, span, first, index, first)
     }
 
-    /// Emits the conversion of a fat pointer in slots to a thin one. The first slot gets the address of the cell at the pointer's index.
+    /// Emits the conversion of a fat pointer in slots to a thin one: the first slot receives the address of the cell at the pointer's
+    /// index.
     pub(crate) fn thin(
         &mut self,
         starts: &Starts,
@@ -310,7 +313,7 @@ impl Emitter {
         Ok(())
     }
 
-    /// Emits an access through a pointer in an operand, thin or fat. Returns the operand of the address.
+    /// Emits an access through a thin or fat pointer in an operand. Returns the operand of the address.
     pub(crate) fn follow(
         &mut self,
         starts: &Starts,
@@ -336,9 +339,9 @@ impl Emitter {
         Ok(pointer)
     }
 
-    /// Emits the load of a cell of a kind into slots, by an address in an operand plus a number of bytes. If the cell has several words,
-    /// the address is moved to the first free slot, not to a local, because a local may be the loaded cell. The first word is loaded last,
-    /// since its slot may be that of the address.
+    /// Emits the load of a cell of a kind into slots, from an address in an operand plus a number of bytes. If the cell has several words,
+    /// the address is moved to the first free slot, not to a local, because a local may be the destination. The first word is loaded last,
+    /// since its slot may contain the address.
     pub(crate) fn load_cell(
         &mut self,
         kind: Kind,

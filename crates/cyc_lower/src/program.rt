@@ -1,4 +1,4 @@
-//! The lowering of a program.
+//! Lowers a whole program.
 ghost use Rattle.std.specs.Prelude.{◌≤◌};
 ghost use Rattle.cyc_words.specs.Decision.{Decides};
 ghost use Rattle.cyc_syntax.specs.TokenRule.{max_tokens};
@@ -15,7 +15,7 @@ use cyc_types::Flowed;
 use cyc_words::{Code, Fault};
 use std::alloc::Global;
 
-/// Returns the plain program of a typed tree that keeps the flow rules.
+/// Returns the plain program of a typed tree that satisfies the flow rules.
 ///
 /// A program with more than `MOST_FUNCTIONS` functions is rejected with `TooManyFunctions`, at the name of the first function beyond the
 /// limit. A program within the limit is rejected only for lack of memory.
@@ -24,7 +24,8 @@ pub fn lower(alloc: Global, program: &Flowed) -> Result<Plain, Fault>
     requires small { program_weight (view_program program.now.tree) ≤ max_tokens }
     requires can_be { CanBeLowered (view_program program.now.tree) }
 
-    // The result is a plain program with the behaviour of the source. A rejected program has too many functions.
+    // The result of `lower` is a plain program with the behaviour of the source. A rejected program has too many
+    // functions.
     ensures { Decides (IsAccepted (view_program program.now.tree)) IsLowered (HasTooMany (view_program program.now.tree))
         (HasTooMany (view_program program.now.tree)) result }
 {

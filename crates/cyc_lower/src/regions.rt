@@ -1,4 +1,5 @@
-//! The code of regions: handles are words, and the marks for closing lexical regions are in slots.
+//! Emits the code of regions. Handles are words. For each lexical region, a slot contains the
+//! number of regions open before, with which the region is closed.
 ghost use Rattle.std.specs.Prelude.{◌≡◌, ◌+◌, ◌≤◌, IfOk, length};
 ghost use Rattle.cyc_lower_proof.specs.inside.ControlCode.{after_record, closed_code, closing_code, dynamic_code, kept_code, named_code, opened_code};
 ghost use Rattle.cyc_lower_proof.specs.inside.ControlCode.{restored_code};
@@ -27,8 +28,8 @@ impl Emitter {
         self.emit(move_of(words, slot_of(starts, number), source))
     }
 
-    /// Emits the opening of a lexical region, whose handle becomes the value of a local. The region's mark is moved to the slot `free`,
-    /// which keeps it until the region is closed.
+    /// Emits the opening of a lexical region, whose handle becomes the value of a local. The number of regions open before is moved to
+    /// the slot `free`, which keeps it until the region is closed.
     pub(crate) fn open_lexical(
         &mut self,
         starts: &Starts,
@@ -52,7 +53,8 @@ impl Emitter {
         self.name_local(starts, 1, number, Operand::Slot { number: following })
     }
 
-    /// Emits the closing of the newest lexical regions, down to the mark in a slot.
+    /// Emits the closing of the newest lexical regions until only as many are open as the slot
+    /// `mark` says.
     pub(crate) fn close_lexical(&mut self, mark: usize) -> Result<(), AllocError>
         ensures { Appends result self.old self.new (closed_code mark) }
     {
@@ -64,7 +66,7 @@ impl Emitter {
     }
 
     /// Emits the beginning of a `try`. The handler record of the `try` is in the slots from `free` on, followed by the number of open
-    /// lexical regions if the program has any. Returns the slot after the record and that number.
+    /// lexical regions if the program has any. Returns the slot after the record and this number.
     pub(crate) fn begin_try(&mut self, starts: &Starts, free: usize) -> Result<usize, AllocError>
         requires { free ≤ most_locals }
         ensures { Gives (after_record (view_starts starts.now) free) result self.old self.new (kept_code (view_starts starts.now) free) }
@@ -79,7 +81,8 @@ impl Emitter {
         Ok(following + 1)
     }
 
-    /// Emits the closing of the lexical regions that were opened in a `try`, for an exception that reaches it.
+    /// Emits the closing of the lexical regions that were opened in a `try`, for an exception that reaches the
+    /// handler of the `try`.
     pub(crate) fn restore_scopes(&mut self, starts: &Starts, free: usize) -> Result<(), AllocError>
         requires { free ≤ most_locals }
         ensures { Appends result self.old self.new (restored_code (view_starts starts.now) free) }
@@ -105,7 +108,7 @@ impl Emitter {
         self.name_local(starts, 1, number, Operand::Slot { number: free })
     }
 
-    /// Emits the closing of the dynamic region of a key.
+    /// Emits the closing of the dynamic region that belongs to a key.
     pub(crate) fn close_dynamic(&mut self, handle: Operand) -> Result<(), AllocError>
         ensures { Appends result self.old self.new (closing_code handle) }
     {

@@ -1,4 +1,4 @@
-//! The code of statements. Each method of this file adds code after the existing code.
+//! Emits the code of statements. Each method of this file appends code to the existing code.
 ghost use Rattle.std.specs.Prelude.{◌≡◌, ◌+◌, ◌≤◌, length, option_map};
 ghost use Rattle.cyc_types.specs.TypeView.{view_ty};
 ghost use Rattle.cyc_types.specs.TypedTreeView.{view_converted, view_expression, view_statement, items_of};
@@ -23,7 +23,8 @@ use cyc_types::Ty;
 use cyc_types::typed::{Converted, Expr, Item, Kind, LogicalOperator, Stmt};
 use std::alloc::AllocError;
 
-/// Returns the first slot for temporaries after an item of a block: after a region they begin after its mark.
+/// Returns the first slot for temporaries after an item of a block. After the opening of a lexical region, it
+/// is the slot after the number that closes the region.
 fn free_after(item: &Item, free: usize) -> usize
     requires { free + kept_by_item item.now ≤ most_locals }
     ensures { result ≡ free_after item.now free }
@@ -38,7 +39,7 @@ fn free_after(item: &Item, free: usize) -> usize
     }
 }
 
-/// Returns true if the `else` part is empty.
+/// Returns true if a statement is empty, as an omitted `else` part is.
 fn is_nothing(statement: &Stmt) -> bool
     ensures { result ≡ is_nothing (view_statement statement.now) }
 {
@@ -46,7 +47,8 @@ fn is_nothing(statement: &Stmt) -> bool
 }
 
 impl Emitter {
-    /// Emits the declaration of a local without a value. Only a char is given a value, since the word of a char must be below 256.
+    /// Emits the declaration of a local without an initial value. Only a char receives a value, since the word of a char must be
+    /// below 256.
     fn leave_blank(&mut self, kind: Kind, slot: usize) -> Result<(), AllocError>
         ensures { Appends result self.old self.new (blank_code kind slot) }
     {
@@ -80,7 +82,7 @@ impl Emitter {
         self.lower_initial(starts, value, slot_of(starts, number), free)
     }
 
-    /// Emits a branch without an `else` part.
+    /// Emits an `if` statement without an `else` part.
     #[cycle(statement)]
     fn lower_then(
         &mut self,
@@ -102,7 +104,7 @@ impl Emitter {
         Ok(())
     }
 
-    /// Emits a statement with these exits.
+    /// Emits a statement, whose exits (the handlers and regions to close) are given.
     #[cycle(statement)]
     pub(crate) fn lower_statement(
         &mut self,
@@ -122,7 +124,7 @@ impl Emitter {
         made
     }
 
-    /// Emits the construct whose place in the text is already set.
+    /// Emits a statement whose source position is already set.
     #[cycle(statement)]
     fn lower_form(
         &mut self,
@@ -211,7 +213,7 @@ impl Emitter {
         made
     }
 
-    /// Emits the construct whose place in the text is already set.
+    /// Emits an item of a block whose source position is already set.
     #[cycle(statement)]
     fn lower_entry(
         &mut self,
@@ -233,7 +235,7 @@ impl Emitter {
                 ..
             } => self.lower_declaration(starts, *number, of_type, value, free),
             Item::Region { number, .. } => self.open_lexical(starts, *number, free),
-            // The word of a key is the handle of its region.
+            // The word of a key is the handle of the region that the key opens.
             Item::Open { number, key, .. } => {
                 let source = Operand::Slot {
                     number: slot_of(starts, *key),
@@ -255,7 +257,8 @@ impl Emitter {
         }
     }
 
-    /// Emits the items of a block. At its end each lexical region that it opened is closed, newest first.
+    /// Emits the items of a block. At the end of the block, each lexical region that the block opened is
+    /// closed, newest first.
     #[cycle(statement)]
     pub(crate) fn lower_items(
         &mut self,

@@ -1,4 +1,5 @@
--- Examples of chars: their code, and programs that are lowered and run on the plain machine, each proved by computation.
+-- This file has examples of the type `char`: their code, and programs that are lowered and run on the plain machine,
+-- each proved by computation.
 use Rattle.std.proofs.Common.{◌≡◌, ℕ, List, [], ◌∷◌, pos, refl, Some, None}
 use Rattle.cyc_words.specs.Ending.{Returned}
 use Rattle.cyc_words.specs.Simulation.{Ended}
@@ -27,7 +28,8 @@ use Rattle.cyc_lower_proof.proofs.Examples.{nowhere, int, local, two, all, retur
 
 -- ---- trees
 
--- an int converted to a char, by its low byte; and a char converted to an int
+-- The expression `a` of type int converted to a char, which keeps the low byte; below it, the
+-- conversion of a char to an int.
 abbrev low : Expression → Converted
 low a = Convert kinds.Int kinds.Char a
 
@@ -46,7 +48,7 @@ star = Pointer Nullable Char Heap
 abbrev address : Lvalue → Converted
 address l = Convert kinds.NonNull kinds.Nullable (AddressOf l (Pointer NonNull Char Heap))
 
--- `*p = n`, through the pointer in a local
+-- The statement `*p = n`, where the pointer `p` is in a local.
 abbrev puts : (pointer : ℕ) → Expression → Statement
 puts p a = Evaluate (Store (Target kinds.Nullable (Copy (Local nowhere p) star) Char) (low a) (Value Char))
 
@@ -59,13 +61,15 @@ program structs locals body others =
 
 -- ---- code
 
--- an int becomes a char when it is moved to its slot; the original word is kept
+-- An int becomes a char when its low byte is moved to the slot of the char; the slot of the int
+-- keeps its word.
 char_is_masked : function_code [] [] None (function [] (Int ∷ Char ∷ []) (all (Evaluate (Assign (Local nowhere 1) (low (local 0)) (Value Char)) ∷ []))) ≡
     instructions.Binary plain_binary.And 1 (Slot 0) (Constant 255)
     ∷ instructions.Finish 2 ∷ []
 char_is_masked = refl
 
--- an int is stored in a char cell through a temporary, after that of the address
+-- An int is stored in a cell of type char through a temporary, which comes after the temporary of
+-- the address.
 char_is_stored : function_code [] [] None (function [] (Int ∷ star ∷ []) (all (puts 1 (local 0) ∷ []))) ≡
     instructions.Branch comparisons.Equal (Slot 1) (Constant 0) 7 ∷ Move 3 (Slot 1)
     ∷ instructions.Binary plain_binary.And 4 (Slot 0) (Constant 255) ∷ instructions.StoreByte (Slot 3) 0 (Slot 4)
@@ -74,18 +78,18 @@ char_is_stored : function_code [] [] None (function [] (Int ∷ star ∷ []) (al
     ∷ instructions.Throw (Constant 1) (Constant 0) ∷ []
 char_is_stored = refl
 
--- a char is an operand, as an int is
+-- A char can be used as an operand without further code, like an int.
 char_is_operand : function_code [] [] None (function [] (Int ∷ Char ∷ []) (all (Evaluate (Assign (Local nowhere 0) (int (sum (wide (char 1)) (Number 1))) (Value Int)) ∷ []))) ≡
     instructions.Binary plain_binary.Add 0 (Slot 1) (Constant 1)
     ∷ instructions.Finish 2 ∷ []
 char_is_operand = refl
 
--- the word of a char is below 256 from its declaration on
+-- The word in the slot of a char is below 256 from its declaration on.
 char_without_value : function_code [] [] None (function [] (Char ∷ []) (MoreItems (Declare 0 Char None) NoItems)) ≡
     Move 0 (Constant 0) ∷ instructions.Finish 1 ∷ []
 char_without_value = refl
 
--- the address of a char local is that of the last byte of its word
+-- The address of a local of type char is the address of the last byte of the word in its slot.
 address_of_char_local : function_code [] [] None (function [] (Pointer Fat Int Heap ∷ Char ∷ star ∷ []) (MoreItems (Declare 2 star (Some (address (Local nowhere 1)))) NoItems)) ≡
     instructions.AddressOf 4 3 1 ∷ instructions.Binary plain_binary.Add 4 (Slot 4) (Constant 3)
     ∷ instructions.Finish 5 ∷ []
@@ -130,7 +134,7 @@ char_global_is_stored_to = refl
 
 -- struct S { char a; int b; char c; char d; }; struct S @s = new S{1, 2, 300, 4}; s->a = 9; s->c :=: s->d; return s->a * 1000 + s->c * 100
 -- + s->d;
--- The block of the struct is at the store's first address.
+-- The block of the struct is at the first address of the heap store.
 abbrev s_at : Ty
 s_at = Pointer NonNull (Struct 0 []) Heap
 

@@ -1,4 +1,5 @@
--- Examples: small programs lowered and run on the plain machine, each proved by computation.
+-- This file has examples: small programs are lowered and run on the plain machine, and each result
+-- is proved by computation.
 use Rattle.std.proofs.Common.{◌≡◌, ℕ, ◌+◌, List, [], ◌∷◌, pos, negsuc, refl, Some, None}
 use Rattle.cyc_words.specs.Word.{slt_of, div_of}
 use Rattle.cyc_words.specs.Ending.{Returned, Uncaught, Full}
@@ -63,7 +64,7 @@ passed (a ∷ rest) = MoreArguments (int a) (passed rest)
 abbrev call : Callee → List Expression → Expression
 call f arguments = Call f (passed arguments) (Value Int)
 
--- a sequence of statements
+-- Builds a block body from a list of statements.
 abbrev pub all : List Statement → Items
 all [] = NoItems
 all (s ∷ ss) = MoreItems (Execute s) (all ss)
@@ -71,7 +72,7 @@ all (s ∷ ss) = MoreItems (Execute s) (all ss)
 abbrev pub returns : Expression → Statement
 returns a = Return (Some (int a))
 
--- a function with these parameters and these further locals
+-- Builds a function with the given parameter types and the given types of further locals.
 abbrev pub function : List Ty → List Ty → Items → Function
 function parameters locals body = record {
   name = 0;
@@ -91,7 +92,7 @@ function parameters locals body = record {
 abbrev ints : List Ty
 ints = Int ∷ Int ∷ []
 
--- `main` has two locals, and there is one global, which contains 7
+-- The program whose function `main` has two locals and whose only global contains 7.
 abbrev program : Items → List Function → Program
 program body others = record {
   structs = [];
@@ -160,7 +161,7 @@ printed_byte = refl
 
 -- ---- statements
 
--- counts local 0 up to 4 and adds each value except 2 to local 1
+-- The function body that counts local 0 up to 4 and adds each value except 2 to local 1.
 abbrev counting : Items
 counting =
     MoreItems (Declare 0 Int (Some (int (Number 0))))
@@ -187,7 +188,7 @@ other_branch = refl
 
 -- ---- functions
 
--- n factorial, by a recursive function
+-- A recursive function that computes n factorial.
 abbrev factorial : Function
 factorial = function (Int ∷ []) [] (all (
     If (local 0)
@@ -206,7 +207,7 @@ arguments_in_order = refl
 
 -- ---- comparison with the source
 
--- the end of the source program with the same limits and input
+-- The status with which the source program ends under the limits and the input of the lowered run.
 abbrev source_ends : ℕ → Program → List ℕ → Status
 source_ends steps p input = status_in (status_of_source (limited_run p 3 9 input steps))
 
@@ -220,7 +221,8 @@ source_factorials = refl
 source_is_limited : source_ends 300 (program (all (returns (call (Calls 1) (Number 50 ∷ [])) ∷ [])) (factorial ∷ [])) [] ≡ Ended Full
 source_is_limited = refl
 
--- reads the whole input, prints each byte plus one, and returns the number of bytes
+-- The function body that reads the whole input, prints each byte plus one, and returns the number
+-- of bytes.
 abbrev copying : Items
 copying =
     MoreItems (Declare 0 Int None)
@@ -250,7 +252,8 @@ stops_at_line_feed = refl
 abbrev thrower : Function
 thrower = function (Int ∷ []) [] (all (Throw 5 (Some (local 0)) ∷ []))
 
--- an exception thrown by a callee reaches the clause of its number, where a local receives its int
+-- An exception thrown by a callee reaches the `catch` clause for its number, and a local receives
+-- the int of the exception.
 abbrev catching : Program
 catching =
     program (all (
@@ -265,7 +268,8 @@ catches = refl
 source_catches : source_ends 80 catching [] ≡ Ended (Returned (pos 7))
 source_catches = refl
 
--- a loop whose body is a `try` iterates twice and is then left; no handler of it is open at the next exception
+-- A loop whose body is a `try` runs two iterations and is then left; the next exception finds no open handler
+-- of this `try`.
 abbrev leaving : Items
 leaving =
     MoreItems (Declare 0 Int (Some (int (Number 0))))
@@ -287,7 +291,7 @@ leaves = refl
 source_leaves : source_ends 250 (program leaving []) [] ≡ Ended (Returned (pos 3))
 source_leaves = refl
 
--- a division by zero is caught, and an exception that no clause catches ends the run
+-- The division by zero is caught; an exception that no clause catches ends the run.
 division_is_caught : ends 20 (program (all (Try (returns (two (Number 9) (ThenCompute Divide (local 0) NoOperations))) (Case 4 None 1 (all (returns (Number 65) ∷ [])) NoClauses) ∷ [])) []) [] ≡ Ended (Returned (pos 65))
 division_is_caught = refl
 
@@ -297,7 +301,7 @@ uncaught_goes_on = refl
 source_goes_on : source_ends 20 (program (all (Try (Throw 5 (Some (Number 8))) (Case 6 None 1 NoItems NoClauses) ∷ [])) []) [] ≡ Ended (Uncaught 5 (pos 8))
 source_goes_on = refl
 
--- a null pointer converted to a non-null pointer type
+-- The program that converts a null pointer to a non-null pointer type.
 abbrev converting : Program
 converting = record {
   structs = [];
@@ -318,14 +322,15 @@ source_catches_null = refl
 abbrev code_of_body : Items → List Instruction
 code_of_body body = function_code [] [] None (function [] ints body)
 
--- a loop with its condition before and after its body, and the jump to its end before the body
+-- The code of a loop tests the condition before and after the body; a jump to the end of the loop
+-- comes before the body.
 loop_code : code_of_body (all (While nowhere (local 0) Break ∷ returns (local 1) ∷ [])) ≡
     jump_if_nonzero (Slot 0) 2 ∷ Jump 4 ∷ Jump 1 ∷ jump_if_nonzero (Slot 0) 2
     ∷ instructions.Finish 1
     ∷ instructions.Finish 2 ∷ []
 loop_code = refl
 
--- each operand of `||` in the condition of a branch has its own jump, and no value is computed
+-- Each operand of `||` in the condition of a branch has a separate jump, and no value is computed.
 alternatives_code : code_of_body (all (If (two (local 0) (ThenTest OrElse (two (local 1) (ThenCompute Less (Number 3) NoOperations)) NoOperations)) (returns (local 1)) Empty ∷ returns (local 0) ∷ [])) ≡
     jump_if_nonzero (Slot 0) 2 ∷ instructions.Branch comparisons.GreaterOrEqual (Slot 1) (Constant 3) 3
     ∷ instructions.Finish 1
@@ -333,7 +338,8 @@ alternatives_code : code_of_body (all (If (two (local 0) (ThenTest OrElse (two (
     ∷ instructions.Finish 2 ∷ []
 alternatives_code = refl
 
--- each operand of `&&` has its own jump too; if one fails, it leads to the code after `else`
+-- Each operand of `&&` in the condition of a branch has its own jump to the code after `else`,
+-- which is taken if the operand fails.
 parts_code : code_of_body (all (If (two (local 0) (ThenTest AndThen (two (local 1) (ThenCompute Less (Number 3) NoOperations)) NoOperations)) (returns (local 1)) (returns (local 0)) ∷ [])) ≡
     jump_if_zero (Slot 0) 4 ∷ instructions.Branch comparisons.GreaterOrEqual (Slot 1) (Constant 3) 4
     ∷ instructions.Finish 1
@@ -342,7 +348,7 @@ parts_code : code_of_body (all (If (two (local 0) (ThenTest AndThen (two (local 
     ∷ instructions.Finish 2 ∷ []
 parts_code = refl
 
--- `!` turns tests by `||` into tests by `&&`: each operand of `||` that holds jumps to the other statement
+-- `!` turns `||` into `&&`: each operand of the negated `||` that holds jumps to the `else` statement.
 neither_code : code_of_body (all (If (Unary unary.Not (two (local 0) (ThenTest OrElse (two (local 1) (ThenCompute Less (Number 3) NoOperations)) NoOperations))) (returns (local 1)) (returns (local 0)) ∷ [])) ≡
     jump_if_nonzero (Slot 0) 4 ∷ instructions.Branch comparisons.Less (Slot 1) (Constant 3) 4
     ∷ instructions.Finish 1
@@ -351,28 +357,28 @@ neither_code : code_of_body (all (If (Unary unary.Not (two (local 0) (ThenTest O
     ∷ instructions.Finish 2 ∷ []
 neither_code = refl
 
--- each operand of `&&` that fails decides a negated condition
+-- In a negated `&&`, each operand that fails decides the condition.
 not_both_code : code_of_body (all (If (Unary unary.Not (two (local 0) (ThenTest AndThen (two (local 1) (ThenCompute Less (Number 3) NoOperations)) NoOperations))) (returns (local 1)) Empty ∷ [])) ≡
     jump_if_zero (Slot 0) 2 ∷ instructions.Branch comparisons.Less (Slot 1) (Constant 3) 3
     ∷ instructions.Finish 1
     ∷ instructions.Finish 2 ∷ []
 not_both_code = refl
 
--- a comparison of two pointers is the branch itself
+-- A comparison of two pointers in a condition is compiled to one branch instruction.
 apart_code : code_of_body (all (If (two (local 0) (ThenPointer NotEqualThin (local 1) NoOperations)) (returns (local 0)) Empty ∷ [])) ≡
     instructions.Branch comparisons.Equal (Slot 0) (Slot 1) 2
     ∷ instructions.Finish 0
     ∷ instructions.Finish 2 ∷ []
 apart_code = refl
 
--- a condition that may have much code is placed only after the body
+-- A loop condition that may need much code is emitted only once, after the body.
 jumped_code : code_of_body (all (While nowhere (sets 0 (local 1)) Empty ∷ [])) ≡
     Jump 2 ∷ Jump 4 ∷ Move 0 (Slot 1) ∷ jump_if_nonzero (Slot 0) 2
     ∷ instructions.Finish 2 ∷ []
 jumped_code = refl
 
--- A loop without `break` is left by its first condition, if that fails. `continue` leads to the first condition of the loop, and an
--- iteration takes one jump, the comparison.
+-- A loop without `break` is left by its first condition if that condition fails. `continue` jumps to the first condition of the
+-- loop, and an iteration takes one jump, the comparison.
 continued_code : code_of_body (all (While nowhere (two (local 0) (ThenCompute LessOrEqual (local 1) NoOperations)) (If (local 1) Continue Empty) ∷ [])) ≡
     instructions.Branch comparisons.Greater (Slot 0) (Slot 1) 4
     ∷ jump_if_zero (Slot 1) 3 ∷ Jump 0
@@ -380,14 +386,15 @@ continued_code : code_of_body (all (While nowhere (two (local 0) (ThenCompute Le
     ∷ instructions.Finish 2 ∷ []
 continued_code = refl
 
--- a branch, and a division with its check, which jumps to the last block if it fails
+-- The code of a branch that contains a division; the check of the divisor jumps to the last block
+-- of the function if it fails.
 branch_code : code_of_body (all (If (local 0) (Evaluate (two (local 0) (ThenCompute Divide (local 1) NoOperations))) Empty ∷ [])) ≡
     jump_if_zero (Slot 0) 3
     ∷ jump_if_zero (Slot 1) 9 ∷ instructions.Binary plain_binary.Divide 3 (Slot 0) (Slot 1)
     ∷ instructions.Finish 2 ∷ blocks 2
 branch_code = refl
 
--- a condition that is a comparison is one jump, and so is a negated one
+-- A condition that is a comparison takes one jump, and a negated comparison takes one jump too.
 compared_code : code_of_body (all (If (two (local 0) (ThenCompute Less (local 1) NoOperations)) (returns (local 0)) Empty ∷ [])) ≡
     instructions.Branch comparisons.GreaterOrEqual (Slot 0) (Slot 1) 2
     ∷ instructions.Finish 0
@@ -399,28 +406,29 @@ negated_code : code_of_body (all (While nowhere (Unary unary.Not (local 0)) Brea
     ∷ instructions.Finish 2 ∷ []
 negated_code = refl
 
--- each operand of a loop's condition leaves the loop if it fails
+-- Each operand of `&&` in a loop's condition leaves the loop if the operand fails.
 both_code : code_of_body (all (While nowhere (two (local 0) (ThenTest AndThen (two (local 1) (ThenCompute Less (Number 3) NoOperations)) NoOperations)) Break ∷ [])) ≡
     Jump 3 ∷ Jump 5 ∷ Jump 1 ∷ jump_if_zero (Slot 0) 5
     ∷ instructions.Branch comparisons.Less (Slot 1) (Constant 3) 2
     ∷ instructions.Finish 2 ∷ []
 both_code = refl
 
--- negating a comparison gives the opposite comparison
+-- Negating a comparison yields the opposite comparison.
 turned_code : code_of_body (all (If (Unary unary.Not (two (local 0) (ThenCompute Equal (local 1) NoOperations))) (returns (local 0)) Empty ∷ [])) ≡
     instructions.Branch comparisons.Equal (Slot 0) (Slot 1) 2
     ∷ instructions.Finish 0
     ∷ instructions.Finish 2 ∷ []
 turned_code = refl
 
--- a sum is computed into a local by one instruction, and a byte is printed by one
+-- One instruction computes a sum into a local, and one instruction prints a byte.
 direct_code : code_of_body (all (Evaluate (sets 0 (two (local 0) (ThenCompute Add (Number 1) NoOperations))) ∷ Evaluate (call Putchar (local 1 ∷ [])) ∷ [])) ≡
     instructions.Binary plain_binary.Add 0 (Slot 0) (Constant 1)
     ∷ instructions.WriteByte (Slot 1)
     ∷ instructions.Finish 2 ∷ []
 direct_code = refl
 
--- a chain that ends with the local that it reads keeps its earlier values in a temporary
+-- An operator chain that is assigned to a local and reads this local in its last operand keeps its
+-- earlier values in a temporary.
 chain_code : code_of_body (all (Evaluate (sets 0 (two (local 1) (ThenCompute Subtract (Number 3) (ThenCompute Divide (local 0) (ThenCompute Remainder (Number 7) NoOperations))))) ∷ [])) ≡
     instructions.Binary plain_binary.Subtract 3 (Slot 1) (Constant 3)
     ∷ jump_if_zero (Slot 0) 10 ∷ instructions.Binary plain_binary.Divide 3 (Slot 3) (Slot 0)
@@ -428,13 +436,15 @@ chain_code : code_of_body (all (Evaluate (sets 0 (two (local 1) (ThenCompute Sub
     ∷ instructions.Finish 2 ∷ blocks 2
 chain_code = refl
 
--- a local after a fat pointer has the slot after its three words, and temporaries come after both
+-- A local declared after a fat pointer has the slot after the three words of the fat
+-- pointer; temporaries come after all locals.
 wide_code : function_code [] [] None (function [] (Pointer Fat Int Heap ∷ Int ∷ []) (all (Evaluate (sets 1 (two (local 1) (ThenCompute Add (Number 1) NoOperations))) ∷ []))) ≡
     instructions.Binary plain_binary.Add 3 (Slot 3) (Constant 1)
     ∷ instructions.Finish 4 ∷ []
 wide_code = refl
 
--- a fat global has three words, which are moved one by one; the next global begins after them
+-- A global fat pointer has three words, which are moved one by one; the next global begins after
+-- these words.
 abbrev pub fat_global : GlobalVariable
 fat_global = record { name = 0; of_type = Pointer Fat Int Heap; value = Null }
 
@@ -456,7 +466,8 @@ wide_globals = refl
 
 -- ---- lexical regions
 
--- A region is opened in each of five iterations of a loop, and left in every way; the store has room for two at once.
+-- Each of five loop iterations opens a region, and the examples leave it by every kind of exit; the store has room
+-- for two regions at once.
 abbrev with_handle : Items → List Function → Program
 with_handle body others = record {
   structs = [];
@@ -466,7 +477,7 @@ with_handle body others = record {
   main = 0;
 }
 
--- local 0 counts iterations, and local 1 is the handle
+-- The program in which local 0 counts iterations and local 1 is the region handle.
 abbrev passes : Statement → Program
 passes body =
     with_handle (MoreItems (Declare 0 Int (Some (int (Number 0)))) (all (
@@ -474,7 +485,7 @@ passes body =
     Evaluate (sets 0 (two (local 0) (ThenCompute Add (Number 1) NoOperations))) ∷ body ∷ [])))
     ∷ returns (local 0) ∷ []))) []
 
--- a block with a region
+-- A block that opens a region and then executes the statements `body`.
 abbrev in_region : List Statement → Statement
 in_region body = Block 2 (MoreItems (DeclareRegion 3 1) (all body))
 
@@ -494,11 +505,12 @@ region_is_broken = refl
 region_is_thrown_from : ends 260 (passes (Try (in_region (Throw 5 None ∷ [])) (Case 5 None 4 NoItems NoClauses))) [] ≡ Ended (Returned (pos 5))
 region_is_thrown_from = refl
 
--- regions inside and outside a handler are left at once
+-- One `break` leaves a region outside an exception handler and a region inside it at once.
 both_are_left : ends 260 (passes (While nowhere (Number 1) (in_region (Try (Block 5 (MoreItems (DeclareRegion 6 1) (all (Break ∷ [])))) (Default 7 NoItems) ∷ [])))) [] ≡ Ended (Returned (pos 5))
 both_are_left = refl
 
--- a call returns out of its region, or leaves it by an exception
+-- The program whose loop calls a function that returns out of its region or leaves the region by an
+-- exception.
 abbrev calling_out : Statement → Program
 calling_out body = with_handle (MoreItems (Declare 0 Int (Some (int (Number 0)))) (all (
     While nowhere (two (local 0) (ThenCompute Less (Number 5) NoOperations)) (Block 1 (all (
@@ -516,7 +528,8 @@ source_throws_from_region : source_ends 600 (calling_out (in_region (Throw 5 Non
 unfolding slt_of
 source_throws_from_region = refl
 
--- the region's mark is in the first temporary
+-- The first temporary holds the region's mark, which is the number of lexical regions that were
+-- open before.
 region_code : function_code [] [] (Some 4) (function [] (Int ∷ Handle Heap ∷ []) (all (in_region [] ∷ []))) ≡
     instructions.Ask (requests.OpenLexical 4) ∷ Move 3 (Slot 5)
     ∷ Move 1 (Slot 4)
@@ -532,11 +545,11 @@ star = Pointer Nullable Int Heap
 abbrev address : Lvalue → Converted
 address l = Convert kinds.NonNull kinds.Nullable (AddressOf l (Pointer NonNull Int Heap))
 
--- `*p = n`, through the pointer in a local
+-- The statement `*p = n`, where the pointer `p` is in a local.
 abbrev puts : (pointer : ℕ) → (value : ℕ) → Statement
 puts p n = Evaluate (Store (Target kinds.Nullable (Copy (Local nowhere p) star) Int) (int (Number n)) (Value Int))
 
--- `main` has an int, and a pointer to it
+-- The program whose function `main` has an int and a pointer to this int.
 abbrev pointing : Items → List Function → Program
 pointing body others = record {
   structs = [];
@@ -546,14 +559,14 @@ pointing body others = record {
   main = 0;
 }
 
--- a variable is stored and loaded through its address
+-- A local variable is stored to and loaded through its address.
 variable_is_stored_to : ends 40 (pointing (all (puts 1 5 ∷ returns (local 0) ∷ [])) []) [] ≡ Ended (Returned (pos 5))
 variable_is_stored_to = refl
 
 variable_is_loaded : ends 40 (pointing (all (Evaluate (sets 0 (Number 6)) ∷ returns (Load (Target kinds.Nullable (Copy (Local nowhere 1) star) Int)) ∷ [])) []) [] ≡ Ended (Returned (pos 6))
 variable_is_loaded = refl
 
--- a variable is stored by a callee while the call that owns it waits
+-- A callee stores to a variable of its caller through the variable's address.
 variable_waits : ends 60 (pointing (all (Evaluate (Call (Calls 1) (MoreArguments (address (Local nowhere 0)) NoArguments) (Value Int)) ∷ returns (local 0) ∷ [])) (function (star ∷ []) [] (all (puts 0 8 ∷ returns (Number 1) ∷ [])) ∷ [])) [] ≡ Ended (Returned (pos 8))
 variable_waits = refl
 
@@ -564,7 +577,7 @@ source_stores_to_variable : source_ends 100 (pointing (all (puts 1 5 ∷ returns
 unfolding slt_of
 source_stores_to_variable = refl
 
--- a local with an address keeps its slots, and the address of a global is a constant
+-- A local whose address is taken keeps its slots, and the address of a global is a constant.
 address_of_int_local : function_code [] [] None (function [] (Pointer Fat Int Heap ∷ Int ∷ star ∷ []) (MoreItems (Declare 2 star (Some (address (Local nowhere 1)))) NoItems)) ≡
     instructions.AddressOf 4 3 1 ∷ instructions.Finish 5 ∷ []
 address_of_int_local = refl

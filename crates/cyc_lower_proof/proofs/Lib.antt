@@ -1,4 +1,5 @@
--- The proofs have one folder for each topic; the header of each file states its contents.
+-- The proofs have one folder for each topic; the header of each proof file states the contents of
+-- the file.
 pub mod acceptance
 pub mod slots
 pub mod emission

@@ -1,4 +1,4 @@
--- the steps of calls and statements
+-- This module proves the steps of calls, returns and statements.
 pub mod Calls
 pub mod Returns
 pub mod StatementSteps

@@ -1,4 +1,4 @@
--- the code of the definition is where the relation reads it
+-- The code that the lowering emits is the code that the simulation relation requires.
 pub mod Leaving
 pub mod Alike
 pub mod Lengths

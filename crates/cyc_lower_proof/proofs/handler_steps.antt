@@ -1,3 +1,3 @@
--- the steps of exceptions and their handlers
+-- This module proves the steps of exceptions and of their handlers.
 pub mod Handling
 pub mod ExceptionSteps

@@ -1,4 +1,4 @@
--- the steps that allocate and free objects
+-- This module proves the steps that allocate and free objects.
 pub mod Handles
 pub mod Asking
 pub mod Allocations

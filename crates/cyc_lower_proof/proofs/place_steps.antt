@@ -1,4 +1,5 @@
--- the steps that evaluate places, and that read and write them
+-- This module proves the steps that evaluate address expressions and that read and write the cells
+-- at these addresses.
 pub mod PlaceWords
 pub mod KindWords
 pub mod StoredWords

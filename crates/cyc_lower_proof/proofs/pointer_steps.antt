@@ -1,4 +1,4 @@
--- the steps of operators on pointers, and of accesses through pointers
+-- This module proves the steps of pointer operators and of accesses through pointers.
 pub mod PointerSteps
 pub mod FatSteps
 pub mod ElementWords

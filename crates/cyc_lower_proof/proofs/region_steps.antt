@@ -1,4 +1,4 @@
--- the steps of regions and keys
+-- This module proves the steps of regions and keys.
 pub mod Scoped
 pub mod Closings
 pub mod Keys

@@ -1,4 +1,5 @@
--- the relation between a source state and a plain state, and what preserves it
+-- This module defines the relation between a source state and a plain state, and shows which steps
+-- preserve the relation.
 pub mod places
 pub mod code
 pub mod contents

@@ -1,4 +1,4 @@
--- the slots of locals and the words of globals
+-- This module is about the slots of locals and the words of globals.
 pub mod Widths
 pub mod CellBytes
 pub mod Slots

@@ -1,4 +1,4 @@
--- the steps that begin an expression, and that pass a value on
+-- This module proves the steps that begin an expression, and the steps that pass a value on.
 pub mod Assignments
 pub mod Beginnings
 pub mod Conversions

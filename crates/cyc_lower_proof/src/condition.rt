@@ -1,7 +1,7 @@
-//! A condition, as a branch tests it.
+//! This file defines a condition in the form in which a branch tests it.
 use cyc_plain::{Comparison, Operand};
 
-/// A condition: it fails exactly if this comparison of two operands holds.
+/// A condition, which fails exactly if the comparison `failing` of two operands holds.
 #[derive(Clone, Copy)]
 pub struct Condition {
     pub failing: Comparison,

@@ -1,7 +1,7 @@
-//! The exits from a statement.
+//! This file defines the exits from a statement.
 
-/// The handlers and lexical regions opened around a statement since the start of a loop or of the function. The opened handlers and regions
-/// are given by the first slot of the outermost handler's record and the slot of the outermost lexical region's mark.
+/// The handlers and lexical regions that a statement's context has opened since the start of a loop or of the function. They are given by
+/// the first slot of the outermost handler's record and the slot with the region count from before the outermost lexical region.
 #[derive(Clone, Copy)]
 pub struct Opened {
     pub handler: Option<usize>,
@@ -11,12 +11,12 @@ pub struct Opened {
 /// The exits from a statement, for inner statements that leave a loop or the function.
 #[derive(Clone, Copy)]
 pub struct Exits {
-    /// The start of the enclosing loop, if there is one.
+    /// The code position at which the enclosing loop starts, if there is one.
     pub head: usize,
-    /// The place of the jump to the loop's end.
+    /// The code position of the jump to the loop's end.
     pub leaving: usize,
-    /// The handlers and regions opened inside that loop.
+    /// The handlers and regions opened inside the enclosing loop.
     pub in_loop: Opened,
-    /// The handlers and regions opened inside the function.
+    /// The handlers and regions opened inside the enclosing function.
     pub in_function: Opened,
 }

@@ -1,5 +1,5 @@
-//! Laws of the definitions in `specs/`. Each function of this file does nothing, and its contract states one law, which is proved with the
-//! crate.
+//! This file states laws of the definitions in `specs/`. Each function of this file does nothing, and its contract states one law, which
+//! is proved with the crate.
 
 ghost use Rattle.std.specs.Prelude.{◌≡◌, ℕ, ◌+◌, ◌<◌, ◌≤◌, List, ◌++◌, length, Some, slice_get};
 ghost use Rattle.std.specs.List.{AllByRecursion};
@@ -11,8 +11,8 @@ ghost use Rattle.cyc_lower_proof.specs.inside.Slots.{slot_in};
 ghost use Rattle.cyc_lower_proof.specs.inside.Lowering.{lower_program};
 ghost use Rattle.cyc_lower_proof.specs.inside.Lowered.{CanBeLowered, IsLowered};
 
-/// The slots of locals are disjoint and in order, and none is unused between them, before the first temporary, or after the parameters. If
-/// each local has one word, a local's slot is its number.
+/// The slots of locals are disjoint and in order; no slot is unused between locals, before the first temporary, or after the parameters.
+/// If each local has one word, then a local's slot is its number.
 pub fn slots_are_apart()
     ensures below { (types : List Ty) (number : ℕ) (t : Ty) → slice_get types number ≡ Some t → slot_in types number + words_of t ≤ words_of_all types }
     ensures apart { (types : List Ty) (number other : ℕ) (t u : Ty) → number < other → slice_get types number ≡ Some t → slice_get types other ≡ Some u
@@ -22,7 +22,7 @@ pub fn slots_are_apart()
     ensures one { (types : List Ty) (number : ℕ) → AllByRecursion (λ t. words_of t ≡ 1) types → number ≤ length types → slot_in types number ≡ number }
 {}
 
-/// The plain program of a well-typed program is well-formed and follows the source.
+/// The plain program of a well-typed program is well-formed and follows the source program.
 pub fn lowered_programs_follow()
     ensures { (source : Program) → IsWellTypedProgram source → CanBeLowered source → IsLowered source (lower_program source) }
 {}

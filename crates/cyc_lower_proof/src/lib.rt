@@ -1,5 +1,5 @@
-//! The plain program as a function of the typed tree, and the proof that it follows the source. The definitions are in `specs/`; the only
-//! code is the structs that they use.
+//! This crate defines the plain program as a function of the typed tree, and proves that it follows the source. The definitions are in
+//! `specs/`; the only code is the structs that the definitions use.
 #![tactic(auto)]
 
 pub use condition::Condition;

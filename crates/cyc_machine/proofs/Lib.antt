@@ -1,4 +1,4 @@
--- lemmas on the bytes in words
+-- lemmas about the bytes in words
 pub mod Bytes
 -- the fast loop
 pub mod Operations
@@ -7,7 +7,7 @@ pub mod FastLoop
 pub mod Between
 pub mod BetweenShape
 pub mod Serving
--- stored words, and words left out
+-- lemmas about the words that the machine stores and the words that it leaves out
 pub mod Widening
 -- loading
 pub mod Segments

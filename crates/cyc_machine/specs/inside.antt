@@ -1,4 +1,4 @@
--- the fast loop's operations, used only by the crate's own functions
+-- the operations of the fast loop, used only by the crate's own functions
 pub mod Operations
--- the fast loop's services of the store
+-- the heap services that the fast loop performs
 pub mod Serving

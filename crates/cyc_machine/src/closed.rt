@@ -1,10 +1,10 @@
-//! A device that refuses every exchange of a byte.
+//! A device that refuses every exchange of a byte, for runs without devices.
 
 ghost use Rattle.std.specs.Prelude.{None, false, true};
 
 use cyc_words::{ByteIn, ByteOut, Failed};
 
-/// A device that fails at each call, so that each exchange is left to `step`.
+/// A device that fails at each call, so that the machine leaves each exchange to `step`.
 #[derive(Drop)]
 pub struct Closed;
 

@@ -1,4 +1,4 @@
-//! The reason why an image cannot be loaded.
+//! The reasons why an image cannot be loaded.
 
 ghost use Rattle.std.specs.Prelude.{◌≡◌};
 ghost use Rattle.cyc_machine.specs.declared.fault.LoadFault.TheVariants.{Memory};

@@ -1,5 +1,5 @@
-//! Partially stored ranges: the first words of the data range and the last words of the stack are stored, and the others are 0. Space is
-//! reserved for all words of the range, and the stored part grows when another word is loaded or written.
+//! Partially stored memory ranges. The first words of the data range and the last words of the stack are stored, and all other words are
+//! 0. Space is reserved for all words of a range, and the stored part grows when another word is loaded or written.
 
 ghost use Rattle.std.specs.Prelude.{◌≡◌, ◌+◌, ◌-◌, ◌*◌, ◌^◌, ◌<◌, ◌≤◌, ◌++◌, length, max, min, nat_le, replicate, slice_index, slice_set};
 ghost use Rattle.std.specs.Prelude.{vec_capacity, if◌then◌else◌};
@@ -7,8 +7,8 @@ ghost use Rattle.cyc_machine.specs.Arrays.{all_globals, all_stack};
 
 use cyc_machine_model::constants::DATA_WORDS;
 
-/// Returns the number of words to store, given the stored number, the required one and the maximum. The number at least doubles when it
-/// grows, so that each word is moved only a few times.
+/// Returns the number of words to store, from the stored number, the required number and the maximum. The number at least doubles when
+/// it grows, so that each word is moved only a few times.
 fn kept_next(kept: usize, wanted: usize, most: usize) -> usize
     requires kept { kept ≤ most }
     requires short { most ≤ 2 ^ 32 }
@@ -21,7 +21,7 @@ fn kept_next(kept: usize, wanted: usize, most: usize) -> usize
     }
 }
 
-/// Stores `count` words from the first one on.
+/// Extends the stored words, which start at the first word of the range, to `count` words.
 fn keep_first(kept: &mut Vec<u32>, count: usize)
     requires more { length kept.old.items ≤ count }
     requires room { count ≤ vec_capacity kept.old }
@@ -33,7 +33,7 @@ fn keep_first(kept: &mut Vec<u32>, count: usize)
     };
 }
 
-/// Stores `count` words up to the last one.
+/// Extends the stored words, which end at the last word of the range, to `count` words.
 fn keep_last(kept: &mut Vec<u32>, count: usize)
     requires more { length kept.old.items ≤ count }
     requires room { count ≤ vec_capacity kept.old }
@@ -48,7 +48,7 @@ fn keep_last(kept: &mut Vec<u32>, count: usize)
     kept.rotate_right(more);
 }
 
-/// Returns the word of the data range with this number.
+/// Returns the word of the data range with the given number.
 pub fn global_word(kept: &[u32], number: usize) -> u32
     requires { number < DATA_WORDS }
     ensures { result ≡ slice_index (all_globals kept.now) number }
@@ -56,7 +56,7 @@ pub fn global_word(kept: &[u32], number: usize) -> u32
     if number < kept.len() { kept[number] } else { 0 }
 }
 
-/// Writes the word of the data range with this number.
+/// Writes the word of the data range with the given number.
 pub fn set_global_word(kept: &mut Vec<u32>, number: usize, word: u32)
     requires inside { number < DATA_WORDS }
     requires short { length kept.old.items ≤ DATA_WORDS }
@@ -70,7 +70,8 @@ pub fn set_global_word(kept: &mut Vec<u32>, number: usize, word: u32)
     kept[number] = word;
 }
 
-/// Extends the stored part of the data range to the word with this number, which is about to be accessed.
+/// Extends the stored part of the data range up to the word with the given number, which is about to be
+/// accessed.
 pub fn keep_global_word(kept: &mut Vec<u32>, number: usize)
     requires inside { number < DATA_WORDS }
     requires short { length kept.old.items ≤ DATA_WORDS }
@@ -84,7 +85,7 @@ pub fn keep_global_word(kept: &mut Vec<u32>, number: usize)
     keep_first(kept, next);
 }
 
-/// Returns the word with this number of a stack of `count` words, counted from the lowest one.
+/// Returns a word of a stack of `count` words, by its number counted from the lowest word.
 pub fn stack_word(kept: &[u32], count: usize, number: usize) -> u32
     requires inside { number < count }
     requires short { length kept.now ≤ count }
@@ -98,7 +99,7 @@ pub fn stack_word(kept: &[u32], count: usize, number: usize) -> u32
     }
 }
 
-/// Writes the word with this number of a stack of `count` words, counted from the lowest one.
+/// Writes a word of a stack of `count` words, by its number counted from the lowest word.
 pub fn set_stack_word(kept: &mut Vec<u32>, count: usize, number: usize, word: u32)
     requires inside { number < count }
     requires short { length kept.old.items ≤ count }
@@ -114,7 +115,8 @@ pub fn set_stack_word(kept: &mut Vec<u32>, count: usize, number: usize, word: u3
     kept[next - wanted] = word;
 }
 
-/// Extends the stored part of a stack of `count` words down to the word with this number, which is about to be accessed.
+/// Extends the stored part of a stack of `count` words down to the word with the given number, which is about to be
+/// accessed.
 pub fn keep_stack_word(kept: &mut Vec<u32>, count: usize, number: usize)
     requires inside { number < count }
     requires short { length kept.old.items ≤ count }

@@ -1,4 +1,5 @@
-//! A MIPS32 machine for user programs: loading an image, and executing its instructions one at a time.
+//! A MIPS32 machine for user programs: it loads an image, and executes the image's instructions one at
+//! a time.
 #![tactic(auto)]
 
 mod access;

@@ -1,4 +1,4 @@
-//! The limits of a run.
+//! The limits of a run: heap pages and active calls.
 
 ghost use Rattle.std.specs.Prelude.{◌≡◌, ◌≤◌, ◌↔◌, IsSome, IfSome};
 ghost use Rattle.cyc_machine_model.specs.Bounds.{AreAllowed};
@@ -6,14 +6,15 @@ ghost use Rattle.cyc_machine_model.specs.Bounds.{AreAllowed};
 use cyc_machine_model::constants::{MAX_CALLS, MAX_PAGES, MIN_CALLS, MIN_PAGES};
 use std::marker::Model;
 
-/// The limits of a run: pages of the store, from 3 to 65,536, and calls at once, from 1 to 4,096.
+/// The limits of a run: the number of heap pages, from 3 to 65,536, and the number of
+/// simultaneously active calls, from 1 to 4,096.
 #[derive(Clone, Copy, Debug, PartialEq, Eq)]
 pub struct Limits {
     pages: u32,
     calls: u32,
 }
 
-// Contracts refer to both numbers.
+// Contracts refer to the page limit and to the call limit.
 impl Model for Limits {
     ghost use Rattle.cyc_machine_model.specs.Bounds.{Bounds, AreAllowed};
 
@@ -27,7 +28,7 @@ impl Model for Limits {
 }
 
 impl Limits {
-    /// Returns the limits, or `None` exactly if one of the numbers is out of its range.
+    /// Returns the limits, or `None` exactly if one of the two numbers is out of its range.
     pub fn new(pages: u32, calls: u32) -> Option<Limits>
         ensures allowed { IsSome result ↔ AreAllowed pages calls }
         ensures values { IfSome result (λ l. l ≡ record { pages = pages; calls = calls }) }
@@ -39,7 +40,7 @@ impl Limits {
         }
     }
 
-    /// Returns the number of pages of the store, of 4,096 bytes each.
+    /// Returns the number of heap pages, of 4,096 bytes each.
     pub fn pages(&self) -> u32
         ensures value { result ≡ self.now.pages }
         ensures allowed { AreAllowed self.now.pages self.now.calls }
@@ -47,7 +48,8 @@ impl Limits {
         self.pages
     }
 
-    /// Returns the most calls at once. The stack has 256 words for each.
+    /// Returns the maximum number of simultaneously active calls. The stack has 256 words for each
+    /// call.
     pub fn calls(&self) -> u32
         ensures value { result ≡ self.now.calls }
         ensures allowed { AreAllowed self.now.pages self.now.calls }

@@ -1,4 +1,4 @@
-//! The results of the instructions on words.
+//! The results that instructions compute from words.
 
 ghost use Rattle.std.specs.Prelude.{◌≡◌, ◌<◌, ◌^◌};
 ghost use Rattle.cyc_words.specs.Word.{sign_extended};
@@ -41,7 +41,7 @@ pub fn immediate(op: ImmediateOp, a: u32, half: u16) -> u32
     }
 }
 
-/// Returns an immediate in the upper half of a word.
+/// Returns a word with an immediate in its upper half.
 #[inline]
 pub fn upper(half: u16) -> u32
     ensures { result ≡ load_upper_result half }
@@ -78,7 +78,7 @@ pub fn arithmetic(op: ArithmeticOp, a: u32, b: u32) -> u32
     }
 }
 
-/// Returns the upper and the lower word of the signed product.
+/// Returns the upper and the lower word of the signed product of two words.
 #[inline]
 pub fn product(a: u32, b: u32) -> (u32, u32)
     ensures high { result.0 ≡ high_result MultiplyDivideOp.Multiply a b }
@@ -113,7 +113,7 @@ pub fn taken_by_sign(op: BranchZeroOp, a: u32) -> bool
     }
 }
 
-/// Returns the target of a branch at an address.
+/// Returns the target of a branch, from the branch's address and offset.
 #[inline]
 pub fn branch_goes_to(address: u32, offset: u16) -> u32
     ensures { result ≡ branch_target address offset }
@@ -121,7 +121,7 @@ pub fn branch_goes_to(address: u32, offset: u16) -> u32
     add(add(address, 4), mul(4, sign_extend(offset)))
 }
 
-/// Returns the target of a jump at an address.
+/// Returns the target of a jump, from the jump's address and its index field.
 #[inline]
 pub fn jump_goes_to(address: u32, index: u32) -> u32
     requires { index < 2 ^ 26 }
@@ -130,7 +130,7 @@ pub fn jump_goes_to(address: u32, index: u32) -> u32
     add(address, 4) / 0x1000_0000 * 0x1000_0000 + index * 4
 }
 
-/// Returns the address after the delay slot of a call.
+/// Returns the return address of a call: the address after the call's delay slot.
 #[inline]
 pub fn link(address: u32) -> u32
     ensures { result ≡ return_address address }

@@ -1,4 +1,4 @@
--- lemmas that the laws and the proofs of compilation cite
+-- lemmas about the MIPS machine that the laws and the proofs of compilation cite
 pub mod StepLaws
 pub mod RunLaws
 pub mod ShapeLaws

@@ -15,7 +15,7 @@ Goes-over w w' end ended (event, s, step, is) =
     let stays = subst (λ (p : Phase). StepIn p w.machine event s) ended step in
     is ∙ (ap (λ e. reported w e s) stays.0 ∙ ap (λ m. reported w (Ended end) m) stays.1)
 
--- A world that has ended can go on as it is.
+-- A world that has ended can step to itself.
 pub Goes-rests : (w : World) (end : End) → w.machine.phase ≡ Over end → Goes w w
 Goes-rests w end over = (Ended end, w.machine, subst (λ (p : Phase). StepIn p w.machine (Ended end) w.machine) (sym over) (refl, refl), refl)
 
@@ -25,7 +25,7 @@ Run-over (suc count) w w' end ended (mid, goes, run) =
     let same = Goes-over w mid end ended goes in
     Run-over count mid w' end (ap (λ v. v.machine.phase) same ∙ ended) run ∙ same
 
--- New output is appended at the end.
+-- A step appends new output to the end of the output so far.
 reported-output : (w : World) (event : Event) (s : State) → IsPrefix w.output (reported w event s).output
 reported-output w Ran s = ([], sym (append-nil w.output))
 reported-output w WantsByte s = ([], sym (append-nil w.output))
@@ -60,7 +60,7 @@ run_in_parts (suc m) n u w run =
     let rest = run_in_parts m n more.0 w more.2 in
     (rest.0, (more.0, more.1, rest.1), rest.2)
 
--- Input is consumed from its front.
+-- A step consumes input from its front.
 reported-input : (w : World) (event : Event) (s : State) → (read : List ℕ) × (w.input ≡ read ++ (reported w event s).input)
 reported-input w Ran s = ([], refl)
 reported-input w WantsByte s = (take 1 w.input, sym (take-append-drop 1 w.input))
@@ -80,7 +80,7 @@ Run-input (suc count) w w' (mid, goes, run) =
     let then = Run-input count mid w' run in
     (first.0 ++ then.0, first.1 ∙ (ap (λ rest. first.0 ++ rest) then.1 ∙ sym (append_assoc first.0 then.0 w'.input)))
 
--- A phase with an end is that of an ended run.
+-- If a phase has an end, it is the phase of a run that has ended.
 over-end_in : (phase : Phase) (end : End) → end_in phase ≡ Some end → phase ≡ Over end
 over-end_in Running end ended = cc
 over-end_in Waiting end ended = cc

@@ -1,13 +1,14 @@
--- The limits of a run. The ranges are this project's own choice.
+-- The limits of a run, whose allowed values are this project's own choice.
 use Rattle.std.specs.Prelude.{ℕ, ◌≤◌}
 use Rattle.cyc_machine_model.specs.declared.constants.TheConstants.{MIN_PAGES, MAX_PAGES, MIN_CALLS, MAX_CALLS}
 
--- The number of pages of the store, and the most calls at once.
+-- The limits of a run: the number of pages of the store, and the most calls that may be active at
+-- once.
 pub record Bounds : Type 0 where
   pub pages : ℕ
   pub calls : ℕ
 
--- Both limits are in their ranges.
+-- `AreAllowed` says that both limits of a run have allowed values.
 pub record AreAllowed (pages calls : ℕ) : Type 0 where
   pub enough_pages : MIN_PAGES ≤ pages
   pub few_pages : pages ≤ MAX_PAGES

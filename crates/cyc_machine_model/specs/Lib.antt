@@ -1,9 +1,9 @@
--- the machine: its state, a step, a run, and the initial state for an image
+-- the MIPS machine: its state, a step, a run, and the initial state for an image
 pub mod State
 pub mod Step
 pub mod Run
 pub mod Bounds
 pub mod Start
--- the machine as a transition system, and the parts that no step changes
+-- the MIPS machine as a transition system, and the parts of its state that no step changes
 pub mod WorldMachine
 pub mod Shape

@@ -7,7 +7,7 @@ pub const TEXT_BASE: u32 = 0x40_0000;
 /// The first address past the text range.
 pub const TEXT_END: u32 = 0x200_0000;
 
-/// The number of words of the text range.
+/// The number of words in the text range.
 pub const TEXT_WORDS: usize = ((TEXT_END - TEXT_BASE) / 4) as usize;
 
 /// The first address of the data range.
@@ -16,25 +16,25 @@ pub const DATA_BASE: u32 = 0x1000_0000;
 /// The first address past the data range.
 pub const DATA_END: u32 = 0x1040_0000;
 
-/// The number of words of the data range.
+/// The number of words in the data range.
 pub const DATA_WORDS: usize = ((DATA_END - DATA_BASE) / 4) as usize;
 
 /// The first address past the stack.
 pub const STACK_END: u32 = 0x7fff_f000;
 
-/// The number of words of the stack for each allowed call.
+/// The number of words that the stack has for each allowed call.
 pub const WORDS_PER_CALL: usize = 256;
 
-/// The fewest pages of the store.
+/// The smallest allowed number of pages of the store.
 pub const MIN_PAGES: u32 = 3;
 
-/// The most pages of the store.
+/// The greatest allowed number of pages of the store.
 pub const MAX_PAGES: u32 = 65_536;
 
-/// The lowest limit of calls.
+/// The lowest allowed limit of active calls.
 pub const MIN_CALLS: u32 = 1;
 
-/// The highest limit of calls.
+/// The highest allowed limit of active calls.
 pub const MAX_CALLS: u32 = 4096;
 
 /// The service that reads a byte of the input.
@@ -43,16 +43,17 @@ pub const GET_BYTE: u32 = 1;
 /// The service that prints a byte.
 pub const PUT_BYTE: u32 = 2;
 
-/// The service that ends a run: the program returned.
+/// The service that ends a run because the program has returned.
 pub const END_RETURNED: u32 = 3;
 
-/// The service that ends a run: an exception was not caught.
+/// The service that ends a run because no handler has caught an exception.
 pub const END_UNCAUGHT: u32 = 4;
 
-/// The service that opens a lexical region. The service returns the region's handle and the number of regions that were open.
+/// The service that opens a lexical region. The service returns the region's handle and the number of lexical regions that
+/// were open before.
 pub const OPEN_LEXICAL: u32 = 5;
 
-/// The service that closes the newest lexical regions until the given number are open.
+/// The service that closes the newest lexical regions until only the requested number is open.
 pub const CLOSE_LEXICAL: u32 = 6;
 
 /// The service that opens a dynamic region and returns its handle.
@@ -61,29 +62,32 @@ pub const OPEN_DYNAMIC: u32 = 7;
 /// The service that closes a dynamic region.
 pub const CLOSE_DYNAMIC: u32 = 8;
 
-/// The service that allocates a block of the given number of words in a region and returns the block's address.
+/// The service that allocates a block of a requested number of words in a region and returns the block's
+/// address.
 pub const ALLOCATE: u32 = 9;
 
-/// The service that frees a unique block.
+/// The service that frees a block to which the program has a unique pointer.
 pub const FREE: u32 = 10;
 
-/// The service that ends a run: there was no room.
+/// The service that ends a run because the stack has no space for another call.
 pub const END_FULL: u32 = 11;
 
-/// The register with the number of the requested service, and then with its first result.
+/// The register that holds the number of the requested service, and later the first word of its
+/// result.
 pub const SERVICE: u8 = 2;
 
-/// The register with the second result of a service.
+/// The register that holds the second word of a service's result.
 pub const SECOND_ANSWER: u8 = 3;
 
-/// The register with the first argument of a service. At the start of a run the register holds the call limit.
+/// The register that holds the first argument of a service. At the start of a run it holds the call limit.
 pub const ARGUMENT: u8 = 4;
 
-/// The register with the second argument of a service.
+/// The register that holds the second argument of a service.
 pub const SECOND_ARGUMENT: u8 = 5;
 
-/// The register with the stack's lowest used address. At the start of a run the register holds the stack's end.
+/// The register that holds the lowest used address of the stack. At the start of a run it holds the end of the
+/// stack.
 pub const STACK_POINTER: u8 = 29;
 
-/// The register in which `jal` leaves the return address.
+/// The register in which the `jal` instruction leaves the return address.
 pub const RETURN_ADDRESS: u8 = 31;

@@ -1,15 +1,15 @@
-//! Events of a step of the machine, and ends of runs.
+//! The events of steps of the MIPS machine, and the ends of runs.
 
-/// The reason why the machine refused to continue.
+/// The cause of a trap: the reason for which the machine refused an instruction.
 ///
-/// If several hold, the machine reports the first in the order of this list. Errors in fetching an instruction come before all events of
-/// this list.
+/// If an instruction has several causes to be refused, the machine reports the first in the order of this list. Errors in fetching an
+/// instruction come before all causes of this list.
 #[derive(Clone, Copy, Debug, PartialEq, Eq)]
 pub enum Cause {
     /// The word at the program counter encodes no instruction.
     ReservedInstruction,
-    /// The architecture leaves the instruction's effect open: a jump or branch in a delay slot, a division by 0, a `jalr` with two equal
-    /// registers. By this project's own choice the effect of dividing -2147483648 by -1 is also left open.
+    /// The architecture does not define the instruction's effect: a jump or branch in a delay slot, a division by 0, or a `jalr` with
+    /// two equal registers. As this project chooses, the division of -2147483648 by -1 is also not defined.
     Unpredictable,
     /// An instruction is fetched, or a word is loaded or stored, at an address that is not a multiple of 4.
     Misaligned,
@@ -17,46 +17,50 @@ pub enum Cause {
     NoSuchAddress,
     /// The address is in the store's pages but in no live block.
     DeadCell,
-    /// A store to the text range.
+    /// A store instruction writes to the text range.
     WriteToText,
     /// A `break` instruction.
     Break,
-    /// A `syscall` whose number is no service, or that the service refused.
+    /// A `syscall` whose number is that of no service, or whose request the service refused.
     BadService,
 }
 
-/// The way in which a run ended.
+/// The way in which a run of the machine ended.
 #[derive(Clone, Copy, Debug, PartialEq, Eq)]
 pub enum End {
-    /// The program returned this value.
+    /// The program returned from `main` with this value.
     Returned(i32),
-    /// An exception was not caught: its number, and its value, which is 0 if it has none.
+    /// An exception was not caught. The fields are the exception's number, and its value, or 0 if
+    /// it has none.
     Uncaught(u32, i32),
-    /// A request failed for lack of room, in the store's pages or for another call.
+    /// A request failed because the store had no free pages, or a call because the stack had no
+    /// space for it.
     Full,
     /// The machine refused to execute an instruction.
     Trap(Cause),
 }
 
-/// The event of a step, as seen from outside.
+/// The event of a machine's step, as observed from outside.
 #[derive(Clone, Copy, Debug, PartialEq, Eq)]
 pub enum Event {
-    /// An instruction was executed, with no other event.
+    /// An instruction was executed, and no other event happened.
     Ran,
     /// The program requests a byte of input. The machine waits until the byte is supplied.
     WantsByte,
     /// The program printed this byte.
     Puts(u8),
-    /// The run has ended.
+    /// The run has ended in this way.
     Ended(End),
-    /// The store lacks memory. No instruction was executed, and nothing changed.
+    /// The store lacks memory. The instruction was not executed, and the machine's state is
+    /// unchanged.
     NoMemory,
 }
 
-/// The exchange of an instruction with the input and output devices.
+/// The exchange of data between an instruction and the input and output devices.
 #[derive(Clone, Copy, Debug, PartialEq, Eq)]
 pub enum Exchange {
-    /// No exchange, or an event that only `step` reports. No instruction was executed, and nothing changed.
+    /// The instruction exchanges no data, or its event is one that only `step` reports. No instruction was
+    /// executed, and the machine's state is unchanged.
     Nothing,
     /// The program requests a byte of input. The machine waits until the byte is supplied.
     Wants,
@@ -64,8 +68,8 @@ pub enum Exchange {
     Puts(u8),
 }
 
-/// A number of instructions and the event of the last one; all others only ran. The event is `Ran` only if the requested number was
-/// reached. If the event is `NoMemory`, the instruction that lacked memory is not counted.
+/// A number of executed instructions and the event of the last one; all others emitted `Ran`. The event is `Ran` only if the
+/// requested number was reached. If the event is `NoMemory`, the instruction that lacked memory is not counted.
 #[derive(Clone, Copy, Debug, PartialEq, Eq)]
 pub struct Stretch {
     pub count: u64,

@@ -1,5 +1,5 @@
-//! Laws of the definitions in `specs/`. Each function of this file is empty, and its contract states one law, which is proved with the
-//! crate. The lemmas that other proofs cite are in `proofs/`.
+//! Laws of the definitions in `specs/`. Each function of this file is empty, and the function's contract states one law, which is
+//! proved with the crate. The lemmas that other proofs cite are in `proofs/`.
 
 ghost use Rattle.std.specs.Prelude.{◌≡◌, ◌≢◌, ℕ, ◌+◌, ◌<◌, List, ◌++◌, length, Some};
 ghost use Rattle.cyc_words.specs.Seen.{IsPrefix};
@@ -17,36 +17,37 @@ pub fn ended_stays()
     ensures { (count : ℕ) (old new : World) (end : End) → end_of old ≡ Some end → Run count old new → new ≡ old }
 {}
 
-/// Output only grows, and input is consumed from its front.
+/// In a run of the machine, output only grows, and input is consumed from its front.
 pub fn output_grows()
     ensures output { (count : ℕ) (old new : World) → Run count old new → IsPrefix old.output new.output }
     ensures input { (count : ℕ) (old new : World) → Run count old new → (read : List ℕ) × (old.input ≡ read ++ new.input) }
 {}
 
-/// Consecutive runs compose to a run, and each run can be split in two.
+/// Two consecutive runs compose to one run, and each run can be split in two.
 pub fn runs_compose()
     ensures joined { (m n : ℕ) (u v w : World) → Run m u v → Run n v w → Run (m + n) u w }
     ensures split { (m n : ℕ) (u w : World) → Run (m + n) u w → (v : World) × Run m u v × Run n v w }
 {}
 
-/// No run changes the text, the numbers of words and registers, or the store's pages.
+/// No run changes the text, the numbers of words and registers, or the number of the store's pages.
 pub fn shape_stays()
     ensures { (count : ℕ) (old new : World) → Run count old new → SameShape old.machine new.machine }
 {}
 
-/// An event determines the phase after it: only `Ended` ends a run.
+/// The event of a step determines the machine's phase after the step: only `Ended` ends a run.
 pub fn events_tell_the_phase()
     ensures { (old new : State) (event : Event) → Step old event new → new.phase ≡ phase_after event }
 {}
 
-/// A register reads the word last written to it, except register 0, which reads 0.
+/// A read of a register yields the word last written to this register, except that register 0
+/// always reads 0.
 pub fn registers_hold()
     ensures zero { (core : Core) → register core 0 ≡ 0 }
     ensures same { (core : Core) (number value : ℕ) → number ≢ 0 → number < length core.registers → register (with_register core number value) number ≡ value }
     ensures other { (core : Core) (number other value : ℕ) → other ≢ number → register (with_register core number value) other ≡ register core other }
 {}
 
-/// A place in the data range, the stack or a live block holds the word last stored there.
+/// A load from the data range, the stack or a live block reads the word last stored there.
 pub fn memory_holds()
     ensures globals { (m : Memory) (number word : ℕ) → number < length m.globals → loaded (stored m (InGlobals number) word) (InGlobals number) ≡ word }
     ensures stack { (m : Memory) (number word : ℕ) → number < length m.stack → loaded (stored m (InStack number) word) (InStack number) ≡ word }

@@ -1,5 +1,5 @@
-//! The MIPS32 machine as definitions: its state, a step, a run, and their laws. The code consists of the machine's constants and the events
-//! of a step.
+//! Definitions of the MIPS32 machine: its state, a step, a run, and their laws. The code of this crate consists of the machine's constants
+//! and the events of a step.
 #![tactic(auto)]
 
 pub use event::{Cause, End, Event, Exchange, Stretch};

@@ -1,4 +1,4 @@
-//! The phase of the machine.
+//! The phase of the MIPS machine: running, waiting for input, or ended.
 
 use crate::event::End;
 

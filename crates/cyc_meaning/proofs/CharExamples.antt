@@ -17,14 +17,14 @@ use Rattle.cyc_meaning.proofs.ExampleTrees.{here, int, local, two, print, execut
 
 -- ---- trees
 
--- an int converted to a char, by its low byte; and a char converted to an int
+-- Examples: an int converted to a char keeps only its low byte, and a char converts to an int.
 abbrev low : Expression → Converted
 low a = Convert kinds.Int kinds.Char a
 
 abbrev up : Expression → Converted
 up a = Convert kinds.Char kinds.Int a
 
--- a char used as an int
+-- Converts a char to an int, for use as an int.
 abbrev wide : Expression → Expression
 wide a = Unary unary.Widen a
 
@@ -81,11 +81,12 @@ low_bytes : end (program (
     ∷ [])) ≡ HasEnded (Returned (pos 261))
 low_bytes = refl
 
--- `char a = 200; char b = 100; return a + b;`: the operands are converted to ints
+-- `char a = 200; char b = 100; return a + b;`: the chars are converted to ints before they are
+-- added
 sum_of_chars : end (program (define 0 Char (low (Number 200)) ∷ define 1 Char (low (Number 100)) ∷ return (sum (wide (char 0)) (wide (char 1))) ∷ [])) ≡ HasEnded (Returned (pos 300))
 sum_of_chars = refl
 
--- a char without its conversion is not an int
+-- A char that is used as an int without a conversion makes the program wrong.
 char_is_no_int : end (program (define 0 Char (low (Number 200)) ∷ return (sum (char 0) (Number 1)) ∷ [])) ≡ IsWrong
 char_is_no_int = refl
 

@@ -1,4 +1,5 @@
--- Examples of dead accesses, and of ill-formed trees; the checker rejects all of their texts. Each example is proved by computation.
+-- Examples of dead accesses (accesses to freed memory), and of ill-formed trees; the checker rejects all of their texts. Each
+-- example is proved by computation.
 use Rattle.std.proofs.Common.{◌≡◌, ℕ, List, [], ◌∷◌, None, pos, refl}
 use Rattle.cyc_words.specs.Ending.{Returned}
 use Rattle.cyc_syntax.specs.declared.tree.PointerKind.TheVariants as marks
@@ -33,14 +34,15 @@ freed_twice_is_dead = refl
 freed_and_swapped : end (freed (declare 1 (Number 1) ∷ Execute (Swap (side 1 Int) (CellSide (target own (peek 0 own)))) ∷ [])) ≡ IsDead
 freed_and_swapped = refl
 
--- after the `ufree`, `u == u` is dead, and `u == NULL` is not
+-- After `ufree(u)`, evaluating `u == u` is a dead access (one to freed memory), and `u == NULL` is
+-- not.
 freed_and_compared : end (freed (return (apply (peek 0 own) pointers.EqualThin (peek 0 own) Int) ∷ [])) ≡ IsDead
 freed_and_compared = refl
 
 freed_and_compared_with_null : end (freed (return (apply (peek 0 own) pointers.ThinIsNull NullPointer Int) ∷ [])) ≡ HasEnded (Returned (pos 0))
 freed_and_compared_with_null = refl
 
--- comparing the freed pointer with a null pointer in a variable is not dead either
+-- Comparing a freed pointer with a variable that holds a null pointer is not a dead access.
 freed_and_compared_with_null_value : end (freed (define 1 star (null_as star) ∷ return (apply (peek 0 own) pointers.EqualThin (variable 1 star) Int) ∷ [])) ≡ HasEnded (Returned (pos 0))
 freed_and_compared_with_null_value = refl
 
@@ -135,7 +137,8 @@ stale after = program (
     ∷ define 4 star (null_as star)
     ∷ after)
 
--- `p == p`, `p == q` and `q != p` are dead; `p == z` and `z != p` are not, and the pointers differ
+-- For a stale pointer p, `p == p`, `p == q` and `q != p` are dead accesses; `p == z` and `z != p`
+-- are not, and the pointers differ.
 stale_compared_with_itself : long_end (stale (return (apply (variable 1 star) pointers.EqualThin (variable 1 star) Int) ∷ [])) ≡ IsDead
 stale_compared_with_itself = refl
 
@@ -169,14 +172,15 @@ closed_region's_freed = refl
 read_of_nothing : end (program (Declare 0 Int None ∷ return (local 0) ∷ [])) ≡ IsWrong
 read_of_nothing = refl
 
--- a local that was never declared, and a counter outside every `for`
+-- Using a local that was never declared is wrong, and so is using a counter outside every `for`.
 no_local : end (program (return (local 3) ∷ [])) ≡ IsWrong
 no_local = refl
 
 no_counter : end (program (return (Counter 0) ∷ [])) ≡ IsWrong
 no_counter = refl
 
--- a pointer as the int that is returned, and a pointer of another kind than the tree states
+-- A program is wrong if it returns a pointer as an int, or uses a pointer of another kind than its
+-- tree states.
 wrong_kind_returned : end (program (return (new OnHeap at (Number 1)) ∷ [])) ≡ IsWrong
 wrong_kind_returned = refl
 
@@ -186,7 +190,8 @@ wrong_kind_of_variable = refl
 wrong_kind_followed : end (program (define 0 at (convert at at (new OnHeap at (Number 1))) ∷ return (Load (typed.Target kinds.Fat (variable 0 at) Int)) ∷ [])) ≡ IsWrong
 wrong_kind_followed = refl
 
--- `&*p`, and a conversion of a fat pointer, if the target is an int but the tree states a pointer
+-- `&*p`, or a conversion of a fat pointer, is wrong if the target is an int but the tree states a
+-- pointer.
 wrong_kind_of_target : end (program (define 0 at (convert at at (new OnHeap at (Number 1))) ∷ execute (AddressOfCell (typed.Target kinds.NonNull (variable 0 at) star) at) ∷ [])) ≡ IsWrong
 wrong_kind_of_target = refl
 
@@ -196,19 +201,19 @@ wrong_kind_of_element : end (program (
     ∷ [])) ≡ IsWrong
 wrong_kind_of_element = refl
 
--- a fat pointer `int ?q` as the left operand of a comparison of thin pointers
+-- A fat pointer `int ?q` as the left operand of a comparison of thin pointers is wrong.
 wrong_kind_compared : end (program (define 0 fat (null_as fat) ∷ return (apply (variable 0 fat) pointers.EqualThin NullPointer Int) ∷ [])) ≡ IsWrong
 wrong_kind_compared = refl
 
--- `ufree` of an object in a region
+-- Applying `ufree` to an object in a region is wrong.
 free_of_a_region's : end (program (execute (FreeUnique (new OnHeap at (Number 1))) ∷ [])) ≡ IsWrong
 free_of_a_region's = refl
 
--- `int f(int a){ return a; }` called without its argument
+-- Calling `int f(int a){ return a; }` without its argument is wrong.
 argument_is_missing : end (program_with (function (Int ∷ []) (return (local 0) ∷ []) ∷ []) (return (Call (callees.Function 1) NoArguments (Value Int)) ∷ [])) ≡ IsWrong
 argument_is_missing = refl
 
--- `int x = 1; int *p = NULL; x :=: p;`
+-- `int x = 1; int *p = NULL; x :=: p;` is wrong, because the swapped values have different kinds.
 wrong_kind_swapped : end (program (declare 0 (Number 1) ∷ define 1 star (null_as star) ∷ Execute (Swap (side 0 Int) (side 1 star)) ∷ [])) ≡ IsWrong
 wrong_kind_swapped = refl
 

@@ -1,4 +1,4 @@
--- The effect of each kind of step on the demand.
+-- The effect of each kind of step on the demand (the number of pages of the store in use).
 use Rattle.std.proofs.Common.{◌≡◌, ℕ, zero, suc, ◌+◌, Bool, true, false, List, [], ◌∷◌, ◌++◌, set, Some, None, refl, ap, arith}
 use Rattle.std.specs.Prelude.{if◌then◌else◌, slice_get}
 use Rattle.cyc_words.specs.Demand.{total, region_pages, demand_of}
@@ -8,7 +8,7 @@ use Rattle.cyc_meaning.specs.State.{Region, World, new_region, has_pages, counte
 use Rattle.cyc_meaning.specs.inside.Effects.{Changes, Keeps, Opens, Closes, Makes, MakesIn, MakesUnique, Frees, Writes, Prints, Reads, pages_in, DemandChanges}
 use Rattle.cyc_meaning.proofs.NestingLemmas.{region_found}
 
--- the sum of the pages of all regions
+-- Returns the sum of the pages of all regions.
 abbrev all_pages : List Region → ℕ
 all_pages [] = 0
 all_pages (r ∷ regions) = pages_in r + all_pages regions

@@ -77,7 +77,7 @@ block is = Block 1 (items is)
 abbrev pub while : Expression → Statement → typed.Item
 while a s = Execute (typed.While here a s)
 
--- a function with these parameters that returns an int
+-- A function with the given parameter types that returns an int.
 abbrev pub function : List Ty → List typed.Item → Function
 function parameters is = record {
   name = 0;
@@ -94,35 +94,35 @@ function parameters is = record {
   end = here;
 }
 
--- a program with `main`, which has the number 0, and other functions
+-- A program with `main`, which has the number 0, and other functions.
 abbrev pub program_with : List Function → List typed.Item → Program
 program_with functions is = record { structs = []; exceptions = []; globals = []; functions = function [] is ∷ functions; main = 0 }
 
 abbrev pub program : List typed.Item → Program
 program is = program_with [] is
 
--- the end of a program that runs for fewer steps than this
+-- Returns the status of a program after a run of up to 100 steps.
 abbrev pub end : Program → Status
 end p = status_of (run p [] 100)
 
 abbrev pub printed : Program → List ℕ
 printed p = output_of (run p [] 100)
 
--- the end of a program with a longer run
+-- Returns the status of a program after a run of up to 600 steps.
 abbrev pub long_end : Program → Status
 long_end p = status_of (run p [] 600)
 
 abbrev pub long_printed : Program → List ℕ
 long_printed p = output_of (run p [] 600)
 
--- the end of a program with room for this many calls
+-- Returns the status of a program that may have at most `calls` active calls and three pages.
 abbrev pub limited_end : ℕ → Program → Status
 limited_end calls p = status_of (limited_run p 3 calls [] 300)
 
 abbrev pub limited_printed : ℕ → Program → List ℕ
 limited_printed calls p = output_of (limited_run p 3 calls [] 300)
 
--- the end of a program on an input
+-- Returns the status of a program that reads the given input.
 abbrev pub end_on : List ℕ → Program → Status
 end_on input p = status_of (run p input 300)
 
@@ -140,7 +140,7 @@ at = Pointer marks.NonNull Int Heap
 abbrev pub fat : Ty
 fat = Pointer marks.Fat Int Heap
 
--- the types of unique pointers
+-- The types of unique pointers that the examples use.
 abbrev pub own_star : Ty
 own_star = Pointer marks.Nullable Int Unique
 
@@ -152,7 +152,7 @@ own_fat = Pointer marks.Fat Int Unique
 
 -- ---- expressions on pointers
 
--- the conversion of a value from the first type to the second
+-- Converts a value from the first type to the second.
 abbrev pub convert : (from to : Ty) → Expression → Converted
 convert from to a = Convert (kind_of from) (kind_of to) a
 
@@ -168,7 +168,7 @@ move number t = Move here number t
 abbrev pub peek : ℕ → Ty → Expression
 peek number t = Peek here number t
 
--- `*e`, for a pointer of this type to an int
+-- `*e`, where e is a pointer of the given type to an int
 abbrev pub target : Ty → Expression → Dereference
 target t a = Target (kind_of t) a Int
 
@@ -217,14 +217,15 @@ side number t = VariableSide (typed.Local here number) t
 
 -- ---- programs
 
--- a `void` function with these parameters
+-- A `void` function with the given parameter types.
 abbrev pub procedure : List Ty → List typed.Item → Function
 procedure parameters is = record (function parameters is) { result = None }
 
 abbrev pub call_void : ℕ → Converted → typed.Item
 call_void number c = execute (Call (callees.Function number) (MoreArguments c NoArguments) Void)
 
--- the end and the output of a program that runs for fewer steps than this, with this many pages and calls
+-- Returns the status of a program's limited run, with the given numbers of pages and calls, after up to
+-- 400 steps.
 abbrev pub end_within : (pages calls : ℕ) → Program → Status
 end_within pages calls p = status_of (limited_run p pages calls [] 400)
 

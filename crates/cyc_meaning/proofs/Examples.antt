@@ -1,4 +1,5 @@
--- Examples of the source's meaning, each proved by computation. The expected results come from the language's rules.
+-- Examples of the meaning of source programs, each proved by computation. The expected results come from the
+-- language's rules.
 use Rattle.std.proofs.Common.{◌≡◌, ℕ, List, [], ◌∷◌, Some, None, pos, negsuc, refl}
 use Rattle.cyc_words.specs.Word.{slt_of, sar_of, div_of, rem_of}
 use Rattle.cyc_words.specs.Ending.{Returned, Uncaught, Full}
@@ -15,7 +16,7 @@ use Rattle.cyc_meaning.specs.Run.{start, run}
 use Rattle.cyc_meaning.proofs.ExampleTrees.{int, local, global, two, both, either, assign, assign_global, print, read_byte, arguments, call, execute, return, declare, block}
 use Rattle.cyc_meaning.proofs.ExampleTrees.{while, function, program_with, program, end, printed, long_end, long_printed, limited_end, limited_printed, end_on, printed_on}
 
--- the end of a program that returns the value of one expression
+-- Returns the status of a program that returns the value of one expression.
 abbrev value : Expression → Status
 value a = end (program (return a ∷ []))
 
@@ -66,7 +67,7 @@ bits_or = refl
 bits_xor : value (two (Number 12) operators.Xor (Number 10)) ≡ HasEnded (Returned (pos 6))
 bits_xor = refl
 
--- a quotient is rounded toward zero, and a remainder has the sign of the dividend
+-- Division rounds a quotient toward zero, and a remainder has the sign of the dividend.
 quotient : value (two (Number 7) operators.Divide (Number 2)) ≡ HasEnded (Returned (pos 3))
 unfolding div_of
 quotient = refl
@@ -113,7 +114,7 @@ quotient_by_zero = refl
 remainder_by_zero : value (two (Number 0) operators.Remainder (Number 0)) ≡ HasEnded (Uncaught 4 (pos 0))
 remainder_by_zero = refl
 
--- shifts count modulo 32, and a right shift keeps the sign
+-- Shifts take their count modulo 32, and a right shift keeps the sign.
 shift_left : value (two (Number 3) operators.ShiftLeft (Number 1)) ≡ HasEnded (Returned (pos 6))
 shift_left = refl
 
@@ -149,7 +150,7 @@ shift_right_by_34 : value (two (Number 17) operators.ShiftRight (Number 34)) ≡
 unfolding sar_of
 shift_right_by_34 = refl
 
--- comparisons compare signed numbers, and give 0 or 1
+-- Comparisons compare signed numbers, and return 0 or 1.
 equal : value (two (Number 5) operators.Equal (Number 5)) ≡ HasEnded (Returned (pos 1))
 equal = refl
 
@@ -224,7 +225,7 @@ chain_is_in_order = refl
 chain_groups_to_the_left : value (Binary (print (Number 67)) (ThenCompute operators.Subtract (print (Number 66)) (ThenCompute operators.Subtract (print (Number 65)) NoOperations)) Int) ≡ HasEnded (Returned (negsuc 63))
 chain_groups_to_the_left = refl
 
--- `&&` and `||` stop if the left operand decides, and give 0 or 1
+-- `&&` and `||` do not evaluate the right operand if the left one decides, and return 0 or 1.
 and_stops : prints (both (Number 0) (print (Number 65))) ≡ []
 and_stops = refl
 
@@ -281,14 +282,14 @@ new_value_on_the_right = refl
 assignment_has_its_value : end (program (Declare 0 Int None ∷ Declare 1 Int None ∷ execute (assign 0 (assign 1 (Number 5))) ∷ return (two (local 0) operators.Add (local 1)) ∷ [])) ≡ HasEnded (Returned (pos 10))
 assignment_has_its_value = refl
 
--- `int x; return x;` is wrong, and so are the next two examples; the checker rejects them
+-- `int x; return x;` is wrong, and so are the next two examples; the checker rejects all three.
 unset_local_has_no_value : end (program (Declare 0 Int None ∷ return (local 0) ∷ [])) ≡ IsWrong
 unset_local_has_no_value = refl
 
 unknown_local_is_wrong : end (program (return (local 3) ∷ [])) ≡ IsWrong
 unknown_local_is_wrong = refl
 
--- the object of a local is dead after its block has ended
+-- An access to a local after its block has ended is dead (an access to freed memory).
 local_ends_with_its_block : end (program (Execute (block (declare 0 (Number 1) ∷ [])) ∷ return (local 0) ∷ [])) ≡ IsDead
 local_ends_with_its_block = refl
 
@@ -369,7 +370,8 @@ local_of_a_pass = program (
     ∷ execute (assign 0 (two (local 0) operators.Add (Number 1))) ∷ []))
     ∷ return (Number 9) ∷ [])
 
--- the local holds nothing yet in the second iteration
+-- A local declared in a loop body without an initial value holds no value yet in the second
+-- iteration.
 local_is_new_in_each_pass : long_end local_of_a_pass ≡ IsWrong
 unfolding slt_of
 local_is_new_in_each_pass = refl
@@ -387,7 +389,7 @@ return_from_within = program (
 returns_from_within : long_end return_from_within ≡ HasEnded (Returned (pos 12))
 returns_from_within = refl
 
--- no case applies if `main` ends without a value, or if a `break` is in no loop
+-- A program is wrong if `main` ends without a value, or if a `break` stands in no loop.
 main_must_return : end (program (execute (Number 1) ∷ [])) ≡ IsWrong
 main_must_return = refl
 
@@ -537,13 +539,13 @@ depth_at_the_start = refl
 depth_in_a_call : depth (run one_call [] 20) ≡ 2
 depth_in_a_call = refl
 
--- the heap has one page at the start
+-- At the start the heap needs one page.
 demand_at_the_start : demand (start one_call []) ≡ 1
 demand_at_the_start = refl
 
 -- ---- regions
 
--- the open regions, by their numbers from this one on
+-- Returns the numbers of the open regions, counted from the given number on.
 abbrev open_from : ℕ → List Region → List ℕ
 open_from number [] = []
 open_from number (r ∷ regions) = if r.is_open then number ∷ open_from (suc number) regions else open_from (suc number) regions
@@ -558,7 +560,7 @@ open_in (Wrong output input) = []
 abbrev two_blocks : Program
 two_blocks = program (Execute (block []) ∷ Execute (block (while (Number 1) Empty ∷ [])) ∷ return (Number 0) ∷ [])
 
--- The open regions are the heap, the globals, the region of `main`, and that of the second block. The first block's region is closed, and
--- its number is not reused.
+-- The open regions are the heap, the region of the globals, the region of `main`, and that of the second block. The first block's region
+-- is closed, and its number is not reused.
 second_block_is_open : open_in (run two_blocks [] 50) ≡ 0 ∷ 1 ∷ 2 ∷ 4 ∷ []
 second_block_is_open = refl

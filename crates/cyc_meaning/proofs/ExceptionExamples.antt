@@ -68,22 +68,22 @@ default_clause : end (program (try_to (Throw 7 None) (case 5 (return (Number 1) 
 default_clause = refl
 
 -- try putchar(65); catch { default: putchar(66); } return 3;
--- The end of the body leaves the `try`.
+-- If the body of a `try` ends normally, the run leaves the `try`.
 body_ends : end (program (try_to (Evaluate (print (Number 65))) (otherwise (execute (print (Number 66)) ∷ [])) ∷ return (Number 3) ∷ [])) ≡ HasEnded (Returned (pos 3))
 body_ends = refl
 
 -- try throw new A; catch { default: throw new B(1); }
--- A clause is not inside its own `try`.
+-- A catch clause is not inside its own `try`.
 thrown_in_clause : end (program (try_to (Throw 5 None) (otherwise (throw 6 (Some (Number 1)) ∷ [])) ∷ [])) ≡ HasEnded (Uncaught 6 (pos 1))
 thrown_in_clause = refl
 
 -- while (1) try break; catch { default: return 1; } return 2;
--- A `break` leaves the `try`.
+-- A `break` in the body of a `try` leaves the `try`.
 break_leaves : end (program (while (Number 1) (typed.Try typed.Break (otherwise (return (Number 1) ∷ []))) ∷ return (Number 2) ∷ [])) ≡ HasEnded (Returned (pos 2))
 break_leaves = refl
 
 -- int f(){ try return g / 0; catch { default: return 4; } }
--- The conversion of a returned value is still inside the `try`.
+-- The conversion of a returned value still happens inside the `try` that contains the `return`.
 returned_in_try : end (program (try_to (typed.Return (Some (int (two (Number 1) operators.Divide (Number 0))))) (otherwise (return (Number 4) ∷ [])) ∷ [])) ≡ HasEnded (Returned (pos 4))
 returned_in_try = refl
 
@@ -99,7 +99,8 @@ abbrev digs : typed.Item
 digs = try_to (Evaluate (assign 0 (two (local 0) operators.Add (call 1 (Number 1 ∷ []))))) (Case 5 (Some 1) 2 (items (execute (assign 0 (two (local 0) operators.Add (local 1))) ∷ [])) NoClauses)
 
 -- int s = 0; the try statement above, twice; return s;
--- A throw ends the calls that it leaves: with room for three calls none stays active.
+-- A throw ends the calls that it leaves: if three calls may be active, none stays active after the
+-- throw.
 abbrev digs_twice : Program
 digs_twice = program_with (dig ∷ []) (declare 0 (Number 0) ∷ digs ∷ digs ∷ return (local 0) ∷ [])
 
@@ -114,7 +115,7 @@ digs_full = refl
 abbrev stops : typed.Item
 stops = try_to (block (define 0 fat (convert fat fat (array OnHeap fat (Number 600) (call 1 (Counter 0 ∷ [])))) ∷ [])) (case 5 (execute (print (Number 120)) ∷ []) NoClauses)
 
--- the item above twice: the throw inside the initializer leaves the allocated block behind, so the second one needs another page
+-- The throwing initializer runs twice: each throw leaves its allocated block in the heap, so the second run needs another page.
 abbrev stops_twice : Program
 stops_twice = program_with
     (function (Int ∷ []) (Execute (If (two (local 0) operators.Equal (Number 1)) (Throw 5 None) Empty) ∷ return (local 0) ∷ []) ∷ [])
@@ -137,7 +138,7 @@ own_exception : end (program (throw 4 None ∷ [])) ≡ HasEnded (Uncaught 4 (po
 own_exception = refl
 
 -- int @f(int n){ int *p = NULL; try return p; catch { case &Null_Exception: putchar(65); } return new n; } return *f(7);
--- The returned value is converted inside its own `try`.
+-- A called function converts its returned value inside its own `try`.
 abbrev converted_in_try : Program
 converted_in_try = program_with (function (Int ∷ []) (
     define 1 star (null_as star)
@@ -225,7 +226,7 @@ thrown_often_full_prints : printed_within 1 2 thrown_often ≡ []
 thrown_often_full_prints = refl
 
 -- int f(int n){ try return f(n + 1); catch { default: putchar(88); return 0; } } putchar(65); return f(0);
--- Running out of calls is not an exception.
+-- Running out of calls ends the run and is not an exception, so no clause catches it.
 abbrev endless : Program
 endless = program_with (function (Int ∷ []) (
     try_to (typed.Return (Some (int (call 1 (two (local 0) operators.Add (Number 1) ∷ []))))) (otherwise (execute (print (Number 88)) ∷ return (Number 0) ∷ []))
@@ -238,7 +239,7 @@ endless_prints : printed_within 1 5 endless ≡ 65 ∷ []
 endless_prints = refl
 
 -- int f(int a, int b){ throw new E(a * 10 + b); } int s = 1; try { s = 2 + f(3, s + f(1, 2)); } catch { case &E(v): s = s + v; } return s;
--- The throw drops the continuations that wait for a value.
+-- A throw drops the continuations that wait for a value.
 waiting_is_dropped : end (program_with (function (Int ∷ Int ∷ []) (
     throw 5 (Some (two (two (local 0) operators.Multiply (Number 10)) operators.Add (local 1)))
     ∷ []) ∷ []) (

@@ -1,4 +1,5 @@
--- Examples of needs and frame counts, each proved by computation; each comment shows the sum.
+-- Examples of needs (bounds on temporary words) and of frame counts, each proved by
+-- computation; each comment shows the sum.
 use Rattle.std.proofs.Common.{◌≡◌, ℕ, zero, suc, List, [], ◌∷◌, None, refl}
 use Rattle.cyc_types.specs.declared.region.Region.TheVariants.{Heap}
 use Rattle.cyc_types.specs.declared.typed.PointerOperator.TheVariants as pointers
@@ -11,49 +12,53 @@ use Rattle.cyc_meaning.proofs.ExampleTrees.{here, local, assign, procedure, at, 
 
 -- ---- expressions
 
--- `a = 1`: the place, its value, and the result: 3 + 1 + 1
+-- `a = 1` needs the words of the assigned place, of its value, and of the result: 3 + 1 + 1
 of_assignment : expression_need (assign 0 (Number 1)) ≡ 5
 of_assignment = refl
 
--- `*p` for a thin pointer: the pointer and the int; a place that is only read adds nothing
+-- `*p` for a thin pointer needs one word for the pointer and one for the int; a cell that is only
+-- read adds nothing.
 of_read : expression_need (Load (target at (variable 0 at))) ≡ 2
 of_read = refl
 
--- p[i]: 3 + 1 + 1
+-- `p[i]` needs 3 + 1 + 1 words: the fat pointer, the index, and the int read.
 of_element : expression_need (Load (element (variable 0 fat) (local 1))) ≡ 5
 of_element = refl
 
--- `p[i] = 1`: the place has 3 words after its operands, 3 + 1 + 3, which is more than 3 + 1 + 1
+-- `p[i] = 1`: evaluating the assigned cell needs 3 words after its operands, 3 + 1 + 3, which is
+-- more than 3 + 1 + 1
 of_element_assigned : expression_need (put (element (variable 0 fat) (local 1)) (Number 1)) ≡ 7
 of_element_assigned = refl
 
--- &x: 3 + 1, and &p[i]: 3 + 1 + 3
+-- `&x` needs 3 + 1 words, and `&p[i]` needs 3 + 1 + 3.
 of_address : expression_need (AddressOf (typed.Local here 0) at) ≡ 4
 of_address = refl
 
 of_element_address : expression_need (AddressOfCell (element (variable 0 fat) (local 1)) at) ≡ 7
 of_element_address = refl
 
--- p == NULL of a fat pointer: 3 + 1 + 1
+-- `p == NULL` for a fat pointer needs 3 + 1 + 1 words.
 of_null_test : expression_need (apply (variable 0 fat) pointers.FatIsNull NullPointer Int) ≡ 5
 of_null_test = refl
 
--- `NULL == p[i]` for a cell with an int pointer: the word of NULL, plus the need of p[i]: 1 + 5
+-- `NULL == p[i]` for a cell with an int pointer needs one word for NULL, plus the need of
+-- `p[i]`: 1 + 5
 of_null_first : expression_need (apply NullPointer pointers.NullIs (Load (element (variable 0 fat) (local 1))) Int) ≡ 6
 of_null_first = refl
 
--- p + 1: 3 + 1 + 3, and numelts(p): 3 + 1
+-- `p + 1` needs 3 + 1 + 3 words, and `numelts(p)` needs 3 + 1.
 of_sum : expression_need (apply (variable 0 fat) pointers.AddFat (Number 1) fat) ≡ 7
 of_sum = refl
 
 of_count : expression_need (NumberOfElements (variable 0 fat)) ≡ 4
 of_count = refl
 
--- `q = p` with q fat and p thin: 3 + 3 + 3; the converted operand counts its larger size
+-- `q = p` with q fat and p thin needs 3 + 3 + 3 words; a converted operand counts the larger of its
+-- two sizes.
 of_converted : expression_need (set 0 fat (convert at fat (variable 1 at))) ≡ 9
 of_converted = refl
 
--- new 1: 1 + 1, rnew(h) 1 and rnew(unique_region) 1: 1 + 1 + 1
+-- `new 1` needs 1 + 1 words; `rnew(h) 1` and `rnew(unique_region) 1` need 1 + 1 + 1.
 of_new : expression_need (new OnHeap at (Number 1)) ≡ 2
 of_new = refl
 
@@ -63,50 +68,54 @@ of_new_by_handle = refl
 of_new_unique : expression_need (new AsUnique own (Number 1)) ≡ 3
 of_new_unique = refl
 
--- `new {for i < n : i}`: 4 words for the `for`, 1 for the element, 3 for the pointer, and one more after a handle
+-- `new {for i < n : i}` needs 4 words for the `for`, 1 for the element and 3 for the pointer, and one more after
+-- a handle.
 of_array : expression_need (array OnHeap fat (local 0) (Counter 0)) ≡ 8
 of_array = refl
 
 of_array_by_handle : expression_need (array (ByHandle (variable 1 (Handle Heap))) fat (local 0) (Counter 0)) ≡ 9
 of_array_by_handle = refl
 
--- `char(1)`: 1 + 1; a char used as an int needs only what the char needs
+-- `char(1)` needs 1 + 1 words; a char used as an int needs only the words that the char needs.
 of_low_byte : expression_need (Unary unary.LowByte (Number 1)) ≡ 2
 of_low_byte = refl
 
 of_char_as_int : expression_need (Unary unary.Widen (variable 0 Char)) ≡ 1
 of_char_as_int = refl
 
--- `free_ukey(k)`: the key, and no value
+-- `free_ukey(k)` needs one word for the key, and none for a value.
 of_free_key : expression_need (FreeKey (move 0 (Key Heap))) ≡ 1
 of_free_key = refl
 
--- `p[i] :=: x`: two places, 3 + 3; and the first with its operands, 3 + 1 + 3
+-- `p[i] :=: x` needs the larger of 3 + 3 for its two sides and 3 + 1 + 3 for the left side with its
+-- operands.
 of_swap : statement_need (Swap (CellSide (element (variable 0 fat) (local 1))) (side 2 Int)) ≡ 7
 of_swap = refl
 
--- `x :=: p[i]`: the second place after the first: 3 + 3 + 1 + 3
+-- `x :=: p[i]` evaluates the right side after the left one, so it needs 3 + 3 + 1 + 3 words.
 of_swap_right : statement_need (Swap (side 2 Int) (CellSide (element (variable 0 fat) (local 1)))) ≡ 10
 of_swap_right = refl
 
 -- ---- functions
 
--- a list of this many ints
+-- Returns a list of a given number of int types.
 abbrev ints : ℕ → List Ty
 ints zero = []
 ints (suc n) = Int ∷ ints n
 
--- a function that only declares 232 ints has a frame of 256 words
+-- A function that only declares 232 int locals has a frame of 256 words.
 of_ints : frame_count (record (procedure [] []) { locals = ints 232 }) ≡ 256
 of_ints = refl
 
--- The item region<`a> h; counts two words for its handle, and region<`k> h = open(k); counts one: 24 + 1 + 1
+-- The item `region<`a> h;` counts two words for its handle, and `region<`k> h = open(k);` counts
+-- one: 24 + 1 + 1
 of_lexical : frame_count (record (procedure [] (DeclareRegion 1 0 ∷ [])) { locals = Handle Heap ∷ [] }) ≡ 26
 of_lexical = refl
 
 of_opened : frame_count (record (procedure [] (OpenRegion 1 1 here 0 ∷ [])) { locals = Handle Heap ∷ [] }) ≡ 25
 of_opened = refl
 
--- try throw new A; catch { case &A: try ; catch { default: ; } } counts six words twice: 24 + 12
+-- `try throw new A; catch { case &A: try ; catch { default: ; } }` contains two `try`, each
+-- counting six words: 24 + 12
 of_tries : frame_count (procedure [] (try_to (Throw 5 None) (case 5 (try_to typed.Empty (typed.Default 2 typed.NoItems) ∷ []) NoClauses) ∷ [])) ≡ 36
 of_tries = refl

@@ -35,7 +35,7 @@ null_read_prints : printed (program (define 0 star (null_as star) ∷ execute (p
 null_read_prints = refl
 
 -- int *p = NULL; *p = putchar(65); return 0;
--- The place is checked before the right side is evaluated.
+-- In an assignment `*p = e`, the pointer p is checked before e is evaluated.
 place_before_value : long_printed (program (define 0 star (null_as star) ∷ execute (put (target star (variable 0 star)) (print (Number 65))) ∷ return (Number 0) ∷ [])) ≡ []
 place_before_value = refl
 
@@ -43,7 +43,7 @@ place_before_value_ends : long_end (program (define 0 star (null_as star) ∷ ex
 place_before_value_ends = refl
 
 -- int *p = NULL; return &*p == NULL;
--- The place under `&` is checked too.
+-- The operand of `&` is checked too: `&*p` with a null pointer p raises an exception.
 address_of_null : end (program (define 0 star (null_as star) ∷ return (apply (AddressOfCell (target star (variable 0 star)) at) pointers.ThinIsNull NullPointer Int) ∷ [])) ≡ HasEnded (Uncaught 1 (pos 0))
 address_of_null = refl
 
@@ -74,7 +74,7 @@ struct_fields : end (with_struct (program (
     ∷ []))) ≡ HasEnded (Returned (pos 7))
 struct_fields = refl
 
--- the struct example with an object of another shape: `new 3` as a struct
+-- The tree states a struct, but `new 3` makes an object of another shape, so the program is wrong.
 other_shape : end (with_struct (program (
     define 0 p (convert p p (new OnHeap p (Number 4)))
     ∷ return (Load x)
@@ -82,7 +82,8 @@ other_shape : end (with_struct (program (
 other_shape = refl
 
 -- struct P *p = NULL; p->x = putchar(65); return 0;
--- A field's place is checked before the right side is evaluated.
+-- In an assignment to a field, the pointer to the struct is checked before the right side is
+-- evaluated.
 abbrev p_star : Ty
 p_star = Pointer marks.Nullable (Struct 0 []) Heap
 
@@ -120,7 +121,8 @@ fields_of_all_sizes : long_end (record (program (
 fields_of_all_sizes = refl
 
 -- int *p = new 1; int *q = p; *p = *(p = new 5) + 1; return *q * 10 + *p;
--- A place that was evaluated stays that cell.
+-- Once the left side of an assignment is evaluated, the assignment writes to the cell found, even
+-- if the pointer changes.
 found_place_stays : long_end (program (
     define 0 star (convert at star (new OnHeap at (Number 1)))
     ∷ define 1 star (convert star star (variable 0 star))
@@ -182,7 +184,8 @@ past_the_end : long_end (program (
 past_the_end = refl
 
 -- int ?p = NULL; return p[putchar(65)];
--- Operands are evaluated before the checks; null is checked before the bounds.
+-- In `p[i]`, both operands are evaluated before the checks; the null check comes before the bounds
+-- check.
 null_element : end (program (define 0 fat (null_as fat) ∷ return (Load (element (variable 0 fat) (print (Number 65)))) ∷ [])) ≡ HasEnded (Uncaught 1 (pos 0))
 null_element = refl
 
@@ -190,7 +193,7 @@ null_element_prints : printed (program (define 0 fat (null_as fat) ∷ return (L
 null_element_prints = refl
 
 -- the array of letters; return *(p - 1 + 2);
--- An index may become negative and return.
+-- The index of a fat pointer may become negative and come back into its bounds.
 below_and_back : long_end (program (letters ∷ return (Load (target fat (apply (apply (variable 0 fat) pointers.SubtractFat (Number 1) fat) pointers.AddFat (Number 2) fat))) ∷ [])) ≡ HasEnded (Returned (pos 66))
 below_and_back = refl
 
@@ -264,7 +267,8 @@ moved_null_prints : long_printed moved_null ≡ 65 ∷ []
 moved_null_prints = refl
 
 -- int ?p = new {for i < 3 : i + 4}; int *q = NULL; int ?r = (q = p + 1); return numelts(r) * 10 + r[0];
--- The value of an assignment is the stored value: a thin pointer, so one element.
+-- The value of an assignment is the stored value: a fat pointer stored as a thin one then has one
+-- element.
 thinned_and_fat_again : long_end (program (
     define 0 fat (convert fat fat (array OnHeap fat (Number 3) (two (Counter 0) operators.Add (Number 4))))
     ∷ define 1 star (null_as star)
@@ -306,7 +310,7 @@ array_of_negative_length = refl
 array_too_long : end (program (define 0 fat (convert fat fat (array OnHeap fat (Number 1001) (Number 1))) ∷ return (Number 0) ∷ [])) ≡ HasEnded (Uncaught 3 (pos 0))
 array_too_long = refl
 
--- an array of 334 fat pointers has 1,002 words, which is too many; 333 have 999
+-- An array of 334 fat pointers has 1,002 words, which is too many; an array of 333 has 999.
 array_of_too_many_words : makes_array (InRegion 0) 0 kinds.Fat (NullPointer) (Word 334) [] no_locals (first_world (program []) []) ≡ Running (Throwing 3 0) [] no_locals (first_world (program []) [])
 array_of_too_many_words = refl
 
@@ -318,7 +322,7 @@ array_that_would_wrap : makes_array (InRegion 0) 0 kinds.Fat NullPointer (Word 1
 array_that_would_wrap = refl
 
 -- int n = 2; int ?p = new {for i < n : (n = 9) + i}; return numelts(p) * 100 + p[1] + n;
--- The length is evaluated only once.
+-- The length of a new array is evaluated only once.
 length_is_evaluated_once : long_end (program (
     declare 0 (Number 2)
     ∷ define 1 fat (convert fat fat (array OnHeap fat (local 0) (two (assign 0 (Number 9)) operators.Add (Counter 0))))

@@ -1,12 +1,12 @@
--- lemmas that the proofs of the compiler cite
+-- Lemmas that the proofs of the compiler cite.
 pub mod RunLaws
--- lemmas that the laws of this crate cite
+-- Lemmas that the laws of this crate cite.
 pub mod Outcomes
 pub mod WorldLaws
 pub mod DemandLaws
 pub mod NestingLemmas
 pub mod Nested
--- trees and notation for examples
+-- Typed trees and notation for the examples.
 pub mod ExampleTrees
 pub mod Examples
 pub mod StepExamples

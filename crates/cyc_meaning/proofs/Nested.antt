@@ -1,5 +1,5 @@
--- Regions of blocks and lexical regions nest in every state of a run. Only an access can be dead, and an exception that no `try` encloses
--- pops all entries.
+-- Regions of blocks and lexical regions nest in every state of a run. Only an access step can be dead (use freed memory), and an
+-- exception that no `try` encloses pops all control-stack entries.
 use Rattle.std.proofs.Common.{◌≡◌, ℕ, zero, suc, ◌+◌, Bool, true, false, List, [], ◌∷◌, length, refl, sym, ap, subst, ◌∙◌}
 use Rattle.std.specs.Prelude.{slice_get}
 use Rattle.cyc_words.specs.Ending.{Uncaught}
@@ -41,7 +41,7 @@ nests_start program input =
 pub nests_run : (program : Program) (input : List ℕ) (n : ℕ) → Nests (run program input n)
 nests_run program input n = nests_steps program n (start program input) (nests_start program input)
 
--- a step that is dead is an access
+-- If a step from a nested state is dead (uses freed memory), then the step is an access.
 access_alone : {nested : Type 0} {w : World} {access : Bool} {printed : List ℕ} {count calls : ℕ} {s : State} → Outcome nested w access printed count calls s → nested → status_of s ≡ IsDead → access ≡ true
 access_alone (Goes calls changes nests) h is = absurd (let k : GoesOn ≡ IsDead = is in cc)
 access_alone (Ends ending other) h is = absurd (let k : HasEnded ending ≡ IsDead = is in cc)
@@ -72,7 +72,8 @@ left_lexical program tag value region stack e w h rest (Found r) found = rest r
 left_lexical program tag value region stack e w h rest Closed found = absurd (subst IsFound found h.0.0)
 left_lexical program tag value region stack e w h rest Missing found = absurd (subst IsFound found h.0.0)
 
--- an exception pops all entries, one a step, and then the run has ended
+-- An exception that no `try` encloses pops all control-stack entries, one per step, and then the
+-- run ends.
 unwinds_untried : (program : Program) (tag value : ℕ) (stack : List Entry) (e : Environment) (w : World) → IsNested stack e w → IsUntried stack → steps program (suc (length stack)) (Running (Throwing tag value) stack e w) ≡ Ended (Uncaught tag (signed value)) w.output w.input
 unwinds_untried program tag value [] e w h free = refl
 unwinds_untried program tag value (Needs a ∷ stack) e w h free = unwinds_untried program tag value stack e w h free

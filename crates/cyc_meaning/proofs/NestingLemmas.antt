@@ -1,4 +1,5 @@
--- The nesting of block regions and lexical regions under each change: opening, closing, calling, returning and allocating.
+-- The nesting of block regions and lexical regions under each change of the state: opening, closing, calling, returning
+-- and allocating.
 use Rattle.std.proofs.Common.{◌≡◌, ℕ, zero, suc, ◌≤◌, Bool, true, false, List, [], ◌∷◌, ◌++◌, set, length, Option, Some, None, refl, sym, ap, subst, ◌∙◌, inl, inr, arith, length-append}
 use Rattle.std.specs.Prelude.{◌≢◌, ◌==◌, ◌||◌, if◌then◌else◌, slice_get}
 use Rattle.std.specs.List.{list_any}
@@ -46,7 +47,7 @@ all_below_more : (ns : List ℕ) (bound more : ℕ) → bound ≤ more → AreBe
 all_below_more [] bound more less h = tt
 all_below_more (n ∷ ns) bound more less (first, h) = (omega (arith, first, less), h)
 
--- the regions below a region stay open when it is closed
+-- If a region is closed, the open regions with lower numbers stay open.
 open_below : (regions : List Region) (number : ℕ) (r : Region) (ns : List ℕ) → AreBelow number ns → AreOpen regions ns → AreOpen (set regions number r) ns
 open_below regions number r [] below h = tt
 open_below regions number r (n ∷ ns) (less, below) (found, h) =
@@ -55,7 +56,8 @@ open_below regions number r (n ∷ ns) (less, below) (found, h) =
       open_below regions number r ns (all_below_more ns n number (omega (arith, less)) below) h,
     )
 
--- a region replaced by one that is also open
+-- If an open region is replaced by another open one, every region that was found open is still
+-- found open.
 set_found : (regions : List Region) (number n : ℕ) (r s : Region) → slice_get regions number ≡ Some r → (IsFound (found_region (Some r)) → IsFound (found_region (Some s)))
     → IsFound (found_region (slice_get regions n)) → IsFound (found_region (slice_get (set regions number s) n))
 set_found [] number n r s at keep found = absurd found
@@ -74,7 +76,7 @@ globals_found regions (CloseRegion region home ∷ stack) h = globals_found regi
 globals_found regions (CloseLexical region ∷ stack) h = globals_found regions stack h.1
 globals_found regions (entry ∷ stack) h = globals_found regions stack h
 
--- the region in which variables are allocated is open
+-- The region in which the running call allocates its variables is open.
 pub home_found : (regions : List Region) (home : ℕ) (stack : List Entry) → IsHome home stack → AreOpen regions (ends_of stack) → IsFound (found_region (slice_get regions home))
 home_found regions home [] is h = subst (λ (n : ℕ). IsFound (found_region (slice_get regions n))) (sym is) h.0
 home_found regions home (CloseRegion region outer ∷ stack) is h = subst (λ (n : ℕ). IsFound (found_region (slice_get regions n))) (sym is.0) h.0
@@ -84,7 +86,7 @@ home_found regions home (entry ∷ stack) is h = home_found regions home stack i
 
 -- ---- lexical regions
 
--- true if the region number is in the list
+-- Returns true if the region number is in the list.
 abbrev pub is_one : ℕ → List ℕ → Bool
 is_one number ns = list_any (λ (n : ℕ). n == number) ns
 
@@ -94,7 +96,7 @@ one_here number n ns same = ap (λ (b : Bool). b || is_one number ns) (eq-eqb n 
 pub one_there : (number n : ℕ) (ns : List ℕ) → n ≢ number → is_one number (n ∷ ns) ≡ is_one number ns
 one_there number n ns other = ap (λ (b : Bool). b || is_one number ns) (false_from_ne_true (n == number) (λ e. other (eqb-true n number e)))
 
--- the regions still to be closed have lower numbers than a region opened later
+-- The lexical regions that the stack still closes have lower numbers than any region opened later.
 pub none_above : (stack : List Entry) (bound number : ℕ) → AreBelow bound (ends_of stack) → bound ≤ number → is_one number (lexicals_of stack) ≡ false
 none_above [] bound number below less = refl
 none_above (CloseLexical region ∷ stack) bound number (lower, below) less =
@@ -103,14 +105,14 @@ none_above (CloseLexical region ∷ stack) bound number (lower, below) less =
 none_above (CloseRegion region home ∷ stack) bound number (lower, below) less = none_above stack region number below (omega (arith, lower, less))
 none_above (entry ∷ stack) bound number below less = none_above stack bound number below less
 
--- a region appended at the end does not change the other regions
+-- A region appended at the end of the list does not change the other regions.
 after_others : (regions : List Region) (r : Region) (number : ℕ) → number ≢ length regions → is_open_scope (slice_get (regions ++ r ∷ []) number) ≡ is_open_scope (slice_get regions number)
 after_others [] r zero other = absurd (other refl)
 after_others [] r (suc number) other = refl
 after_others (q ∷ regions) r zero other = refl
 after_others (q ∷ regions) r (suc number) other = after_others regions r number (λ e. other (ap suc e))
 
--- appending a region that is not an open lexical region
+-- Appending a region that is not an open lexical region keeps the list of open lexical regions.
 scopes_more : (regions : List Region) (r : Region) (ns : List ℕ) → is_scope r.sort r.is_open ≡ false → AreScopes regions ns → AreScopes (regions ++ r ∷ []) ns
 scopes_more regions r ns none are number = go regions number ∙ are number
   where
@@ -120,7 +122,7 @@ scopes_more regions r ns none are number = go regions number ∙ are number
     go (q ∷ rs) zero = refl
     go (q ∷ rs) (suc i) = go rs i
 
--- appending an open lexical region
+-- Appending an open lexical region adds its number to the list of open lexical regions.
 scopes_new : (regions : List Region) (r : Region) (ns : List ℕ) → is_scope r.sort r.is_open ≡ true → AreScopes regions ns → AreScopes (regions ++ r ∷ []) (length regions ∷ ns)
 scopes_new regions r ns scope are number = elim (cases_eq (length regions) number) [
   | inl same ↦
@@ -129,13 +131,15 @@ scopes_new regions r ns scope are number = elim (cases_eq (length regions) numbe
   | inr other ↦ after_others regions r number (λ e. other (sym e)) ∙ (are number ∙ sym (one_there number (length regions) ns other))
 ]
 
--- replacing a region by one that is not an open lexical region
+-- If a region is replaced by one that is not an open lexical region, then its number no longer
+-- belongs to an open lexical region.
 set_none : (regions : List Region) (number : ℕ) (r : Region) → is_scope r.sort r.is_open ≡ false → is_open_scope (slice_get (set regions number r) number) ≡ false
 set_none [] number r none = refl
 set_none (q ∷ regions) zero r none = none
 set_none (q ∷ regions) (suc number) r none = set_none regions number r none
 
--- closing one region of the list, or another region
+-- Closing a region keeps the invariant on the list of open lexical regions, both for a region of
+-- the list and for any other.
 scopes_less : (regions : List Region) (closes : ℕ) (r : Region) (ns : List ℕ) → is_scope r.sort r.is_open ≡ false → is_one closes ns ≡ false
     → ((number : ℕ) → closes ≢ number → is_open_scope (slice_get regions number) ≡ is_one number ns) → AreScopes (set regions closes r) ns
 scopes_less regions closes r ns none gone are number = elim (cases_eq closes number) [
@@ -145,7 +149,7 @@ scopes_less regions closes r ns none gone are number = elim (cases_eq closes num
   | inr other ↦ ap is_open_scope (slice_get-set_other regions closes number r (λ e. other (sym e))) ∙ are number other
 ]
 
--- replacing a region by another region of its sort
+-- Replacing a region by another one of its sort keeps the list of open lexical regions.
 scopes_set : (regions : List Region) (number : ℕ) (r s : Region) (ns : List ℕ) → slice_get regions number ≡ Some r → is_scope s.sort s.is_open ≡ is_scope r.sort r.is_open → AreScopes regions ns → AreScopes (set regions number s) ns
 scopes_set regions number r s ns there same are i = go regions number i there ∙ are i
   where
@@ -211,7 +215,7 @@ nested_closed region home r stack e w ((found, open_all), (less, below), (same, 
   scopes_less w.regions region (record r { is_open = false }) (lexicals_of stack) (shut_none r) (none_above stack region region below (omega arith)) (λ number other. are number),
 )
 
--- closing the innermost region keeps the nesting
+-- Closing the innermost region keeps the nesting of regions.
 pub scopes_closed : (region : ℕ) (r : Region) (stack : List Entry) (regions : List Region) → AreBelow region (ends_of stack) → AreScopes regions (region ∷ lexicals_of stack)
     → AreScopes (set regions region (record r { is_open = false })) (lexicals_of stack)
 scopes_closed region r stack regions below are =
@@ -226,7 +230,7 @@ nested_closed_lexical region r stack e w ((found, open_all), (less, below), is, 
   scopes_closed region r stack w.regions below are,
 )
 
--- closing a dynamic region, which no scope closes
+-- Closing a dynamic region, which no scope closes, keeps the nesting of regions.
 pub nested_closed_dynamic : (number : ℕ) (r : Region) (stack : List Entry) (e : Environment) (w : World) → region_at w number ≡ Found r → (IsScoped r.sort → ⊥) → IsNested stack e w → IsNested stack e (closed w number r)
 nested_closed_dynamic number r stack e w found free (open_all, below, is, are) =
     let there : slice_get w.regions number ≡ Some r = region_found w number r found in

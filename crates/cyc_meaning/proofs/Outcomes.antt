@@ -1,4 +1,5 @@
--- The possible outcomes of a step, distinguished once: each law of the step follows from them.
+-- The possible outcomes of a step are distinguished once, and each law of the step follows from
+-- them.
 use Rattle.std.proofs.Common.{◌≡◌, ℕ, suc, Bool, true, false, List, [], ◌∷◌, length, reverse, Option, Some, None, refl, subst}
 use Rattle.std.specs.Prelude.{◌==◌, ◌*◌, ◌&&◌, nat_le, if◌then◌else◌, slice_get}
 use Rattle.cyc_words.specs.Ending.{Ending, Returned, Uncaught, Full}
@@ -38,8 +39,8 @@ use Rattle.cyc_meaning.specs.inside.Effects.{Changes, Keeps, Opens, Closes, Make
 use Rattle.cyc_meaning.specs.inside.Nesting.{IsScoped, IsFound, IsNested, is_access_of, is_access_in, is_access}
 use Rattle.cyc_meaning.proofs.NestingLemmas.{home_found, nested_opened, nested_lexical, nested_dynamic, nested_closed, nested_closed_lexical, nested_closed_dynamic, nested_made_in, nested_call, nested_return}
 
--- The outcome of a step: the run goes on with this many calls and stays nested, or it is over, with nothing printed or read. From a nested
--- state, only an access can be dead.
+-- The outcome of a step: the run goes on with the stated number of calls and stays nested, or it is over, with nothing printed or read.
+-- From a nested state, only an access can be dead (use freed memory).
 pub data Outcome (nested : Type 0) (w : World) : (access : Bool) → (printed : List ℕ) → (count calls : ℕ) → State → Type 0 where
   Goes : {access : Bool} {printed : List ℕ} {count calls : ℕ} {focus : Focus} {stack : List Entry} {e : Environment} {new : World}
       → calls_in stack ≡ calls → Changes w printed count new → (nested → IsNested stack e new) → Outcome nested w access printed count calls (Running focus stack e new)
@@ -47,7 +48,7 @@ pub data Outcome (nested : Type 0) (w : World) : (access : Bool) → (printed : 
   Dies : {access : Bool} {calls : ℕ} → (nested → access ≡ true) → Outcome nested w access [] 0 calls (Dead w.output w.input)
   Fails : {access : Bool} {calls : ℕ} → Outcome nested w access [] 0 calls (Wrong w.output w.input)
 
--- a step that neither prints nor reads, and keeps the number of calls of these entries
+-- Says that a step neither prints nor reads, and keeps the number of active calls.
 abbrev Silent : (access : Bool) → List Entry → Environment → World → State → Type 0
 Silent access stack e w s = Outcome (IsNested stack e w) w access [] 0 (calls_in stack) s
 
@@ -119,7 +120,7 @@ getchar_reads : {access : Bool} (arguments : List Value) (stack : List Entry) (e
 getchar_reads [] stack e w = Goes refl Reads (λ h. h)
 getchar_reads (value ∷ arguments) stack e w = Fails
 
--- the outcome of a step from this focus and stack
+-- Says that a step from the given focus and stack has one of the possible outcomes.
 abbrev pub Seen : Focus → List Entry → Environment → World → State → Type 0
 Seen focus stack e w s = Outcome (IsNested stack e w) w (is_access focus stack) (printed_by focus) (read_by focus) (calls_after focus stack) s
 

@@ -15,7 +15,7 @@ use Rattle.cyc_meaning.proofs.ExampleTrees.{long_printed, end_within, star, at, 
 abbrev handle : ℕ → Expression
 handle number = variable number (Handle Heap)
 
--- allocation in the region whose handle is in this local
+-- Allocates in the region whose handle a given local holds.
 abbrev by : ℕ → Placement
 by number = ByHandle (handle number)
 
@@ -50,7 +50,8 @@ lexical = refl
 abbrev in_a_block : typed.Item
 in_a_block = Execute (block (DeclareRegion 2 0 ∷ execute (new (by 0) at (Number 7)) ∷ []))
 
--- the block twice: the pages of a lexical region are freed at the end of its block
+-- A block with a lexical region runs twice: the pages of a lexical region are freed at the end of
+-- its block.
 regions_in_turn : end_within 2 1 (program (in_a_block ∷ in_a_block ∷ return (Number 0) ∷ [])) ≡ HasEnded (Returned (pos 0))
 regions_in_turn = refl
 
@@ -79,7 +80,8 @@ abbrev digs : typed.Item
 digs = try_to (Evaluate (assign 0 (two (local 0) operators.Add (call 1 (Number 0 ∷ []))))) (Case 5 (Some 1) 2 (items (execute (assign 0 (two (local 0) operators.Add (local 1))) ∷ [])) NoClauses)
 
 -- int s = 0; the try statement above, twice; return s;
--- A throw out of a call and three regions closes them, so the heap's page and three more suffice.
+-- A throw out of a call and three regions closes the three regions, so the heap's page and three
+-- more suffice.
 abbrev digs_twice : Program
 digs_twice = program_with (dig ∷ []) (declare 0 (Number 0) ∷ digs ∷ digs ∷ return (local 0) ∷ [])
 
@@ -126,7 +128,8 @@ opened_in_try_printed = refl
 key_needs_a_page : end_within 1 1 opened_in_try ≡ HasEnded Full
 key_needs_a_page = refl
 
--- the region stays open after the block that opened it, and is opened again in the next block
+-- A dynamic region stays open after the block that opened it, and is opened again in the next
+-- block.
 opened_twice : long_end (program (
     DeclareKey 1 0
     ∷ define 1 star (null_as star)

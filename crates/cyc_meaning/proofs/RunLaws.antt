@@ -1,4 +1,4 @@
--- Laws of the step and of runs.
+-- Laws of the step function and of runs.
 use Rattle.std.proofs.Common.{◌≡◌, ℕ, zero, suc, ◌+◌, ◌≤◌, ◌<◌, Bool, true, false, List, [], ◌∷◌, ◌++◌, drop, Option, Some, None, refl, sym, ap, subst, ◌∙◌, arith, append_assoc, append-nil}
 use Rattle.std.specs.Prelude.{◌≢◌, ◌==◌, if◌then◌else◌, length, slice_get}
 use Rattle.std.specs.List.{AllByRecursion}
@@ -17,7 +17,7 @@ use Rattle.cyc_meaning.proofs.Outcomes.{Outcome, Goes, Ends, Dies, Fails, outcom
 
 -- ---- one step
 
--- `main` is called while only the regions of the heap and the globals exist
+-- When `main` is called, only the regions of the heap and of the globals exist.
 pub start_nested : (program : Program) (input : List ℕ) → IsNested (Main ∷ []) no_locals (first_world program input)
 start_nested program input = ((tt, tt), (omega arith, tt), refl, starts)
   where
@@ -83,7 +83,7 @@ module _ (program : Program) (focus : Focus) (stack : List Entry) (e : Environme
   pub step_reads : input_of (step program (Running focus stack e w)) ≡ drop (read_by focus) w.input
   step_reads = outcome_read (outcome program focus stack e w)
 
-  -- only calls and their ends change the number of active calls
+  -- Only calls and returns change the number of active calls.
   pub step_calls : status_of (step program (Running focus stack e w)) ≡ GoesOn → depth (step program (Running focus stack e w)) ≡ calls_after focus stack
   step_calls going = outcome_calls (outcome program focus stack e w) going
 
@@ -96,7 +96,7 @@ outcome_changes Fails = tt
 pub step_changes : (program : Program) (focus : Focus) (stack : List Entry) (e : Environment) (w : World) → ChangesIn w (printed_by focus) (read_by focus) (step program (Running focus stack e w))
 step_changes program focus stack e w = outcome_changes (outcome program focus stack e w)
 
--- without limits no run is full
+-- A run without limits never ends for lack of pages or calls.
 pub step_not_full : (program : Program) (s : State) → status_of s ≢ HasEnded Full → status_of (step program s) ≢ HasEnded Full
 step_not_full program (Running focus stack e w) before = outcome_not_full (outcome program focus stack e w)
 step_not_full program (Ended ending output input) before = before
@@ -119,14 +119,15 @@ within_where_over pages calls (Wrong output input) over = and_from _ _ (le-leb 0
 
 -- ---- limits
 
--- a step within the limits is unchanged, and any other step ends the run
+-- A step whose new state is within the limits is unchanged, and any other step ends the run.
 pub limited-within : (pages calls : ℕ) (old new : State) → is_within pages calls new ≡ true → limited pages calls old new ≡ new
 limited-within pages calls old new within = ap (λ (b : Bool). if b then new else Ended Full (output_of old) (input_of old)) within
 
 pub limited-full : (pages calls : ℕ) (old new : State) → is_within pages calls new ≡ false → limited pages calls old new ≡ Ended Full (output_of old) (input_of old)
 limited-full pages calls old new within = ap (λ (b : Bool). if b then new else Ended Full (output_of old) (input_of old)) within
 
--- a property of the unlimited step and of the full end holds of the limited step
+-- If a property holds for the unlimited step and for the end by exceeded limits, then it holds for
+-- the limited step.
 pub limited_cases : (P : State → Type 0) (pages calls : ℕ) (old new : State) → (is_within pages calls new ≡ true → P new) → (is_within pages calls new ≡ false → P (Ended Full (output_of old) (input_of old))) → P (limited pages calls old new)
 limited_cases P pages calls old new first second = go (is_within pages calls new) refl
   where
@@ -161,7 +162,7 @@ pub steps-last : (program : Program) (n : ℕ) (s : State) → steps program (su
 steps-last program zero s = refl
 steps-last program (suc n) s = steps-last program n (step program s)
 
--- printed output stays printed, and input is read from its front
+-- In every run, printed output stays printed, and input is read from its front.
 abbrev pub GoesOnFrom : State → State → Type 0
 GoesOnFrom old new = IsPrefix (output_of old) (output_of new) × ((read : List ℕ) × (input_of old ≡ read ++ input_of new))
 
@@ -195,14 +196,14 @@ limited_steps_go_on program pages calls (suc n) s =
 
 -- ---- the limited run and the unlimited run
 
--- as long as every state is within the limits, both runs are equal
+-- As long as every state is within the limits, the limited and the unlimited run are equal.
 pub limited_agrees : (program : Program) (pages calls n : ℕ) (s : State) → ((j : ℕ) → j ≤ n → is_within pages calls (steps program j s) ≡ true) → limited_steps program pages calls n s ≡ steps program n s
 limited_agrees program pages calls zero s within = refl
 limited_agrees program pages calls (suc n) s within =
     ap (limited_steps program pages calls n) (limited-within pages calls s (step program s) (within 1 (omega arith)))
     ∙ limited_agrees program pages calls n (step program s) (λ j less. within (suc j) (omega (arith, less)))
 
--- at the first step that exceeds the limits, the limited run is full
+-- If a step exceeds the limits, then from that step on the limited run has ended as full.
 pub limited_is_full : (program : Program) (pages calls k n : ℕ) (s : State) → ((j : ℕ) → j ≤ k → is_within pages calls (steps program j s) ≡ true) → is_within pages calls (steps program (suc k) s) ≡ false → k < n → limited_steps program pages calls n s ≡ Ended Full (output_of (steps program k s)) (input_of (steps program k s))
 limited_is_full program pages calls k zero s within past less = absurd (omega (arith, less))
 limited_is_full program pages calls zero (suc n) s within past less =
@@ -228,13 +229,14 @@ limited_choice program pages calls n s other rest = go (is_within pages calls (s
         ∙ limited_over_stays program pages calls n (Ended Full (output_of s) (input_of s)) (λ going. let e : HasEnded Full ≡ GoesOn = going in cc) in
         absurd (other (ap status_of full))
 
--- a limited run that is not full equals the unlimited run
+-- A limited run that has not ended for exceeding its limits equals the unlimited run.
 pub limited_until_full : (program : Program) (pages calls n : ℕ) (s : State) → status_of (limited_steps program pages calls n s) ≢ HasEnded Full → limited_steps program pages calls n s ≡ steps program n s
 limited_until_full program pages calls zero s other = refl
 limited_until_full program pages calls (suc n) s other =
     limited_choice program pages calls n s other (limited_until_full program pages calls n (step program s))
 
--- each outcome of the limited run except a full store is an outcome of the unlimited run
+-- Every outcome of the limited run, except the end for exceeded limits, is also an outcome of the
+-- unlimited run.
 pub limited_comes_to : (program : Program) (pages calls n : ℕ) (s : State) (status : Status) → status ≢ HasEnded Full → status_of (limited_steps program pages calls n s) ≡ status → status_of (steps program n s) ≡ status
 limited_comes_to program pages calls n s status other is =
     let same : limited_steps program pages calls n s ≡ steps program n s = limited_until_full program pages calls n s (λ full. other (sym is ∙ full)) in

@@ -21,7 +21,7 @@ returns_sum = typed.Return (Some (Convert kinds.Int kinds.Int sum))
 abbrev of_main : List typed.Item
 of_main = Execute returns_sum ∷ []
 
--- the focus and the waiting entries (newest first) after this many steps
+-- Returns the focus after a given number of steps, and the waiting stack entries, newest first.
 abbrev focus_of : State → Option Focus
 focus_of (Running focus stack e w) = Some focus
 focus_of s = None
@@ -36,8 +36,8 @@ at n = (focus_of (run (program of_main) [] n), stack_of (run (program of_main) [
 abbrev int : ℕ → Operand
 int n = record { kind = kinds.Int; value = values.Int n }
 
--- The entries around the `return`: the rest of the body, and the end of its region. The region around the `return` has number 2, after the
--- heap and the region of the globals.
+-- The stack entries around the `return` are the rest of the body, and the end of its region. The region around the `return` has number 2,
+-- after the heap and the region of the globals.
 abbrev outside : List Entry
 outside = Rest NoItems ∷ CloseRegion 2 1 ∷ Main ∷ []
 
@@ -57,7 +57,7 @@ at_2 = refl
 at_3 : at 3 ≡ (Some (Executing returns_sum), outside)
 at_3 = refl
 
--- `return` waits for the value, as an int
+-- `return` waits for the value of its expression, which must be an int.
 at_4 : at 4 ≡ (Some (Evaluating sum), waiting)
 at_4 = refl
 
@@ -67,7 +67,7 @@ at_5 = refl
 at_6 : at 6 ≡ (Some (Given (int 1)), Needs (Chain (ThenCompute operators.Add (Number 2) NoOperations)) ∷ waiting)
 at_6 = refl
 
--- the left operand is evaluated, and waits for the right one
+-- The left operand of a sum is evaluated, and its continuation waits for the right one.
 at_7 : at 7 ≡ (Some (Evaluating (Number 2)), Needs (Apply operators.Add (int 1)) ∷ Needs (Chain NoOperations) ∷ waiting)
 at_7 = refl
 
@@ -83,7 +83,7 @@ at_10 = refl
 at_11 : at 11 ≡ (Some (Given (int 3)), Needs Return ∷ outside)
 at_11 = refl
 
--- the return pops the entries of the call one by one, and closes its region
+-- The `return` pops the stack entries of the call one by one, and closes the call's region.
 at_12 : at 12 ≡ (Some (Returning (Some (int 3))), outside)
 at_12 = refl
 

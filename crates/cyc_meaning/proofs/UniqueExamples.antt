@@ -96,7 +96,7 @@ swapped_with_itself_in_a_cell = refl
 
 -- int @`U @eat(int @`U u, int @`U @q){ ufree(u); return q; } int @`U u = rnew(unique_region) 1; int @`U @q = new rnew(unique_region) 2; u
 -- :=: *eat(u, q); return *u;
--- Both places are evaluated before either is read. A pointer to a freed object may be moved.
+-- A swap evaluates both sides before it reads either. A pointer to a freed object may be moved.
 abbrev at_own : Ty
 at_own = Pointer marks.NonNull own Heap
 
@@ -112,8 +112,8 @@ swapped_after_a_free : long_end (program_with (function (own ∷ at_own ∷ []) 
     ∷ [])) ≡ HasEnded (Returned (pos 2))
 swapped_after_a_free = refl
 
--- *n :=: p[putchar(65)] for null n
--- The left place is checked before the right place is evaluated.
+-- `*n :=: p[putchar(65)]` for a null pointer n: the left side is checked before the right side is
+-- evaluated
 swap_checks_left_first : printed (program (
     define 0 star (null_as star)
     ∷ define 1 fat (null_as fat)
@@ -139,7 +139,8 @@ aliased = refl
 
 -- ---- demand
 
--- the world with one more block of 512 words; and the world with the first block freed again
+-- The world with one more unique block of 512 words, and the world with the first such block freed
+-- again.
 abbrev more : World → World
 more w = made_unique w (blanks 512 kinds.Int)
 
@@ -156,14 +157,15 @@ pages w = demand (Running Proceeding [] no_locals w)
 abbrev none : World
 none = first_world (program []) []
 
--- two such blocks fit into one page, which is needed in addition to the heap's page
+-- Two blocks of 512 words fit into one page, which is needed in addition to the heap's page.
 one_block_takes_a_page : pages (more none) ≡ 2
 one_block_takes_a_page = refl
 
 three_blocks : pages (more (more (more none))) ≡ 3
 three_blocks = refl
 
--- allocated one after the other, they need one page; the page is kept once it was needed
+-- Three blocks that are allocated and freed one after the other need one page; a page that was once
+-- needed is kept.
 three_in_turn : pages (more (less 1 (more (less 0 (more none))))) ≡ 2
 three_in_turn = refl
 

@@ -1,4 +1,4 @@
--- Examples of conversion and of demand, each proved by computation.
+-- Examples of conversions and of demand (pages of the store in use), each proved by computation.
 use Rattle.std.proofs.Common.{◌≡◌, [], ◌∷◌, Some, None, true, false, refl}
 use Rattle.cyc_types.specs.declared.typed.Kind.TheVariants as kinds
 use Rattle.cyc_types.specs.declared.typed.Operator.TheVariants as operators
@@ -97,7 +97,8 @@ page_is_full = refl
 page_is_passed : region_pages (1000 ∷ 25 ∷ []) ≡ 2
 page_is_passed = refl
 
--- a block that does not fit begins the next page, and no later block goes back to an earlier page
+-- A block that does not fit into a page begins the next page, and no later block goes back to an
+-- earlier page.
 blocks_are_in_order : region_pages (600 ∷ 600 ∷ 400 ∷ 30 ∷ []) ≡ 3
 blocks_are_in_order = refl
 
@@ -125,7 +126,7 @@ one_page_of_blocks = refl
 one_block_more : pages_for 2 257 ≡ 2
 one_block_more = refl
 
--- pages are kept when blocks are freed
+-- Pages are kept when unique blocks are freed.
 greatest_so_far : class_pages 10 (0 ∷ 1 ∷ 2 ∷ 1 ∷ 0 ∷ []) ≡ 2
 greatest_so_far = refl
 
@@ -141,14 +142,15 @@ block_of_two_cells = refl
 block_of_five_chars : block_size (blanks 5 kinds.Char) ≡ 2
 block_of_five_chars = refl
 
--- a word cell begins at a multiple of 4, and the cell after it begins at its end
+-- A cell of one word begins at a byte offset that is a multiple of 4, and the cell after it begins
+-- at its end.
 rounded_up : begins kinds.Int 5 ≡ 8
 rounded_up = refl
 
 one_after_another : begins kinds.Int (following kinds.Fat 4) ≡ 16
 one_after_another = refl
 
--- a char begins at once, at any offset
+-- A char cell begins at the next free byte, at any offset.
 char_after_a_word : begins kinds.Char (following kinds.Int 1) ≡ 8
 char_after_a_word = refl
 

@@ -21,7 +21,7 @@ lives_more [] x object region lives = absurd (let e : None ≡ Some region = liv
 lives_more (y ∷ objects) x zero region lives = lives
 lives_more (y ∷ objects) x (suc object) region lives = lives_more objects x object region lives
 
--- an object after an allocation is the newest one, or existed before
+-- After an allocation, a live object is the newest one or existed before.
 pub lives_newest : (objects : List Object) (x : Object) (object region : ℕ) → LivesIn (objects ++ x ∷ []) object region → LivesIn objects object region ⊎ ((object ≡ length objects) × (region_of x.owner ≡ Some region))
 lives_newest [] x zero region lives = inr (refl, lives)
 lives_newest [] x (suc object) region lives = absurd (let e : None ≡ Some region = lives in cc)
@@ -31,7 +31,8 @@ lives_newest (y ∷ objects) x (suc object) region lives = elim (lives_newest ob
   | inr new ↦ inr (ap suc new.0, new.1)
 ]
 
--- replacing an object by another object of its owner
+-- Replacing an object by another one with the same owner does not change the region in which any
+-- object lives.
 pub lives_same : (objects : List Object) (number object : ℕ) (x y : Object) → slice_get objects number ≡ Some x → region_of y.owner ≡ region_of x.owner → region_in (slice_get (set objects number y) object) ≡ region_in (slice_get objects object)
 lives_same [] number object x y there same = refl
 lives_same (z ∷ objects) zero zero x y there same = same ∙ sym (ap region_in there)
@@ -66,7 +67,8 @@ set_region_there [] number r s there = absurd (let e : None ≡ Some r = there i
 set_region_there (q ∷ regions) zero r s there = refl
 set_region_there (q ∷ regions) (suc number) r s there = set_region_there regions number r s there
 
--- replacing a region by one that is also closed
+-- If a region is replaced, and a closed region only by a closed one, then every closed region stays
+-- closed.
 pub shut_set : (regions : List Region) (number region : ℕ) (r s : Region) → slice_get regions number ≡ Some r → (found_region (Some r) ≡ Closed → found_region (Some s) ≡ Closed) → IsShut regions region → IsShut (set regions number s) region
 shut_set [] number region r s there keep shut = shut
 shut_set (q ∷ regions) zero zero r s there keep shut = keep (sym (ap found_region there) ∙ shut)
@@ -76,7 +78,8 @@ shut_set (q ∷ regions) (suc number) (suc region) r s there keep shut = shut_se
 
 -- ---- changes of the world
 
--- Objects stay in their regions, closed regions stay closed, and no further variable is live.
+-- Says that after a change objects stay in their regions, closed regions stay closed, and no
+-- further variable is live.
 pub record Passes (objects : List Object) (regions : List Region) (more : List Object) (others : List Region) : Type 0 where
   pub lives : (object region : ℕ) → LivesIn objects object region → LivesIn more object region
   pub shut : (region : ℕ) → IsShut regions region → IsShut others region

@@ -57,12 +57,12 @@ names_step globals program rise (Ended ending output input) nests h = tt
 names_step globals program rise (Dead output input) nests h = tt
 names_step globals program rise (Wrong output input) nests h = tt
 
--- the invariant holds after each step of a limited run
+-- Each step of a limited run keeps the invariant of variable names.
 pub names_kept : (globals : ℕ) (program : Program) → FunctionsRise program → (pages calls : ℕ) (old new : State) → Nests old → HasNames globals old → new ≡ limited_step program pages calls old → HasNames globals new
 names_kept globals program rise pages calls old new nests h is =
     subst (HasNames globals) (sym is) (limited_cases (HasNames globals) pages calls old (step program old) (λ within. names_step globals program rise old nests h) (λ full. tt))
 
--- the nesting invariant together with the invariant of variable names
+-- The invariant that regions nest, together with the invariant of variable names.
 abbrev pub NestsAndNames : (globals : ℕ) → State → Type 0
 NestsAndNames globals s = Nests s × HasNames globals s
 
@@ -126,7 +126,7 @@ names_run program typed input n =
 
 -- ---- a local is not a global
 
--- regions of blocks have greater numbers than the region of the globals
+-- Regions of blocks have greater numbers than the region of the globals.
 globals_least : (stack : List Entry) (bound : ℕ) → AreBelow bound (ends_of stack) → globals_number < bound
 globals_least [] bound below = below.0
 globals_least (CloseRegion ending home ∷ stack) bound (less, below) = let lower : globals_number < ending = globals_least stack ending below in omega (arith, less, lower)

@@ -46,7 +46,7 @@ named_calling program callees.Putchar arguments stack e w rise = named_printing 
 named_calling program callees.Getchar arguments stack e w rise = named_reading (values_of arguments) stack e w
 named_calling program (callees.Function number) arguments stack e w rise = named_calling_function (slice_get program.functions number) (reverse arguments) stack e w (rise number)
 
--- opening the region of a call
+-- Opening the region of a call keeps the invariant of variable names.
 pub named_entering : {globals : ℕ} (h : Function) (arguments : List Operand) (stack : List Entry) (e : Environment) (w : World) → Begins globals (Entering h arguments) stack e w (step_entering h arguments stack e w)
 named_entering {globals} h arguments stack e w = Goes (λ known.
     let (now, all) = known.1 in (
@@ -83,7 +83,7 @@ named_throwing_new : {globals : ℕ} (tag : ℕ) (o : Option Expression) (stack 
 named_throwing_new tag None stack e w = Goes (λ h. (tt, h.1))
 named_throwing_new tag (Some a) stack e w = Goes (λ h. (tt, h.1))
 
--- entering a block with these items
+-- Entering a block keeps the invariant of variable names.
 opens_block : {globals : ℕ} (region : ℕ) (items : Items) (stack : List Entry) (e : Environment) (w : World)
     → Begins globals (Executing (Block region items)) stack e w (Running Proceeding (Rest items ∷ region_end e w ∷ stack) (inside e w) (opened w))
 opens_block {globals} region items stack e w = Goes (λ h.
@@ -189,7 +189,8 @@ named_proceeding (Main ∷ stack) e w = Fails
 
 -- ---- unwinding
 
--- popping a continuation that waited for a value
+-- Popping a continuation that waited for a value keeps the condition on the locals that are still
+-- to be declared.
 without_awaiting : (a : Awaiting) (stack : List Entry) (locals : Locals) (objects : List Object) → DeclareLater (Needs a ∷ stack) locals objects → DeclareLater stack locals objects
 without_awaiting (Initialise number kind items) stack locals objects h = h.1
 without_awaiting (OpenBy number lent items) stack locals objects h = h.1

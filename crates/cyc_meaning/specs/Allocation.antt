@@ -1,7 +1,7 @@
--- New objects: `new` and `rnew`. An initial value is evaluated before its block is allocated. For an array, the length is evaluated first,
--- then the block is allocated, then its elements are evaluated. Allocating an object is one step and leaves its cells blank; each value is
--- then written in one step. (`new` and `rnew` are Cyclone's, Grossman et al. 2002; the order, and the maximal length of an array, are this
--- project's own choice.)
+-- New objects are allocated by `new` and `rnew`. An initial value is evaluated before its block is allocated. For an array, the length is
+-- evaluated first, then the block is allocated, then its elements are evaluated. Allocating an object is one step and leaves its cells
+-- blank; each value is then written in one step. (`new` and `rnew` are Cyclone's, Grossman et al. 2002; the order, and the maximal length
+-- of an array, are this project's own choice.)
 use Rattle.std.specs.Prelude.{ℕ, zero, suc, ◌*◌, ◌==◌, true, nat_le, if◌then◌else◌, List, [], ◌∷◌, map, reverse, length, Some}
 use Rattle.cyc_types.specs.declared.typed.Kind.{Kind}
 use Rattle.cyc_types.specs.declared.typed.Kind.TheVariants as kinds
@@ -15,7 +15,7 @@ use Rattle.cyc_meaning.specs.Parts.{dead, wrong, gives, stored, target_by}
 
 -- ---- objects with a value for each cell
 
--- the writes of these values into the cells from this offset on, in order
+-- Returns the writes of the given values into an object's cells from the given offset on, in order.
 abbrev pub writes_from : (object offset : ℕ) → List Operand → List Write
 writes_from object offset [] = []
 writes_from object offset (v ∷ values) = record { place = Thin object offset; operand = v } ∷ writes_from object (suc offset) values
@@ -23,7 +23,8 @@ writes_from object offset (v ∷ values) = record { place = Thin object offset; 
 abbrev pub blanks_of : List Operand → List Cell
 blanks_of values = map (λ (v : Operand). blank v.kind) values
 
--- A new object with one cell for each of these values. The pointer to the new object is never null.
+-- Allocates an object with one cell for each of the given values. The pointer to the new object is
+-- never null.
 abbrev pub filled : Access World → (object : ℕ) → List Operand → List Entry → Environment → World → State
 filled (Found new) object values stack e w =
     Running (Writing (writes_from object 0 values) (Some (record { kind = kinds.NonNull; value = Thin object 0 }))) stack e new
@@ -33,11 +34,11 @@ filled Missing object values stack e w = wrong w
 abbrev pub makes_of : Owner → List Operand → List Entry → Environment → World → State
 makes_of owner values stack e w = filled (created w owner (blanks_of values)) (length w.objects) values stack e w
 
--- an object of one cell, whose kind is given by the type of its expression
+-- Allocates an object of one cell, whose kind is given by the type of its initial expression.
 abbrev pub makes_plain : Owner → Kind → Operand → List Entry → Environment → World → State
 makes_plain owner kind value stack e w = if is_kind value.kind kind then makes_of owner (value ∷ []) stack e w else wrong w
 
--- the fields of a struct, which are evaluated and converted one by one, like arguments
+-- Evaluates and converts the fields of a new struct one by one, like the arguments of a call.
 abbrev pub makes_fields : Owner → (before : List Operand) → Arguments → List Entry → Environment → World → State
 makes_fields owner before NoArguments stack e w = makes_of owner (reverse before) stack e w
 makes_fields owner before (MoreArguments (Convert from to a) fields) stack e w =
@@ -58,7 +59,8 @@ begun (Found new) object count level kind element stack e w = Running (Repeating
 begun Closed object count level kind element stack e w = dead w
 begun Missing object count level kind element stack e w = wrong w
 
--- The length is checked, then the block is allocated. A negative length, which is a word of at least 2 ^ 31, is also too long.
+-- The length of a new array is checked, then its block is allocated. A negative length, which is a word of at least 2 ^ 31, is
+-- also too long.
 abbrev pub makes_array : Owner → (level : ℕ) → Kind → (element : Expression) → Value → List Entry → Environment → World → State
 makes_array owner level kind element (Int count) stack e w =
     if nat_le (words_for (count * bytes_of_kind kind)) most_words
@@ -70,8 +72,8 @@ abbrev pub step_beginning : Owner → (count level : ℕ) → Kind → (element 
 step_beginning owner count level kind element stack e w =
     begun (created w owner (blanks count kind)) (length w.objects) count level kind element stack e w
 
--- The elements are evaluated with the counter at 0, 1 and so on; each is written as soon as it is evaluated. The resulting fat pointer has
--- the length of the array and the index 0.
+-- The elements of a new array are evaluated with the counter at 0, 1 and so on; each is written as soon as it is evaluated. The resulting
+-- fat pointer has the length of the array and the index 0.
 abbrev pub step_repeating : (object count index level : ℕ) → Kind → (element : Expression) → List Entry → Environment → World → State
 step_repeating object count index level kind element stack e w =
     if index == count
@@ -91,7 +93,8 @@ makes owner (Plain kind a) stack e w = Running (Evaluating a) (Needs (MakePlain 
 makes owner (Fields fields) stack e w = makes_fields owner [] fields stack e w
 makes owner (Array place level count kind element) stack e w = Running (Evaluating count) (Needs (MakeArray owner level kind element) ∷ stack) e w
 
--- `new` allocates in the heap, `rnew` in the region of a handle (which is evaluated first) or as a unique object
+-- Allocates a new object: `new` in the heap, `rnew` in the region of a handle (evaluated first) or as a unique
+-- object.
 abbrev pub allocates : Placement → Initial → List Entry → Environment → World → State
 allocates OnHeap initial stack e w = makes (InRegion heap_number) initial stack e w
 allocates AsUnique initial stack e w = makes (Unique true) initial stack e w

@@ -1,12 +1,13 @@
--- Conversion: the value in the kind of the target cell, or the exception that the conversion raises. The rules are the Cyclone User's
--- Manual's (1.0); that a conversion is always a check is this project's own choice.
+-- Conversion of a value: the result is a value of the target cell's kind, or the exception that the conversion raises. The rules are
+-- the Cyclone User's Manual's (1.0); that a conversion is always a check is this project's own choice.
 use Rattle.std.specs.Prelude.{ℕ, ◌+◌, ◌%◌, nat_lt, if◌then◌else◌}
 use Rattle.cyc_types.specs.declared.typed.Kind.{Kind}
 use Rattle.cyc_types.specs.declared.typed.Kind.TheVariants as kinds
 use Rattle.cyc_meaning.specs.Values.{Value, Int, Null, Thin, Fat, Handle, Key}
 use Rattle.cyc_meaning.specs.Operators.{Result, Gives, Raises, Misfits, null_exception, array_bounds}
 
--- The cell at the index of a fat pointer. A negative index is a word of at least 2 ^ 31, and no object has that many cells.
+-- Converts a fat pointer to a thin pointer to the cell at its index. A negative index is a word of at least 2 ^ 31, and no
+-- object has that many cells.
 abbrev pub thinned : (object start count index : ℕ) → Result
 thinned object start count index = if nat_lt index count then Gives (Thin object (start + index)) else Raises array_bounds
 

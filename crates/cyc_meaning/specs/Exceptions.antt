@@ -1,7 +1,7 @@
--- Exceptions. The built-in exceptions have the numbers 1 to 4, those that the program declares follow from 5 on, in order. Throwing an
--- exception allocates nothing. A throw pops one entry after another, down to the body of a `try`, and tries that `try`'s clauses, one a
--- step. The end of a clause leaves the `try`; an exception that no clause catches propagates. (Cyclone's exceptions, User's Manual 1.0; the
--- numbers are this project's own choice.)
+-- The meaning of exceptions. The built-in exceptions have the numbers 1 to 4; the exceptions that the program declares are numbered from 5
+-- on, in order. Throwing an exception allocates nothing. A throw pops one control-stack entry after another, down to the body of a `try`,
+-- and tries the clauses of the `try`, one per step. The end of a clause leaves the `try`; an exception that no clause catches propagates.
+-- (Cyclone's exceptions, User's Manual 1.0; the numbers are this project's own choice.)
 use Rattle.std.specs.Prelude.{ℕ, ◌==◌, if◌then◌else◌, List, ◌∷◌, Option, Some, None}
 use Rattle.cyc_types.specs.declared.typed.Kind.TheVariants as kinds
 use Rattle.cyc_types.specs.TypedTrees.{Expression, Statement, Items, Clauses, NoClauses, Default, Case}
@@ -11,7 +11,7 @@ use Rattle.cyc_meaning.specs.Parts.{wrong, inside, region_end}
 
 -- ---- throwing
 
--- a throw; an exception without an int gets the int 0
+-- Throws an exception; an exception without an int gets the int 0.
 abbrev pub throws : (tag : ℕ) → Option Expression → List Entry → Environment → World → State
 throws tag None stack e w = Running (Throwing tag 0) stack e w
 throws tag (Some a) stack e w = Running (Evaluating a) (Needs (ThrowWith tag) ∷ stack) e w
@@ -25,7 +25,8 @@ throws_value tag value stack e w = wrong w
 abbrev pub tries : Statement → Clauses → List Entry → Environment → World → State
 tries s handler stack e w = Running (Executing s) (Handler handler ∷ stack) e w
 
--- The items of a clause are a block, which contains the local that receives the exception's int.
+-- The items of a catch clause form a block, which contains the local that receives the exception's
+-- int.
 abbrev pub catches : (value : ℕ) → (number : Option ℕ) → Items → List Entry → Environment → World → State
 catches value None items stack e w = Running Proceeding (Rest items ∷ region_end e w ∷ stack) (inside e w) (opened w)
 catches value (Some number) items stack e w =

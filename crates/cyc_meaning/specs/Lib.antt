@@ -13,10 +13,10 @@ pub mod Exceptions
 pub mod Regions
 pub mod Step
 pub mod Run
--- definitions that the laws and the contracts of the compiler add
+-- Definitions that the laws and the contracts of the compiler add.
 pub mod SourceMachine
 pub mod FrameCount
 pub mod Sizes
--- Contracts between this crate's functions, and statements of its proofs. No public contract of the product depends on these internal
--- definitions.
+-- Contracts between the functions of the crate `cyc_meaning`, and statements of its proofs. No public contract of the product depends
+-- on these internal definitions.
 pub mod inside

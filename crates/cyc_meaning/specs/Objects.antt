@@ -14,8 +14,8 @@ found_object w (Some x) = if is_live w x.owner then Found x else Closed
 abbrev pub object_at : World → ℕ → Access Object
 object_at w number = found_object w (slice_get w.objects number)
 
--- Thin pointers are equal if both are null, or if object and offset are equal. If neither compared pointer is null, the objects of both
--- must be live.
+-- Compares two thin pointers: they are equal if both are null, or if object and offset are equal. If neither compared pointer is null,
+-- the objects of both must be live.
 abbrev pub both_found : Access Object → Access Object → (equal : Bool) → Access Bool
 both_found (Found x) (Found y) equal = Found equal
 both_found (Found x) Closed equal = Closed
@@ -34,13 +34,13 @@ compared w left right = Missing
 
 -- ---- allocation
 
--- An object in a region is a block of its size, appended to the region's blocks.
+-- Allocates an object in a region: a block of the object's size is appended to the region's blocks.
 abbrev pub made_in : World → (region : ℕ) → Region → List Cell → World
 made_in w region r cells = record (made w (record { owner = InRegion region; cells = cells })) {
   regions = set w.regions region (record r { blocks = r.blocks ++ block_size cells ∷ [] });
 }
 
--- the size class of the block of a unique object
+-- Returns the size class of the block of a unique object.
 abbrev pub class_of_cells : List Cell → ℕ
 class_of_cells cells = class_of (block_size cells)
 
@@ -48,12 +48,13 @@ abbrev pub is_live_in : (class : ℕ) → Owner → List Cell → Bool
 is_live_in class (InRegion region) cells = false
 is_live_in class (Unique live) cells = live && class_of_cells cells == class
 
--- the number of live unique objects of a class
+-- Returns the number of live unique objects of a size class.
 abbrev pub live_in : (class : ℕ) → List Object → ℕ
 live_in class [] = 0
 live_in class (x ∷ objects) = if is_live_in class x.owner x.cells then suc (live_in class objects) else live_in class objects
 
--- the pages of the classes if this many blocks of one class are live; pages never decrease
+-- Returns the pages of all size classes if `live` blocks of one class are live; the pages of a
+-- class never decrease.
 abbrev pub raised : (classes : List ℕ) → (class live : ℕ) → List ℕ
 raised classes class live = set classes class (max (get_or classes class 0) (pages_for class live))
 
@@ -67,7 +68,7 @@ created_in w region (Found r) cells = Found (made_in w region r cells)
 created_in w region Closed cells = Closed
 created_in w region Missing cells = Missing
 
--- the world with a new object of this owner, which gets the next number
+-- Returns the world with a new object of the given owner; the object gets the next number.
 abbrev pub created : World → Owner → List Cell → Access World
 created w (InRegion region) cells = created_in w region (region_at w region) cells
 created w (Unique true) cells = Found (made_unique w cells)
@@ -75,6 +76,6 @@ created w (Unique false) cells = Missing
 
 -- ---- freeing
 
--- a freed unique object keeps its number, its cells and their contents
+-- Frees a unique object: the object keeps its number, its cells and their contents.
 abbrev pub freed : World → (number : ℕ) → Object → World
 freed w number x = record w { objects = set w.objects number (record x { owner = Unique false }) }

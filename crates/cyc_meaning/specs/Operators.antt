@@ -1,5 +1,5 @@
 -- The operators on values: those of C on a machine of 32 bits (ISO C's operators, which Cyclone keeps). Sums wrap, shifts count modulo 32,
--- and division by 0 raises an exception; this behaviour of the operators is this project's own choice.
+-- and division by 0 raises an exception; these choices are this project's own.
 use Rattle.std.specs.Prelude.{ℕ, ◌%◌, ◌==◌, Bool, true, false, not, if◌then◌else◌, int_le, bit_and, bit_or, bit_xor, Option, Some, None}
 use Rattle.std.specs.Int.{w32, bit_not}
 use Rattle.cyc_words.specs.Word.{signed, add_of, sub_of, mul_of, shl_of, sar_of, slt_of, div_of, rem_of}
@@ -13,13 +13,13 @@ use Rattle.cyc_types.specs.declared.typed.LogicalOperator.{LogicalOperator}
 use Rattle.cyc_types.specs.declared.typed.LogicalOperator.TheVariants as logical
 use Rattle.cyc_meaning.specs.Values.{Value, Int, Null, Thin, Fat, Handle, Key}
 
--- the result of a computation: a value, an exception of this tag, or wrong, if no case applies
+-- The result of a computation: a value, an exception with its tag, or `Wrong` if no case applies.
 pub data Result : Type 0 where
   Gives : Value → Result
   Raises : (tag : ℕ) → Result
   Misfits : Result
 
--- the exceptions that the built-in operations raise
+-- The number of a built-in exception, here the one raised by an access through null.
 abbrev pub null_exception : ℕ
 null_exception = 1
 
@@ -32,7 +32,7 @@ array_size = 3
 abbrev pub division_by_zero : ℕ
 division_by_zero = 4
 
--- the word of a truth value: 1 or 0
+-- Returns the word of a truth value: 1 or 0.
 abbrev pub truth : Bool → ℕ
 truth holds = if holds then 1 else 0
 
@@ -56,7 +56,7 @@ binary_word operators.Multiply a b = mul_of a b
 binary_word operators.Divide a b = div_of a b
 binary_word operators.Remainder a b = rem_of a b
 
--- true if the operator is a division and this divisor is 0
+-- Returns true if the operator is a division or a remainder and the divisor is 0.
 abbrev pub has_no_result : Operator → ℕ → Bool
 has_no_result operators.Divide b = b == 0
 has_no_result operators.Remainder b = b == 0
@@ -64,7 +64,8 @@ has_no_result operator b = false
 
 -- ---- values
 
--- True if a condition fails on a value: the value is 0 or the null pointer. An out-of-bounds pointer is not null.
+-- Returns true if a condition with this value fails: the value is 0 or the null pointer. An out-of-bounds pointer
+-- is not null.
 abbrev pub is_zero : Value → Option Bool
 is_zero (Int a) = Some (a == 0)
 is_zero Null = Some true
@@ -92,7 +93,7 @@ unary_result unary.Widen (Int a) = Gives (Int a)
 unary_result unary.LowByte (Int a) = Gives (Int (a % 256))
 unary_result operator value = Misfits
 
--- the kind of the operator's result
+-- Returns the kind of a unary operator's result.
 abbrev pub unary_kind : UnaryOperator → Kind
 unary_kind unary.Negate = kinds.Int
 unary_kind unary.Not = kinds.Int
@@ -100,12 +101,13 @@ unary_kind unary.Complement = kinds.Int
 unary_kind unary.Widen = kinds.Int
 unary_kind unary.LowByte = kinds.Char
 
--- the value of the right operand of `&&` and `||`: 0 or 1
+-- Returns the value of the right operand of `&&` and `||`, as a truth value 0 or 1.
 abbrev pub truth_of : Option Bool → Result
 truth_of (Some fails) = Gives (Int (truth (not fails)))
 truth_of None = Misfits
 
--- True if the left operand decides, given whether it is zero: zero decides `&&`, anything else decides `||`.
+-- Returns true if the left operand of `&&` or `||` decides the result: a zero operand decides `&&`, and any
+-- other operand decides `||`.
 abbrev pub decides : LogicalOperator → (fails : Bool) → Bool
 decides logical.AndThen fails = fails
 decides logical.OrElse fails = not fails

@@ -1,5 +1,5 @@
--- Places that a pointer leads to: `*e`, `e->f` and `e[i]`. A place is checked when it is evaluated. On the left of `=` this happens before
--- the right side is evaluated. A place is also checked under `&` (this project's own choice).
+-- The cells that a pointer points to: `*e`, `e->f` and `e[i]`. The pointer is checked when the expression for the cell is evaluated. On
+-- the left of `=`, the check happens before the right side is evaluated. The operand of `&` is also checked (this project's own choice).
 use Rattle.std.specs.Prelude.{ℕ, ◌==◌, ◌&&◌, if◌then◌else◌, List, ◌∷◌, map, Option, Some, None, slice_get, true}
 use Rattle.cyc_types.specs.declared.typed.Kind.{Kind}
 use Rattle.cyc_types.specs.declared.typed.Kind.TheVariants as kinds
@@ -18,12 +18,14 @@ arrives (At object offset) stack e w = Running (GivenPlace (Thin object offset))
 arrives (Stops tag) stack e w = Running (Throwing tag 0) stack e w
 arrives Nowhere stack e w = wrong w
 
--- `*e`: an access through null raises an exception, and so does one through an out-of-bounds fat pointer
+-- Evaluates `*e`: an access through null raises an exception, and so does an access through an
+-- out-of-bounds fat pointer.
 abbrev pub follows : (pointer : Kind) → (target : Option Kind) → Operand → List Entry → Environment → World → State
 follows pointer target operand stack e w =
     if is_kind operand.kind pointer && leads_to w target (followed operand.value) then arrives (followed operand.value) stack e w else wrong w
 
--- `e->f`: the field of this number, if the object has the kinds of the struct's fields
+-- Returns the cell of `e->f`, the field with the given number, if the object has the kinds of the
+-- struct's fields.
 abbrev pub field_of : Option Object → (object offset : ℕ) → (fields : List Kind) → (field : ℕ) → Reach
 field_of None object offset fields field = Nowhere
 field_of (Some x) object offset fields field = if offset == 0 && are_kinds (kinds_of x.cells) fields then At object field else Nowhere
@@ -36,7 +38,8 @@ abbrev pub follows_member : (pointer : Kind) → (fields : List Kind) → (field
 follows_member pointer fields field operand stack e w =
     if is_kind operand.kind pointer then arrives (member_of w (followed operand.value) fields field) stack e w else wrong w
 
--- `e[i]`: an access to `*(e + i)`. The operands are evaluated, then the index is added, then the access is checked.
+-- Evaluates `e[i]` as an access to `*(e + i)`. The operands are evaluated, then the index is added, then the access
+-- is checked.
 abbrev pub indexes : (peek : Option ℕ) → (target : Option Kind) → (index : Expression) → Operand → List Entry → Environment → World → State
 indexes peek target index base stack e w =
     if is_kind base.kind kinds.Fat then Running (Evaluating index) (Needs (Advance peek target base) ∷ stack) e w else wrong w

@@ -11,14 +11,14 @@ use Rattle.cyc_meaning.specs.Operators.{Result, Gives, Misfits, null_exception, 
 
 -- ---- arithmetic
 
--- Arithmetic changes only the index, and leaves null unchanged.
+-- Pointer arithmetic changes only the index of a fat pointer, and leaves null unchanged.
 abbrev pub moved : (ℕ → ℕ) → Value → Result
 moved change Null = Gives Null
 moved change (Fat object start count index) = Gives (Fat object start count (change index))
 moved change value = Misfits
 
--- The number of elements from the index on: the length minus the index if the index is between 0 and the length, otherwise 0. A negative
--- index is a word of at least 2 ^ 31, and no object has that many cells.
+-- Returns the number of elements of a fat pointer from its index on: the length minus the index if the index is between 0 and the
+-- length, otherwise 0. A negative index is a word of at least 2 ^ 31, and no object has that many cells.
 abbrev pub element_count : Value → Result
 element_count Null = Gives (Int 0)
 element_count (Fat object start count index) = Gives (Int (if nat_le index count then count - index else 0))
@@ -32,7 +32,8 @@ null_test negated (Thin object offset) = Gives (Int (truth negated))
 null_test negated (Fat object start count index) = Gives (Int (truth negated))
 null_test negated value = Misfits
 
--- Comparing two thin pointers needs their objects, so it is not decided by the values.
+-- Computes a pointer operator's result from the values. Comparing two thin pointers also needs
+-- their objects, so their values alone do not decide it.
 abbrev pub pointer_result : PointerOperator → (left right : Value) → Result
 pointer_result operators.AddFat left (Int n) = moved (λ index. add_of index n) left
 pointer_result operators.SubtractFat left (Int n) = moved (λ index. sub_of index n) left
@@ -44,7 +45,8 @@ pointer_result operators.NullIs Null right = null_test false right
 pointer_result operators.NullIsNot Null right = null_test true right
 pointer_result operator left right = Misfits
 
--- the kind of an operator's result, and whether its left operand may have a kind
+-- Returns the kind of a pointer operator's result; the next function tells which kinds its left
+-- operand may have.
 abbrev pub result_kind : PointerOperator → Kind
 result_kind operators.AddFat = kinds.Fat
 result_kind operators.SubtractFat = kinds.Fat
@@ -61,12 +63,12 @@ takes_kind operator kind = is_thin kind
 
 pub data Reach : Type 0 where
   At : (object offset : ℕ) → Reach
-  -- the access raises an exception of this tag
+  -- The access raises the exception with the given tag.
   Stops : (tag : ℕ) → Reach
   Nowhere : Reach
 
--- An access through null raises an exception. An access through a fat pointer also raises an exception if its index is negative or at least
--- the length.
+-- Checks an access through a pointer: an access through null raises an exception. An access through a fat pointer also raises an exception
+-- if its index is negative or at least the length.
 abbrev pub followed : Value → Reach
 followed Null = Stops null_exception
 followed (Thin object offset) = At object offset

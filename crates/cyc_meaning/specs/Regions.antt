@@ -14,14 +14,14 @@ abbrev pub is_dynamic : Sort → Bool
 is_dynamic Dynamic = true
 is_dynamic sort = false
 
--- declares a local with an initial content, and continues with the rest of its block
+-- Declares a local with an initial content, and continues with the rest of its block.
 abbrev pub step_naming : (number : ℕ) → Operand → Items → List Entry → Environment → World → State
 step_naming number operand items stack e w =
     declared (region_at w e.home) Proceeding number operand.kind (Some operand.value) (Rest items ∷ stack) e w
 
 -- ---- lexical regions
 
--- the region is opened, then its handle is declared as a local of the block
+-- Opens a lexical region, and then declares its handle as a local of the block.
 abbrev pub opens_lexical : (number : ℕ) → Items → List Entry → Environment → World → State
 opens_lexical number items stack e w =
     Running (Naming number (record { kind = kinds.Handle; value = Handle (length w.regions) }) items) (CloseLexical (length w.regions) ∷ stack) e (opened_as Lexical w)
@@ -33,12 +33,13 @@ closing_lexical Missing focus region stack e w = wrong w
 
 -- ---- dynamic regions
 
--- `new_ukey` opens a region and declares its key as a local
+-- `new_ukey` opens a dynamic region and declares its key as a local.
 abbrev pub opens_dynamic : (number : ℕ) → Items → List Entry → Environment → World → State
 opens_dynamic number items stack e w =
     Running (Naming number (record { kind = kinds.Key; value = Key (length w.regions) }) items) stack e (opened_as Dynamic w)
 
--- `open` reads the key of an open region and declares a local as the handle of the region. The key is lent to the end of the block.
+-- `open` reads the key of an open region and declares a local as the handle of the region. The key is lent until the end of the
+-- block.
 abbrev pub opens_by_key : (number key : ℕ) → Items → List Entry → Environment → World → State
 opens_by_key number key items stack e w = loaded_from kinds.Key (e.locals key) (Needs (OpenBy number key items) ∷ stack) e w
 
@@ -54,7 +55,7 @@ abbrev pub opens_with : (number lent : ℕ) → Items → (key : Value) → List
 opens_with number lent items (Key region) stack e w = opened_by (region_at w region) region number lent items stack e w
 opens_with number lent items value stack e w = wrong w
 
--- `free_ukey` closes the region of a key
+-- `free_ukey` closes the region of a key.
 abbrev pub closes_dynamic : Access Region → (region : ℕ) → List Entry → Environment → World → State
 closes_dynamic (Found r) region stack e w = if is_dynamic r.sort then Running Proceeding stack e (closed w region r) else wrong w
 closes_dynamic Closed region stack e w = dead w
@@ -66,7 +67,8 @@ closes_with value stack e w = wrong w
 
 -- ---- aliases
 
--- reads the unique pointer of a local and stores it in another local as well; the first is lent to the end of the block
+-- Declares an alias: reads the unique pointer of a local and stores it in another local as well; the first local is
+-- lent until the end of the block.
 abbrev pub aliases : (number : ℕ) → Kind → (source : ℕ) → Items → List Entry → Environment → World → State
 aliases number kind source items stack e w = loaded_from kind (e.locals source) (Needs (AliasOf number source items) ∷ stack) e w
 
@@ -75,7 +77,8 @@ aliased number lent items operand stack e w = Running (Naming number operand ite
 
 -- ---- freeing unique objects
 
--- `ufree` of an object in a region. The object is not unique, so the state is wrong. If the region is closed, the access is dead.
+-- Applies `ufree` to an object in a region. The object is not unique, so the state is wrong. If the region is closed, the access
+-- is dead.
 abbrev pub frees_in_region : Access Region → World → State
 frees_in_region (Found r) w = wrong w
 frees_in_region Closed w = dead w

@@ -1,15 +1,16 @@
--- Runs of a source program, with and without limits. The way in which limits end a run is this project's own choice.
+-- Runs of a source program, with and without limits. The way in which an exceeded limit ends a run is this project's
+-- own choice.
 use Rattle.std.specs.Prelude.{ℕ, zero, suc, Bool, ◌&&◌, nat_le, if◌then◌else◌, List, [], ◌∷◌, slice_get}
 use Rattle.cyc_words.specs.Ending.{Full}
 use Rattle.cyc_types.specs.TypedTrees.{Program}
 use Rattle.cyc_meaning.specs.State.{first_world, Main, State, Ended, output_of, input_of, demand, depth}
 use Rattle.cyc_meaning.specs.Step.{called, step}
 
--- the start state: `main` is called, nothing is printed yet, and the whole input is unread
+-- The start state: `main` is called, nothing is printed yet, and the whole input is unread.
 abbrev pub start : Program → (input : List ℕ) → State
 start program input = called (slice_get program.functions program.main) [] (Main ∷ []) (first_world program input)
 
--- the state after this many steps
+-- Returns the state after a given number of steps.
 abbrev pub steps : Program → ℕ → State → State
 steps program zero s = s
 steps program (suc n) s = steps program n (step program s)
@@ -17,8 +18,8 @@ steps program (suc n) s = steps program n (step program s)
 abbrev pub run : Program → (input : List ℕ) → ℕ → State
 run program input n = steps program n (start program input)
 
--- Limits: a maximal number of pages of the store, and of active calls. A step that would exceed a limit ends the run instead, with output
--- and input as before the step.
+-- Says that a state is within the limits: a maximal number of pages of the store, and of active calls. A step that would exceed a limit
+-- ends the run instead, with output and input as before the step.
 abbrev pub is_within : (pages calls : ℕ) → State → Bool
 is_within pages calls s = nat_le (demand s) pages && nat_le (depth s) calls
 

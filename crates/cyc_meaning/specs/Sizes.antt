@@ -1,5 +1,5 @@
 -- THE SIZE OF A PROGRAM, and a bound on the length of its image's text. The size of a program and the bound on its image's text are defined
--- on the source only, independently of the compiler's passes. The numbers in this bound are this project's own choice.
+-- on the source only, independently of the compiler's passes. The numbers in the bound are this project's own choice.
 use Rattle.std.specs.Prelude.{◌≡◌, ℕ, Some, slice_get}
 use Rattle.cyc_words.specs.declared.fault.Code.TheVariants.{TooManyFunctions}
 use Rattle.cyc_words.specs.declared.fault.Fault.{Fault}
@@ -21,7 +21,8 @@ size_per_weight = 100
 abbrev pub max_start_words : ℕ
 max_start_words = 7
 
--- the program has too many functions, and the fault is at the name of the first one too many
+-- Says that the program has more functions than permitted, and that the fault is at the name of the
+-- first excess function.
 abbrev pub HasTooMany : Program → Fault → Type 0
 HasTooMany p f = (h : Function) × (slice_get p.functions max_functions ≡ Some h)
     × (f ≡ record { code = TooManyFunctions; line = h.place.line; column = h.place.column })

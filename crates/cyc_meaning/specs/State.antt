@@ -16,7 +16,8 @@ use Rattle.cyc_words.specs.Demand.{demand_of}
 
 -- ---- regions and objects
 
--- the sort of a region: the heap, the region of the globals, the region of the variables of a block or call, or a declared region
+-- The sort of a region: the heap, the region of the globals, the region of the variables of a block or call, or a declared
+-- region.
 pub data Sort : Type 0 where
   Heap : Sort
   Globals : Sort
@@ -27,10 +28,11 @@ pub data Sort : Type 0 where
 pub record Region : Type 0 where
   pub sort : Sort
   pub is_open : Bool
-  -- The sizes of the blocks allocated in the region, in words and in order. The variables of a region do not count as blocks.
+  -- The sizes of the blocks allocated in the region, in words and in order. The variables of a region are not blocks.
   pub blocks : List ℕ
 
--- the owner of an object: the region whose end frees it, or the program's unique pointer to it
+-- The owner of an object: the region whose end frees the object, or the program's unique pointer to
+-- the object.
 pub data Owner : Type 0 where
   InRegion : (region : ℕ) → Owner
   Unique : (live : Bool) → Owner
@@ -39,13 +41,15 @@ pub record Object : Type 0 where
   pub owner : Owner
   pub cells : List Cell
 
--- The part of a state that all calls share. Regions and objects are numbered by their positions in these lists.
+-- The part of a state that all calls share. Regions and objects are numbered by their positions in the world's
+-- lists.
 pub record World : Type 0 where
   pub regions : List Region
   pub objects : List Object
-  -- for each class of unique blocks, the pages for the largest number of live blocks so far
+  -- For each size class of unique blocks, the pages needed for the largest number of blocks that
+  -- were live at once so far.
   pub classes : List ℕ
-  -- the output so far, and the unread input
+  -- The output so far and the unread input.
   pub output : List ℕ
   pub input : List ℕ
 
@@ -58,7 +62,8 @@ globals_number = 1
 
 -- ---- results of an access
 
--- the result of an access: the accessed thing; closed or freed; or missing, if it was never created
+-- The result of an access: the accessed thing; or that it was closed or freed; or that it is
+-- missing because it was never created.
 pub data Access (X : Type 0) : Type 0 where
   Found : X → Access X
   Closed : Access X
@@ -79,7 +84,7 @@ abbrev pub is_live : World → Owner → Bool
 is_live w (InRegion number) = is_open (slice_get w.regions number)
 is_live w (Unique live) = live
 
--- a cell, with the object that contains it
+-- A cell together with the object that contains it.
 pub record Located : Type 0 where
   pub object : Object
   pub cell : Cell
@@ -97,15 +102,15 @@ cell_at w object offset = cell_in w (slice_get w.objects object) offset
 
 -- ---- changes of the world
 
--- a region without blocks
+-- Returns a new region without blocks.
 abbrev pub new_region : Sort → Region
 new_region sort = record { sort = sort; is_open = true; blocks = [] }
 
--- the world with one more region of this sort, which gets the next number
+-- Returns the world with one more region of the given sort; the region gets the next number.
 abbrev pub opened_as : Sort → World → World
 opened_as sort w = record w { regions = w.regions ++ new_region sort ∷ [] }
 
--- a new region for variables
+-- A new region for the variables of a block or call.
 abbrev pub stack_region : Region
 stack_region = new_region Stack
 
@@ -115,15 +120,16 @@ opened w = opened_as Stack w
 abbrev pub closed : World → ℕ → Region → World
 closed w number r = record w { regions = set w.regions number (record r { is_open = false }) }
 
--- a variable is an object of one cell in the region of its block
+-- Returns the object of a variable: it has one cell and belongs to the region of the variable's
+-- block.
 abbrev pub variable : (region : ℕ) → Kind → Option Value → Object
 variable region kind content = record { owner = InRegion region; cells = record { kind = kind; content = content } ∷ [] }
 
--- the world with one more object, which gets the next number
+-- Returns the world with one more object, which gets the next number.
 abbrev pub made : World → Object → World
 made w x = record w { objects = w.objects ++ x ∷ [] }
 
--- the world with a value written into a cell
+-- Returns the world with a value written into a cell.
 abbrev pub written : World → (object offset : ℕ) → Located → Value → World
 written w object offset at value = record w {
   objects = set w.objects object (record at.object {
@@ -134,13 +140,14 @@ written w object offset at value = record w {
 -- ---- calls
 
 -- The environment of the running call: the object of each of its locals, the region of the innermost block's variables, and the counter
--- value of each level. A counter is not a variable. A local that is declared again, in another iteration of a loop, is another object.
+-- value of each level. A counter of an array initializer is not a variable. If a local is declared again, in another iteration of a
+-- loop, it is another object.
 pub record Environment : Type 0 where
   pub locals : ℕ → Option ℕ
   pub home : ℕ
   pub counters : ℕ → Option ℕ
 
--- the environment of a call whose region is not yet opened
+-- The environment of a call whose region is not yet opened.
 abbrev pub no_locals : Environment
 no_locals = record { locals = λ (number : ℕ). None; home = globals_number; counters = λ (level : ℕ). None }
 
@@ -156,96 +163,105 @@ with_counter e level index = record e {
 
 -- ---- the control stack
 
--- Continuations that wait for a value, with the operands computed before. If `peek` is a local, then a place or an operand was reached by a
--- peek of this local. The local must not change while the awaited part is evaluated.
+-- Continuations that wait for a value, with the operands computed before. If `peek` is a local, then a cell or an operand was reached by
+-- peeking at that local. The local must not change while the awaited part is evaluated.
 pub data Awaiting : Type 0 where
-  -- converts the value from the first kind to the second; a pointer has this target
+  -- Converts the awaited value from the kind `from` to the kind `to`; a pointer must point to
+  -- `target`.
   ConvertTo : (from to : Kind) → (target : Option Kind) → Awaiting
   Operate : UnaryOperator → Awaiting
-  -- the rest of a chain of operators, after the value of everything before
+  -- The remaining operators of a chain, which wait for the value of the chain's part before them.
   Chain : Operations → Awaiting
   -- applies an operator to the left operand and the awaited right operand
   Apply : Operator → (left : Operand) → Awaiting
   ApplyPointer : (peek : Option ℕ) → PointerOperator → (left : Operand) → Awaiting
-  -- the right operand of `&&` or `||`, if the left one did not decide
+  -- Waits for the right operand of `&&` or `||`, if the left one did not decide.
   Decide : Awaiting
-  -- stores the value in a variable, given as a thin pointer, or in a cell that a pointer led to
+  -- Stores the awaited value in a variable, given as a thin pointer, or in a cell found by
+  -- evaluating a pointer.
   Store : (place : Value) → Awaiting
   StoreCell : (peek : Option ℕ) → (place : Value) → Awaiting
-  -- an argument, with the arguments before it (newest first) and those after it
+  -- Waits for an argument of a call, with the arguments before it (newest first) and those after
+  -- it.
   Pass : Callee → (before : List Operand) → Arguments → Awaiting
-  -- the pointer of `*e`, of this kind, with its target: a cell of a kind, or a struct
+  -- Waits for the pointer of `*e`, which has the given kind, with its target: a cell of a kind, or
+  -- a struct.
   Follow : (pointer : Kind) → (target : Option Kind) → Awaiting
-  -- the pointer of `e->f`, with the kinds of the struct's fields and the number of the field
+  -- Waits for the pointer of `e->f`, with the kinds of the struct's fields and the number of the
+  -- field.
   FollowMember : (pointer : Kind) → (fields : List Kind) → (field : ℕ) → Awaiting
-  -- the fat pointer of `e[i]`, and then its index
+  -- Waits for the fat pointer of `e[i]`, and then for the index.
   Index : (peek : Option ℕ) → (target : Option Kind) → (index : Expression) → Awaiting
   Advance : (peek : Option ℕ) → (target : Option Kind) → (base : Operand) → Awaiting
-  -- the operand of `numelts`, of `ufree` or of `free_ukey`
+  -- Waits for the operand of `numelts`, of `ufree` or of `free_ukey`.
   CountElements : Awaiting
   FreeObject : Awaiting
   CloseByKey : Awaiting
-  -- the handle of the region in which `rnew` allocates
+  -- Waits for the handle of the region in which `rnew` allocates.
   PlaceBy : Initial → Awaiting
-  -- an object that `rnew` allocates in this region: its handle is kept while the initial value is evaluated; then the value is passed on
+  -- Waits for an object that `rnew` allocates in a region. The region's handle is kept while the initial value is evaluated; then the
+  -- object's pointer is passed on.
   BesideHandle : (region : ℕ) → Awaiting
-  -- the value of the only cell of a new object of this kind, to be allocated for this owner
+  -- Waits for the value of the only cell of a new object of the given kind, which will be allocated
+  -- for the given owner.
   MakePlain : Owner → Kind → Awaiting
-  -- a field of a new struct, with the fields before it (newest first) and those after it
+  -- Waits for a field of a new struct, with the fields before it (newest first) and those after it.
   MakeFields : Owner → (before : List Operand) → Arguments → Awaiting
-  -- the length of a new array, and then each of its elements
+  -- Waits for the length of a new array, and then for each of its elements.
   MakeArray : Owner → (level : ℕ) → Kind → (element : Expression) → Awaiting
   FillElement : (object count index level : ℕ) → Kind → (element : Expression) → Awaiting
-  -- the initial value of a local, followed by the rest of its block
+  -- Waits for the initial value of a local, followed by the rest of its block.
   Initialise : (number : ℕ) → Kind → Items → Awaiting
-  -- the condition of an `if` or of a `while`
+  -- Waits for the condition of an `if` or of a `while`.
   Choose : Statement → Statement → Awaiting
   Test : Expression → Statement → Awaiting
-  -- the returned value of a call
+  -- Waits for the returned value of a call.
   Return : Awaiting
-  -- the int of a thrown exception
+  -- Waits for the int of a thrown exception.
   ThrowWith : (tag : ℕ) → Awaiting
-  -- the key whose region a local becomes the handle of, or the pointer that a local becomes an alias of; the local `lent` is lent
+  -- Waits for a key or for a unique pointer: a local becomes the handle of the key's region, or an alias of the pointer; the
+  -- local `lent` is lent.
   OpenBy : (number lent : ℕ) → Items → Awaiting
   AliasOf : (number lent : ℕ) → Items → Awaiting
 
--- Continuations that wait for the place that a pointer leads to.
+-- Continuations that wait for the cell that a pointer points to.
 pub data AwaitingPlace : Type 0 where
-  -- reads a cell of this kind
+  -- Reads a cell, which must have the given kind.
   LoadFrom : Kind → AwaitingPlace
   TakeAddress : AwaitingPlace
-  -- the left side of `=`, followed by the right side
+  -- Waits for the cell on the left side of `=`, followed by the right side.
   StoreTo : (peek : Option ℕ) → Converted → AwaitingPlace
-  -- A side of a swap of values of this kind. The side is the left one, which the right side follows. The side may also be the right one,
-  -- after the left place, which is a cell or a variable.
+  -- Waits for one side of a swap of values of the given kind. `SwapLeft` waits for the left side, which the right side follows.
+  -- `SwapRight` waits for the right side, after the left side, which is a cell or a variable.
   SwapLeft : Kind → (peek : Option ℕ) → (right : Side) → AwaitingPlace
   SwapRight : Kind → (peek : Option ℕ) → (is_cell : Bool) → (left : Value) → AwaitingPlace
 
 pub data Entry : Type 0 where
   Needs : Awaiting → Entry
   NeedsPlace : AwaitingPlace → Entry
-  -- an expression evaluated for its effects: its value, if any, is dropped
+  -- Waits for an expression that is evaluated for its effects: its value, if any, is dropped.
   Discard : Entry
-  -- the rest of a block
+  -- The rest of a block, which is executed next.
   Rest : Items → Entry
-  -- the join after the branches of an `if`
+  -- The join point after the branches of an `if`.
   Join : Entry
   -- the loop whose body is being executed
   Loop : Expression → Statement → Entry
-  -- the end of a region of variables; after it `home` is again the region of the variables
+  -- Ends a region of variables. After the end of the region, `home` is again the region of the
+  -- variables.
   CloseRegion : (region home : ℕ) → Entry
-  -- the end of a lexical region
+  -- Ends a lexical region.
   CloseLexical : (region : ℕ) → Entry
-  -- the end of a loan of this local: its unique object, or the region of its key, was lent to the end of the block
+  -- Ends a loan of a local: its unique object, or the region of its key, was lent until the end of the block.
   EndLoan : (lent : ℕ) → Entry
-  -- the clauses of the `try` whose body is being executed
+  -- The clauses of the `try` whose body is being executed.
   Handler : Clauses → Entry
-  -- the end of a call, after which the caller continues with this environment
+  -- Ends a call, after which the caller continues with the saved environment.
   Caller : Environment → Entry
-  -- the end of the call of `main`
+  -- Ends the call of `main`.
   Main : Entry
 
--- a write of a cell, given by a thin pointer, with the value to write
+-- A write to a cell: a thin pointer to the cell, and the value to write.
 pub record Write : Type 0 where
   pub place : Value
   pub operand : Operand
@@ -253,47 +269,52 @@ pub record Write : Type 0 where
 -- The focus: the next action.
 pub data Focus : Type 0 where
   Evaluating : Expression → Focus
-  -- evaluates a place that a pointer leads to
+  -- Evaluates an expression for a cell that a pointer points to.
   Locating : Dereference → Focus
-  -- passes a value to the newest entry; or a place, as a thin pointer
+  -- Passes a value to the newest stack entry; `GivenPlace` passes the location of a cell, as a thin
+  -- pointer.
   Given : Operand → Focus
   GivenPlace : (place : Value) → Focus
   Executing : Statement → Focus
-  -- an action is complete, and the newest entry continues
+  -- An action is complete, and the newest stack entry continues.
   Proceeding : Focus
-  -- all arguments are evaluated, newest first, and the call follows
+  -- All arguments of a call are evaluated, newest first, and the call follows.
   Calling : Callee → (arguments : List Operand) → Focus
-  -- opens the region of a call, and then declares its parameters from this number on; the arguments are in order
+  -- Opens the region of a call, and then declares its parameters from the given number on; the arguments are in
+  -- order.
   Entering : Function → (arguments : List Operand) → Focus
   Binding : (number : ℕ) → List Ty → (arguments : List Operand) → (body : Items) → Focus
-  -- declares a local with this initial content, and continues with the rest of its block
+  -- Declares a local with the given initial content, and continues with the rest of its block.
   Naming : (number : ℕ) → Operand → Items → Focus
   -- Writes the cells of a new object, or the two cells of a swap, one by one. After the cells are written, a value is passed on, if there
   -- is one.
   Writing : List Write → Option Operand → Focus
-  -- allocates the block of an array of this many elements, and then evaluates its elements one by one
+  -- Allocates the block of an array of `count` elements, and then evaluates its elements one by one.
   Beginning : Owner → (count level : ℕ) → Kind → (element : Expression) → Focus
   Repeating : (object count index level : ℕ) → Kind → (element : Expression) → Focus
-  -- Both places of a swap of values of this kind are known, and are read one by one. The optional operand is the value of the left place,
-  -- once that place was read.
+  -- Both cells of a swap of values of the given kind are known, and are read one by one. The optional operand is the value of the left
+  -- cell, once that cell was read.
   Swapping : Kind → (left right : Value) → Option Operand → Focus
-  -- pops entries, newest first: down to a loop, or to the end of the call
+  -- Pops stack entries, newest first: down to a loop, or to the end of the call.
   Breaking : Focus
   Continuing : Focus
   Returning : Option Operand → Focus
-  -- pops entries down to a `try` with a clause that catches the exception
+  -- Pops stack entries down to a `try` with a clause that catches the exception.
   Throwing : (tag value : ℕ) → Focus
   Catching : (tag value : ℕ) → Clauses → Focus
 
 -- ---- states
 
--- running, with a control stack (newest entry first); ended; or one of two outcomes that do not end a program
+-- The state of a program: running, with a control stack (newest entry first); ended; or one of two outcomes
+-- that are not ways for a program to end.
 pub data State : Type 0 where
   Running : Focus → (stack : List Entry) → Environment → World → State
   Ended : Ending → (output input : List ℕ) → State
-  -- a dead access: to a closed region, to its objects, or to a freed object
+  -- A dead access happened: an access to a closed region, to an object in a closed region, or to a
+  -- freed object.
   Dead : (output input : List ℕ) → State
-  -- no case applies, for instance if a cell holds nothing yet or a value has the wrong shape
+  -- No case of the semantics applies, for instance because a cell holds nothing yet or a value has
+  -- the wrong shape.
   Wrong : (output input : List ℕ) → State
 
 abbrev pub output_of : State → List ℕ
@@ -308,7 +329,7 @@ input_of (Ended ending output input) = input
 input_of (Dead output input) = input
 input_of (Wrong output input) = input
 
--- The status of a state, without its content.
+-- The status of a state: whether the state is running, or how it is over.
 pub data Status : Type 0 where
   GoesOn : Status
   HasEnded : Ending → Status
@@ -323,7 +344,8 @@ status_of (Wrong output input) = IsWrong
 
 -- ---- demand and call depth
 
--- True for the regions that need pages of the store: the heap, and the open ones among those that a program declares.
+-- Returns true for the regions that need pages of the store: the heap, and the open ones among the regions that a
+-- program declares.
 abbrev pub has_pages : Sort → (flag : Bool) → Bool
 has_pages Heap flag = true
 has_pages Globals flag = false
@@ -335,14 +357,15 @@ abbrev pub counted : List Region → List (List ℕ)
 counted [] = []
 counted (r ∷ regions) = if has_pages r.sort r.is_open then r.blocks ∷ counted regions else counted regions
 
--- the number of pages of the store in use
+-- Returns the number of pages of the store in use.
 abbrev pub demand : State → ℕ
 demand (Running focus stack e w) = demand_of (counted w.regions) w.classes
 demand (Ended ending output input) = 0
 demand (Dead output input) = 0
 demand (Wrong output input) = 0
 
--- the number of active calls, including that of `main`; calls of `putchar` and `getchar` do not count
+-- Returns the number of active calls, including that of `main`; calls of `putchar` and `getchar` are
+-- not counted.
 abbrev pub calls_in : List Entry → ℕ
 calls_in [] = 0
 calls_in (Caller e ∷ stack) = suc (calls_in stack)
@@ -364,15 +387,16 @@ constant_value typed.Null = Null
 abbrev pub global_object : GlobalVariable → Object
 global_object g = variable globals_number (kind_of g.of_type) (Some (constant_value g.value))
 
--- the heap and the region of the globals
+-- The regions that exist at the start: the heap and the region of the globals.
 abbrev pub first_regions : List Region
 first_regions = new_region Heap ∷ new_region Globals ∷ []
 
--- no class of unique blocks has pages yet; the classes are those of 1, 2, 4 and so on up to 1,024 words
+-- At the start no size class of unique blocks has pages; the classes are those of 1, 2, 4 and so on up
+-- to 1,024 words.
 abbrev pub first_classes : List ℕ
 first_classes = 0 ∷ 0 ∷ 0 ∷ 0 ∷ 0 ∷ 0 ∷ 0 ∷ 0 ∷ 0 ∷ 0 ∷ 0 ∷ []
 
--- the world at the start; each global is the object with its number
+-- Returns the world at the start; each global is the object with the global's number.
 abbrev pub first_world : Program → (input : List ℕ) → World
 first_world program input = record {
   regions = first_regions;

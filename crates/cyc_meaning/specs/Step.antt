@@ -35,7 +35,8 @@ pub use Rattle.cyc_meaning.specs.Parts.{dead, wrong, ends, gives, computed, targ
 
 -- ---- calls
 
--- a call of a function with as many arguments as parameters, in order
+-- Calls a function, which must have as many parameters as the call has arguments; the arguments are
+-- in order.
 abbrev pub called : Option Function → (arguments : List Operand) → List Entry → World → State
 called (Some h) arguments stack w =
     if length arguments == length h.parameters then Running (Entering h arguments) stack no_locals w else wrong w
@@ -62,12 +63,12 @@ step_calling program callees.Getchar arguments stack e w = reads (values_of argu
 step_calling program (callees.Function number) arguments stack e w =
     called (slice_get program.functions number) (reverse arguments) (Caller e ∷ stack) w
 
--- opens the region of the function's parameters and of its body's outermost variables
+-- Opens the region of a function's parameters and of its body's outermost variables.
 abbrev pub step_entering : Function → (arguments : List Operand) → List Entry → Environment → World → State
 step_entering h arguments stack e w =
     Running (Binding 0 h.parameters arguments h.body) (region_end e w ∷ stack) (inside e w) (opened w)
 
--- declares a parameter as a local that holds its argument
+-- Declares a parameter as a local that holds its argument.
 abbrev pub step_binding : (number : ℕ) → List Ty → (arguments : List Operand) → (body : Items) → List Entry → Environment → World → State
 step_binding number [] [] body stack e w = Running Proceeding (Rest body ∷ stack) e w
 step_binding number (t ∷ types) (value ∷ arguments) body stack e w =
@@ -78,29 +79,30 @@ step_binding number types arguments body stack e w = wrong w
 
 -- ---- evaluation
 
--- arguments are evaluated and converted one by one
+-- Evaluates and converts the arguments of a call one by one.
 abbrev pub passes : Callee → (before : List Operand) → Arguments → List Entry → Environment → World → State
 passes callee before NoArguments stack e w = Running (Calling callee before) stack e w
 passes callee before (MoreArguments (Convert from to a) arguments) stack e w =
     Running (Evaluating a) (Needs (ConvertTo from to (target_by a)) ∷ Needs (Pass callee before arguments) ∷ stack) e w
 
--- The place of an assignment is evaluated before its right side.
+-- In an assignment, the assigned variable or cell is evaluated before the right side.
 abbrev pub assigned : Option ℕ → Converted → List Entry → Environment → World → State
 assigned (Some object) (Convert from to a) stack e w =
     Running (Evaluating a) (Needs (ConvertTo from to (target_by a)) ∷ Needs (Store (Thin object 0)) ∷ stack) e w
 assigned None c stack e w = wrong w
 
--- the address of a variable
+-- Passes on the address of a variable.
 abbrev pub addressed : Option ℕ → List Entry → Environment → World → State
 addressed (Some object) stack e w = gives kinds.NonNull (Thin object 0) stack e w
 addressed None stack e w = wrong w
 
--- the counter of an enclosing `for`
+-- Passes on the counter of an enclosing `for`.
 abbrev pub counts : Option ℕ → List Entry → Environment → World → State
 counts (Some index) stack e w = gives kinds.Int (Int index) stack e w
 counts None stack e w = wrong w
 
--- A moved local also keeps its value here, since the semantics does not track moves.
+-- Evaluates an expression. In this semantics a moved local also keeps its value, since the
+-- semantics does not track moves.
 abbrev pub step_evaluating : Expression → List Entry → Environment → World → State
 step_evaluating (Number n) stack e w = gives kinds.Int (Int n) stack e w
 step_evaluating NullPointer stack e w = gives kinds.Nullable Null stack e w
@@ -134,12 +136,12 @@ tested (Some fails) operator b rest stack e w =
     decided (decides operator fails) fails b rest stack e w
 tested None operator b rest stack e w = wrong w
 
--- evaluates the right operand, if the left one has a kind that its operator takes
+-- Evaluates the right operand, if the left one has a kind that its operator accepts.
 abbrev pub awaits_right : Bool → Awaiting → (right : Expression) → Operations → List Entry → Environment → World → State
 awaits_right true waiting b rest stack e w = Running (Evaluating b) (Needs waiting ∷ Needs (Chain rest) ∷ stack) e w
 awaits_right false waiting b rest stack e w = wrong w
 
--- continues a chain with the value of everything before
+-- Continues a chain of operators with the value of the part before.
 abbrev pub chained : Operations → Operand → List Entry → Environment → World → State
 chained NoOperations left stack e w = Running (Given left) stack e w
 chained (ThenCompute operator b rest) left stack e w =
@@ -151,7 +153,7 @@ chained (ThenPointer operator b rest) left stack e w =
 chained (ThenPointerPeek number operator b rest) left stack e w =
     awaits_right (takes_kind operator left.kind) (ApplyPointer (Some number) operator left) b rest stack e w
 
--- passes on whether two thin pointers are equal, or whether they differ
+-- Passes on whether two thin pointers are equal, or, if `negated`, whether they differ.
 abbrev pub tells : (negated : Bool) → Access Bool → List Entry → Environment → World → State
 tells false (Found equal) stack e w = gives kinds.Int (Int (truth equal)) stack e w
 tells true (Found equal) stack e w = gives kinds.Int (Int (if equal then 0 else 1)) stack e w
@@ -175,12 +177,12 @@ looped (Some true) condition body stack e w = Running Proceeding stack e w
 looped (Some false) condition body stack e w = Running (Executing body) (Loop condition body ∷ stack) e w
 looped None condition body stack e w = wrong w
 
--- converts a value, if it has the kind and the target that the tree states
+-- Converts a value, if it has the kind and the target that the tree states.
 abbrev pub converts : (from to : Kind) → (target : Option Kind) → Operand → List Entry → Environment → World → State
 converts from to target value stack e w =
     if is_kind value.kind from && leads_to w target (followed value.value) then computed to (conversion to value.value) stack e w else wrong w
 
--- A local receives its initial value; then the rest of its block follows.
+-- Initializes a local with a value; then the rest of its block follows.
 abbrev pub initialises : (number : ℕ) → Kind → Items → Operand → List Entry → Environment → World → State
 initialises number kind items value stack e w =
     if is_kind value.kind kind
@@ -227,7 +229,7 @@ step_given value stack e w = wrong w
 
 -- ---- statements
 
--- evaluates the condition of a loop, at first and again after each iteration
+-- Evaluates the condition of a loop, at first and again after each iteration.
 abbrev pub tests : (condition : Expression) → (body : Statement) → List Entry → Environment → World → State
 tests condition body stack e w = Running (Evaluating condition) (Needs (Test condition body) ∷ stack) e w
 
@@ -251,7 +253,8 @@ step_executing (Swap left right) stack e w = swaps left right stack e w
 step_executing (Throw tag value) stack e w = throws tag value stack e w
 step_executing (Try s handler) stack e w = tries s handler stack e w
 
--- An initial value is evaluated before its local is declared. A local without one holds nothing yet.
+-- Declares a local after evaluating its initial value. A local without an initial value holds
+-- nothing yet.
 abbrev pub declares : (number : ℕ) → Ty → Option Converted → Items → List Entry → Environment → World → State
 declares number t None items stack e w =
     declared (region_at w e.home) Proceeding number (kind_of t) None (Rest items ∷ stack) e w
@@ -267,7 +270,8 @@ continues_with (MoreItems (OpenRegion region number p key) items) stack e w = op
 continues_with (MoreItems (DeclareAlias region number t p source) items) stack e w = aliases number (kind_of t) source items stack e w
 continues_with (MoreItems (DeclareKey region number) items) stack e w = opens_dynamic number items stack e w
 
--- The end of a function's body without a `return` acts like a return without a value.
+-- Continues with the newest stack entry. The end of a function's body without a `return` acts like
+-- a return without a value.
 abbrev pub step_proceeding : List Entry → Environment → World → State
 step_proceeding [] e w = wrong w
 step_proceeding (Needs a ∷ stack) e w = wrong w
@@ -321,12 +325,12 @@ step_continuing (Handler handler ∷ stack) e w = Running Continuing stack e w
 step_continuing (Caller outer ∷ stack) e w = wrong w
 step_continuing (Main ∷ stack) e w = wrong w
 
--- passes the returned value, if any, to the caller
+-- Passes the returned value, if any, to the caller.
 abbrev pub returned : Option Operand → List Entry → Environment → World → State
 returned (Some value) stack e w = Running (Given value) stack e w
 returned None stack e w = Running Proceeding stack e w
 
--- the value that `main` returns ends the run
+-- The value that `main` returns ends the run.
 abbrev pub ends_with : Value → World → State
 ends_with (Int word) w = ends (Returned (signed word)) w
 ends_with value w = wrong w
@@ -352,8 +356,8 @@ step_returning value (Handler handler ∷ stack) e w = Running (Returning value)
 step_returning value (Caller outer ∷ stack) e w = returned value stack outer w
 step_returning value (Main ∷ stack) e w = main_returned value w
 
--- An exception is caught by a clause of a `try`, or propagates. An exception that nothing catches ends the run after all entries were
--- popped.
+-- An exception is caught by a clause of a `try`, or propagates. An exception that nothing catches ends the run after all stack
+-- entries were popped.
 abbrev pub step_throwing : (tag value : ℕ) → List Entry → Environment → World → State
 step_throwing tag value [] e w = ends (Uncaught tag (signed value)) w
 step_throwing tag value (Needs a ∷ stack) e w = Running (Throwing tag value) stack e w

@@ -1,5 +1,5 @@
--- Swaps: first the left place is evaluated, then the right one. After both places of a swap are evaluated, both are read, the left one
--- first, and written. (The order of evaluation is this project's own choice.)
+-- Swaps: first the left side is evaluated, then the right one. After both sides of a swap are evaluated, both cells are read, the left
+-- one first, and written. (The order of evaluation is this project's own choice.)
 use Rattle.std.specs.Prelude.{ℕ, List, [], ◌∷◌, Option, Some, None, if◌then◌else◌, Bool, false}
 use Rattle.cyc_types.specs.declared.typed.Kind.{Kind}
 use Rattle.cyc_types.specs.TypedTrees.{type_of_place, peeked, Side, VariableSide, CellSide}
@@ -7,7 +7,7 @@ use Rattle.cyc_meaning.specs.Values.{Value, Thin, Operand, kind_of, is_kind}
 use Rattle.cyc_meaning.specs.State.{World, Access, Found, Closed, Missing, Located, cell_at, Environment, SwapLeft, SwapRight, Entry, NeedsPlace, Locating, Writing, Swapping, State, Running}
 use Rattle.cyc_meaning.specs.Parts.{dead, wrong, object_of}
 
--- both places of a swap are evaluated
+-- Both sides of a swap are evaluated, and the reads of their cells follow.
 abbrev pub both_places : Kind → (left right : Value) → List Entry → Environment → World → State
 both_places kind left right stack e w = Running (Swapping kind left right None) stack e w
 
@@ -32,7 +32,7 @@ swaps (CellSide d) right stack e w =
 
 -- ---- the values of a swap
 
--- reads the left place, then the right one, whose value is written to the left place
+-- Reads the left cell of a swap, then the right one, whose value is written to the left cell.
 abbrev pub swap_read : Kind → (left right : Value) → (before : Option Operand) → Value → List Entry → Environment → World → State
 swap_read kind left right None value stack e w =
     Running (Swapping kind left right (Some (record { kind = kind; value = value }))) stack e w

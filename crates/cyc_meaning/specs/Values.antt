@@ -1,5 +1,5 @@
 -- Values, the cells that contain them, and the operands that wait with their kinds. Pointers contain no addresses: a pointer names an
--- object by its number. The kinds of values and that a fat pointer takes three words are the Cyclone User's Manual's (1.0); the form is
+-- object by its number. The kinds of values and the three words of a fat pointer are the Cyclone User's Manual's (1.0); the form is
 -- this project's own choice.
 use Rattle.std.specs.Prelude.{ℕ, ◌+◌, ◌*◌, ◌/◌, ◌==◌, ◌&&◌, Bool, true, false, max, List, [], ◌∷◌, map, Option, None}
 use Rattle.cyc_types.specs.declared.typed.Kind.{Kind}
@@ -10,20 +10,22 @@ use Rattle.cyc_types.specs.Types.{Ty}
 use Rattle.cyc_types.specs.Types as types
 
 pub data Value : Type 0 where
-  -- A word of 32 bits, read as a signed number in two's complement. The word of a char is below 256.
+  -- An int or a char is a word of 32 bits, read as a signed number in two's complement. The word of
+  -- a char is below 256.
   Int : (word : ℕ) → Value
-  -- the null pointer, of any mark
+  -- The null pointer, of any kind of pointer.
   Null : Value
-  -- a thin pointer to a cell of an object
+  -- A thin pointer to a cell of an object.
   Thin : (object offset : ℕ) → Value
-  -- A fat pointer to a part of an object: its first cell, its number of cells, and the index into it. The index is a word, as an int is.
+  -- A fat pointer to a part of an object: its first cell, its number of cells, and the index into the part. The index is a word, as an
+  -- int is.
   Fat : (object start count index : ℕ) → Value
-  -- the handle of the region of this number, or the key of a dynamic region
+  -- The handle of the region with the given number, or the key of a dynamic region.
   Handle : (region : ℕ) → Value
   Key : (region : ℕ) → Value
 
--- A value that waits for its use. A waiting value has the kind of the expression that computed it, and so its number of words. A fat null
--- pointer has three words, a thin one has one.
+-- A value that waits for its use. A waiting value has the kind of the expression that computed it, which determines its number of words.
+-- A fat null pointer has three words, a thin one has one.
 pub record Operand : Type 0 where
   pub kind : Kind
   pub value : Value
@@ -35,7 +37,8 @@ kind_of_mark marks.Nullable = kinds.Nullable
 kind_of_mark marks.NonNull = kinds.NonNull
 kind_of_mark marks.Fat = kinds.Fat
 
--- The kind of a cell of this type. No cell has a struct type: a struct is a block of cells.
+-- Returns the kind of a cell of the given type. No cell has a struct type: a struct is a block of
+-- cells.
 abbrev pub kind_of : Ty → Kind
 kind_of types.Int = kinds.Int
 kind_of types.Char = kinds.Char
@@ -44,7 +47,7 @@ kind_of (types.Handle region) = kinds.Handle
 kind_of (types.Key region) = kinds.Key
 kind_of (types.Struct number regions) = kinds.Int
 
--- the number of a kind, by which kinds are compared
+-- Returns the number of a kind; kinds are compared by their numbers.
 abbrev pub number_of_kind : Kind → ℕ
 number_of_kind kinds.Int = 0
 number_of_kind kinds.Nullable = 1
@@ -62,13 +65,13 @@ are_kinds [] [] = true
 are_kinds (a ∷ as') (b ∷ bs) = is_kind a b && are_kinds as' bs
 are_kinds as' bs = false
 
--- true for a thin pointer, nullable or not
+-- Returns true for the kind of a thin pointer, nullable or not.
 abbrev pub is_thin : Kind → Bool
 is_thin kinds.Nullable = true
 is_thin kinds.NonNull = true
 is_thin kind = false
 
--- the number of words of an operand: three for a fat pointer, otherwise one
+-- Returns the number of words of an operand: three for a fat pointer, otherwise one.
 abbrev pub words_of_kind : Kind → ℕ
 words_of_kind kinds.Int = 1
 words_of_kind kinds.Char = 1
@@ -80,7 +83,7 @@ words_of_kind kinds.Key = 1
 
 -- ---- cells
 
--- a cell has a fixed kind, and holds a value or nothing yet
+-- A cell has a fixed kind, and holds a value or nothing yet.
 pub record Cell : Type 0 where
   pub kind : Kind
   pub content : Option Value
@@ -88,11 +91,11 @@ pub record Cell : Type 0 where
 abbrev pub kinds_of : List Cell → List Kind
 kinds_of cells = map (λ (c : Cell). c.kind) cells
 
--- a cell of this kind without a value
+-- Returns a cell of the given kind without a value.
 abbrev pub blank : Kind → Cell
 blank kind = record { kind = kind; content = None }
 
--- the number of bytes of a cell: a char has one
+-- Returns the number of bytes of a cell: a char has one.
 abbrev pub bytes_of_kind : Kind → ℕ
 bytes_of_kind kinds.Int = 4
 bytes_of_kind kinds.Char = 1
@@ -102,7 +105,8 @@ bytes_of_kind kinds.Fat = 12
 bytes_of_kind kinds.Handle = 4
 bytes_of_kind kinds.Key = 4
 
--- the offset of a cell of this kind after this many bytes: at once for a char, otherwise at the next multiple of 4
+-- Returns the offset of a cell that is laid out after `at` bytes: a char is at that offset, and any other cell is
+-- at the next multiple of 4.
 abbrev pub begins : Kind → (at : ℕ) → ℕ
 begins kinds.Int at = 4 * ((at + 3) / 4)
 begins kinds.Char at = at
@@ -112,19 +116,19 @@ begins kinds.Fat at = 4 * ((at + 3) / 4)
 begins kinds.Handle at = 4 * ((at + 3) / 4)
 begins kinds.Key at = 4 * ((at + 3) / 4)
 
--- the offset of the end of that cell
+-- Returns the offset just after a cell that is laid out after `at` bytes.
 abbrev pub following : Kind → (at : ℕ) → ℕ
 following kind at = begins kind at + bytes_of_kind kind
 
--- the number of bytes up to the end of cells of these kinds, laid out after this many bytes
+-- Returns the number of bytes up to the end of cells of the given kinds, laid out after `at` bytes.
 abbrev pub bytes_from : (at : ℕ) → List Kind → ℕ
 bytes_from at [] = at
 bytes_from at (kind ∷ ks) = bytes_from (following kind at) ks
 
--- the number of words that contain this many bytes
+-- Returns the number of words that contain the given number of bytes.
 abbrev pub words_for : (bytes : ℕ) → ℕ
 words_for bytes = (bytes + 3) / 4
 
--- the number of words of a block of these cells: at least one
+-- Returns the number of words of a block with the given cells: at least one.
 abbrev pub block_size : List Cell → ℕ
 block_size cells = max 1 (words_for (bytes_from 0 (kinds_of cells)))

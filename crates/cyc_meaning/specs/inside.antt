@@ -1,4 +1,4 @@
--- definitions that the laws and the contracts of the compiler use
+-- Definitions that the laws and the contracts of the compiler use.
 pub mod Effects
 pub mod Nesting
 pub mod Variables

@@ -1,4 +1,4 @@
--- Bytes of memory and of its words.
+-- This file is about the bytes of memory and of its words.
 use Rattle.std.proofs.Common.{◌≡◌, ℕ, ◌+◌, ◌*◌, ◌/◌, ◌%◌, ◌<◌, refl, sym, ap, subst, ◌∙◌, inl, inr, arith}
 use Rattle.std.specs.Prelude.{◌≢◌}
 use Rattle.std.proofs.lemmas.Bool.{cases_eq}
@@ -12,23 +12,23 @@ use Rattle.cyc_store.proofs.LookupLemmas.{when_other}
 use Rattle.cyc_meaning.specs.Values.{bytes_of_kind}
 use Rattle.cyc_memory_relation.specs.inside.Words.{byte_at, IsBeside}
 
--- a byte of the word at an aligned address
+-- A byte of memory at an aligned address plus i is byte i of the word at this address.
 pub byte-of_word : (m : Memory) (x i : ℕ) → x % 4 ≡ 0 → i < 4 → byte_at m (x + i) ≡ byte_in (m x) i
 byte-of_word m x i even short =
     let word : 4 * ((x + i) / 4) ≡ x = omega (arith, even, short) in
     let place : (x + i) % 4 ≡ i = omega (arith, even, short) in
     ap (λ y. byte_in (m y) ((x + i) % 4)) word ∙ ap (byte_in (m x)) place
 
--- words with equal bytes are equal
+-- Two words with equal bytes are equal.
 pub word-of_bytes : (m n : Memory) (x : ℕ) → AreWords m → AreWords n → x % 4 ≡ 0 → ((i : ℕ) → i < 4 → byte_at n (x + i) ≡ byte_at m (x + i)) → n x ≡ m x
 word-of_bytes m n x old new even same =
     word-same (n x) (m x) (new x) (old x) (λ i short. sym (byte-of_word n x i even short) ∙ (same i short ∙ byte-of_word m x i even short))
 
--- equal words have equal bytes
+-- If two memories have equal words at an address, then they have equal bytes there.
 pub byte-of_same : (m n : Memory) (x : ℕ) → n (word_of x) ≡ m (word_of x) → byte_at n x ≡ byte_at m x
 byte-of_same m n x same = ap (λ w. byte_in w (x % 4)) same
 
--- if all words but those of a cell are equal, all bytes outside the cell are equal
+-- If all words except those of a cell are equal, then all bytes outside the cell are equal.
 pub bytes-beside : (m n : Memory) (kind : Kind) (p words : ℕ) → bytes_of_kind kind ≡ 4 * words → p % 4 ≡ 0
     → ((y : ℕ) → ((j : ℕ) → j < words → y ≢ p + 4 * j) → n y ≡ m y) → (x : ℕ) → IsBeside kind p x → byte_at n x ≡ byte_at m x
 bytes-beside m n kind p words wide even others x (inl low) = byte-of_same m n x (others (word_of x) (λ j below e. omega (arith, even, low, e)))
@@ -36,7 +36,7 @@ bytes-beside m n kind p words wide even others x (inr high) = byte-of_same m n x
 
 -- ---- writing a byte
 
--- memory with the byte at an address replaced, inside its word
+-- The memory after the byte at an address is replaced in its word.
 abbrev pub put_byte : Memory → (address byte : ℕ) → Memory
 put_byte m x b = put m (word_of x) (with_byte (m (word_of x)) (x % 4) b)
 
@@ -49,13 +49,13 @@ put_byte-words m x b words small y = elim (cases_eq y (word_of x)) [
   | inr other ↦ subst (λ w. w < 4294967296) (sym (when_other y (word_of x) (with_byte (m (word_of x)) (x % 4) b) (m y) other)) (words y)
 ]
 
--- the written byte is read back
+-- A byte that is written to memory is read back.
 pub put_byte-same : (m : Memory) (x b : ℕ) → b < 256 → byte_at (put_byte m x b) x ≡ b
 put_byte-same m x b small =
     ap (λ w. byte_in w (x % 4)) (when_equal (word_of x) (word_of x) (with_byte (m (word_of x)) (x % 4) b) (m (word_of x)) refl)
     ∙ byte-same (m (word_of x)) (x % 4) b small
 
--- all other bytes are unchanged
+-- Writing a byte leaves all other bytes of memory unchanged.
 pub put_byte-other : (m : Memory) (x b y : ℕ) → b < 256 → y ≢ x → byte_at (put_byte m x b) y ≡ byte_at m y
 put_byte-other m x b y small other = elim (cases_eq (word_of y) (word_of x)) [
   | inl same ↦
@@ -70,6 +70,6 @@ pub byte-beside : (m : Memory) (p b : ℕ) → b < 256 → (x : ℕ) → IsBesid
 byte-beside m p b small x (inl low) = put_byte-other m p b x small (λ e. omega (arith, low, e))
 byte-beside m p b small x (inr high) = put_byte-other m p b x small (λ e. omega (arith, high, e))
 
--- every byte is below 256
+-- Every byte of memory is below 256.
 pub byte_at-small : (m : Memory) (x : ℕ) → byte_at m x < 256
 byte_at-small m x = byte-small (m (word_of x)) (x % 4)

@@ -1,4 +1,5 @@
--- Cells of live objects: their bytes can be read and represent their contents, and a cell can be written.
+-- This file is about cells of live objects: their bytes can be read and represent their contents, and a
+-- cell can be written.
 use Rattle.std.proofs.Common.{◌≡◌, ℕ, zero, suc, ◌+◌, ◌*◌, ◌/◌, ◌%◌, ◌<◌, ◌≤◌, max, Bool, true, false, List, [], ◌∷◌, length, set, Option, None, Some, is_some, refl, sym, ap, subst, ◌∙◌, inl, inr, arith, length-set}
 use Rattle.std.specs.Prelude.{◌==◌, ◌≢◌, ◌⊎◌, if◌then◌else◌, ◌&&◌, slice_get}
 use Rattle.std.proofs.lemmas.Bool.{cases_Bool, cases_lt, cond-false}
@@ -54,14 +55,14 @@ module _ {t : Tables} {w : World} {s : StoreState} (related : Related t w s) whe
         cc)
   ]
 
-  -- a live object is an object of the store, or a variable
+  -- A live object is either an object of the store or a variable.
   pub live-either : (o : ℕ) (x : Object) → slice_get w.objects o ≡ Some x → is_live w x.owner ≡ true → ((h : ℕ) × Alive t w o h x) ⊎ LiveVariable t w o x
   live-either o x there live = elim (live-lies x.owner live) [
     | inl (h, lies) ↦ inl (h, record { at = there; lies = lies })
     | inr (n, owner, entry) ↦ inr (record { at = there; region = n; owner = owner; entry = entry; live = live })
   ]
 
-  -- a cell that is found belongs to a live object
+  -- A cell that is found belongs to a live object.
   pub found-either : (o k : ℕ) (at : Located) → cell_at w o k ≡ Found at
       → (((h : ℕ) × Alive t w o h at.object) ⊎ LiveVariable t w o at.object) × (slice_get at.object.cells k ≡ Some at.cell)
   found-either o k at found =
@@ -74,7 +75,7 @@ module _ {t : Tables} {w : World} {s : StoreState} (related : Related t w s) whe
       let (row, at, outside) = related.variables o v.region x v.at v.owner v.entry in
       subst IsOfVariable (same_from_some (sym at ∙ placed)) outside
 
-  -- an element of a part, by the kind of its cell
+  -- The address of an element of an array part, computed from the size of the element's cell.
   pub element-found : {o start n p : ℕ} (i : ℕ) (at : Located) (part : IsPartOf t o start n p) → i < n → cell_at w o (start + i) ≡ Found at
       → Points t o (start + i) (p + i * bytes_of_kind at.cell.kind)
   element-found {o} {start} i at part below found =
@@ -83,7 +84,7 @@ module _ {t : Tables} {w : World} {s : StoreState} (related : Related t w s) whe
       (ap (λ ks. slice_get ks (start + i)) (related.shapes o part.address part.kinds at.object there part.row)
       ∙ slice_get-map (λ (z : Cell). z.kind) at.object.cells (start + i) at.cell cell)
 
-  -- a variable is not a live object of the store
+  -- A variable without an address is not a live object of the store.
   pub variable-alone : (o h : ℕ) (x : Object) → slice_get t.rows o ≡ Some Variable → Alive t w o h x → ⊥
   variable-alone o h x row alive = let st : Stands t (homes s) s.memory h o x.cells = related.objects o h x alive in not-placed row st.row
 
@@ -102,7 +103,8 @@ module _ (t : Tables) where
       subst (λ (z : Cell). IsContent t z.kind z.content m (a + begins d.kind at)) (same_from_some found) are.0
   cell-among (d ∷ cells) m a at (suc k) c are found = cell-among cells m a (following d.kind at) k c are.1 found
 
-  -- only the bytes of one cell change, and the cell contains another value
+  -- If only the bytes of one cell change, then the cell contains another value, and the other cells
+  -- are unchanged.
   pub cells-set : (cells : List Cell) (m n : Memory) (a at k : ℕ) (c : Cell) (v : Value) → a % 4 ≡ 0 → AreWords m → AreWords n → AreCells t cells m a at
       → slice_get cells k ≡ Some c → Holds t c.kind v n (a + before_from at k (kinds_of cells))
       → ((x : ℕ) → a + at ≤ x → x < a + bytes_from at (kinds_of cells) → IsBeside c.kind (a + before_from at k (kinds_of cells)) x → byte_at n x ≡ byte_at m x)
@@ -136,7 +138,7 @@ module _ (t : Tables) where
 abbrev pub size_of : List Kind → ℕ
 size_of ks = max 1 (words_for (bytes_from 0 ks))
 
--- replacing an object by another object of its owner and size
+-- Replacing an object by another object with equal owner and size keeps the class of the object.
 class-same : (class : ℕ) (owner : Owner) (cells others : List Cell) → block_size cells ≡ block_size others
     → is_live_in class owner cells ≡ is_live_in class owner others
 class-same class (InRegion n) cells others same = refl
@@ -179,11 +181,11 @@ module _ {t : Tables} {w : World} {s : StoreState} (related : Related t w s) {o 
       let enough : bytes_of_kinds (kinds_of x.cells) ≤ 4 * room h (block_size x.cells) = stands.enough in
       omega (arith, first, enough)
 
-  -- the cell is aligned for its kind
+  -- The address of a cell is aligned for the cell's kind.
   pub cell-aligned : IsAligned c.kind p
   cell-aligned = subst (IsAligned c.kind) (sym place) (before-aligned stands.address k (kinds_of x.cells) c.kind aligned kind-there)
 
-  -- the bytes of the cell lie in the store's address range
+  -- The bytes of a cell of the store lie in the store's address range.
   pub cell-inside : (j : ℕ) → j < bytes_of_kind c.kind → (STORE_BASE ≤ p + j) × (p + j < STORE_BASE + 4 * (PAGE_WORDS * MOST_PAGES))
   cell-inside j below =
       let placed = related.sound.regions.placed h stands.address block stands.found in
@@ -194,7 +196,7 @@ module _ {t : Tables} {w : World} {s : StoreState} (related : Related t w s) {o 
       let here : p ≡ stands.address + before k (kinds_of x.cells) = place in
       (omega (arith, low, here), omega (arith, high, most, bound, here, below))
 
-  -- the word of each byte of the cell can be read
+  -- The word that contains a byte of the cell can be read.
   pub cell-live : (j : ℕ) → j < bytes_of_kind c.kind → word_at s (word_of (p + j)) ≡ Some (s.memory (word_of (p + j)))
   cell-live j below =
       let bound : before k (kinds_of x.cells) + bytes_of_kind c.kind ≤ 4 * room h (block_size x.cells) = inside in
@@ -204,11 +206,11 @@ module _ {t : Tables} {w : World} {s : StoreState} (related : Related t w s) {o 
       subst (λ n. word_at s n ≡ Some (s.memory n)) (sym word)
       (word-live s related.sound h stands.address ((before k (kinds_of x.cells) + j) / 4) block stands.found (omega (arith, below, bound)))
 
-  -- the bytes of the cell represent its content
+  -- The bytes of a cell represent the cell's content.
   pub cell-read : IsContent t c.kind c.content s.memory p
   cell-read = subst (IsContent t c.kind c.content s.memory) (sym place) (cell-among t x.cells s.memory stands.address 0 k c stands.holds at)
 
-  -- a byte of another live object is not part of the cell
+  -- A byte of another live object is not part of the written cell.
   apart : (i g b : ℕ) (y : Object) → Alive t w i g y → (other : Stands t (homes s) s.memory g i y.cells) → i ≢ o
       → other.address ≤ b → b < other.address + 4 * room g (block_size y.cells) → IsBeside c.kind p b
   apart i g b y beside other away low high = elim (cases_lt b p) [
@@ -245,7 +247,7 @@ module _ {t : Tables} {w : World} {s : StoreState} (related : Related t w s) {o 
       | inr other ↦ inr (other.0, record { at = other.1; lies = beside.lies })
     ]
 
-    -- a live object after the write was live before, with an equal row
+    -- An object that is live after a write was live before it, with an equal table row.
     was : (i g : ℕ) (y : Object) → Alive t (written w o k (record { object = x; cell = c }) v) i g y → (z : Object) × Alive t w i g z
     was i g y beside = elim (before-written i g y beside) [
       | inl here ↦ (
@@ -284,7 +286,7 @@ module _ {t : Tables} {w : World} {s : StoreState} (related : Related t w s) {o 
               (λ b least less. others b (apart i g b y beside st away (omega (arith, least)) (omega (arith, less, enough)))) st.holds;
         }
 
-    -- writing a cell keeps the relation, if memory is unchanged elsewhere
+    -- Writing a cell preserves the relation if memory outside the cell is unchanged.
     pub related-written : Related t (written w o k (record { object = x; cell = c }) v) (record s { memory = m })
     related-written = record {
       sound = record {
@@ -332,6 +334,6 @@ module _ {t : Tables} {w : World} {s : StoreState} (related : Related t w s) {o 
 
 -- ---- saved words
 
--- writing a word of a live block changes only that word
+-- Writing a word of a live block changes only this word.
 pub saved-is : (s : StoreState) (x w old : ℕ) → word_at s x ≡ Some old → saved s x w ≡ record s { memory = put s.memory x w }
 saved-is s x w old found = ap (has_saved s x w) found

@@ -1,5 +1,5 @@
--- Chars: a word in a slot, and a byte in a cell. A char variable is the last byte of its word, which is below 256, so the word and the byte
--- are the same value.
+-- This file is about chars: a char is a word in a slot, and a byte in a cell. A char variable is the last byte of its word, which is below
+-- 256, so the word and the byte are the same value.
 use Rattle.std.proofs.Common.{◌≡◌, ℕ, ◌+◌, ◌*◌, ◌/◌, ◌%◌, ◌<◌, true, false, refl, sym, ap, subst, ◌∙◌, arith}
 use Rattle.cyc_words.specs.Bytes.{byte_in, with_byte, word_of}
 use Rattle.cyc_types.specs.declared.typed.Kind.{Kind}
@@ -20,7 +20,7 @@ pub char-kind : (kind : Kind) → is_kind kind kinds.Char ≡ true → kind ≡ 
 char-kind kinds.Char same = refl
 char-kind kind same = absurd (let e : false ≡ true = same in cc)
 
--- cells of all other kinds consist of whole words and are aligned
+-- Cells of all kinds except char consist of whole words and are aligned.
 pub wide-bytes : (kind : Kind) → is_kind kind kinds.Char ≡ false → bytes_of_kind kind ≡ 4 * words_of_kind kind
 wide-bytes kinds.Char wide = absurd (let e : true ≡ false = wide in cc)
 wide-bytes kind wide = refl
@@ -32,7 +32,7 @@ wide-aligned kind address wide there = there
 module _ (t : Tables) where
   -- ---- words
 
-  -- a char's word is below 256
+  -- The word of a char is below 256.
   pub char-small : (v : Value) (m : ℕ → ℕ) (p : ℕ) → Is t kinds.Char v m p → m p < 256
   char-small (Int word) m p is = subst (λ w. w < 256) (sym is.0) is.1
   char-small v m p is = absurd is
@@ -61,26 +61,26 @@ module _ (t : Tables) where
 
   -- ---- cells
 
-  -- the byte loaded from a cell is the word of its value
+  -- The byte that is loaded from a cell of type char is the word of the char's value.
   pub char-loaded : (v : Value) (m : Memory) (a : ℕ) → Holds t kinds.Char v m a → Is t kinds.Char v (λ j. byte_at m a) 0
   char-loaded (Int byte) m a is = (is, subst (λ w. w < 256) is (byte_at-small m a))
   char-loaded v m a is = absurd is
 
-  -- the word of a value, stored as a byte, is the cell's content
+  -- Storing the word of a char as a byte makes the char the content of the cell.
   pub char-stored : (v : Value) (words : ℕ → ℕ) (p : ℕ) (m : Memory) (a : ℕ) → Is t kinds.Char v words p → Holds t kinds.Char v (put_byte m a (words p)) a
   char-stored (Int byte) words p m a is = put_byte-same m a (words p) (subst (λ w. w < 256) (sym is.0) is.1) ∙ is.0
   char-stored v words p m a is = absurd is
 
 -- ---- variables
 
--- The address of a char variable is that of the last byte of its word.
+-- The address of a char variable is the address of the last byte of its word.
 pub last-word : (x : ℕ) → x % 4 ≡ 0 → word_of (x + 3) ≡ x
 last-word x even = let e : 4 * ((x + 3) / 4) ≡ x = omega (arith, even) in e
 
--- loading the last byte of a word below 256 gives the word
+-- Loading the last byte of a word below 256 yields the word.
 pub last-loaded : (word : ℕ) → word < 256 → byte_in word 3 ≡ word
 last-loaded word small = let e : word % 256 ≡ word = omega (arith, small) in e
 
--- storing the last byte of a word below 256 gives the byte as the new word
+-- Storing a byte in the last byte of a word below 256 yields the byte as the new word.
 pub last-stored : (old byte : ℕ) → old < 256 → with_byte old 3 byte ≡ byte
 last-stored old byte small = let e : old / 256 * 256 + byte ≡ byte = omega (arith, small) in e

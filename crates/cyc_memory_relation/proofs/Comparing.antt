@@ -1,4 +1,5 @@
--- Comparing pointers: two words are equal exactly if the pointers are, provided that both objects are live.
+-- This file is about comparing pointers: two words are equal exactly if the pointers are equal, provided
+-- that both objects are live.
 use Rattle.std.proofs.Common.{◌≡◌, ℕ, ◌+◌, ◌*◌, ◌<◌, ◌≤◌, Bool, true, false, length, Some, refl, sym, ap, subst, ◌∙◌, inl, inr, arith}
 use Rattle.std.specs.Prelude.{◌==◌, ◌&&◌, ◌⊎◌, if◌then◌else◌, slice_get}
 use Rattle.std.proofs.lemmas.Bool.{cases_eq, cases_Bool, cond-true, cond-false, and_from, eq-eqb, ne_eqb}
@@ -19,7 +20,7 @@ use Rattle.cyc_memory_relation.proofs.Places.{bytes-some, before-inside, one-pla
 use Rattle.cyc_memory_relation.proofs.Pointers.{same-row, not-null, one_address, ThinIs, thin_null, thin_cell}
 use Rattle.cyc_memory_relation.proofs.Cells.{live-either, variable-outside}
 
--- an address in an object is that of only one cell
+-- An address in an object is the address of only one cell.
 same-cell : {t : Tables} {o k q p : ℕ} → Points t o k p → Points t o q p → k ≡ q
 same-cell {t} {o} {k} {q} {p} first second =
     let (address, kinds) = same-row first.row second.row in
@@ -31,7 +32,7 @@ same-cell {t} {o} {k} {q} {p} first second =
     same-before p a b m n first second same = omega (arith, first, second, same)
 
 module _ {t : Tables} {w : World} {s : StoreState} (related : Related t w s) where
-  -- a pointer leads to a word of its object's block
+  -- A pointer points to a word of its object's block.
   pointer-covered : {o h k p : ℕ} {x : Object} → Alive t w o h x → Points t o k p → (st : Stands t (homes s) s.memory h o x.cells)
       → covers (record { address = st.address; size = room h (block_size x.cells) }) p ≡ true
   pointer-covered {o} {h} {k} {p} {x} alive points st =
@@ -45,7 +46,7 @@ module _ {t : Tables} {w : World} {s : StoreState} (related : Related t w s) whe
       (omega (arith, at, same))
       (omega (arith, at, same, short, some, enough))
 
-  -- equal addresses in live objects belong to one cell
+  -- If two pointers into live objects have equal addresses, then they point to the same cell.
   pub one_cell : {o i h g k q p : ℕ} {x y : Object} → Alive t w o h x → Alive t w i g y → Points t o k p → Points t i q p → (o ≡ i) × (k ≡ q)
   one_cell {o} {i} {h} {g} {k} {q} {p} {x} {y} alive beside first second =
       let st : Stands t (homes s) s.memory h o x.cells = related.objects o h x alive in
@@ -77,7 +78,7 @@ module _ {t : Tables} {w : World} {s : StoreState} (related : Related t w s) whe
       let most : s.pages ≤ 65536 = related.few in
       (omega (arith, low, at, same), omega (arith, high, most, at, same, short, some, enough))
 
-  -- a pointer to a variable is outside the store's address range
+  -- A pointer to a variable is outside the store's address range.
   pub pointer-outside : {o k p : ℕ} {x : Object} → LiveVariable t w o x → Points t o k p → (p < STORE_BASE) ⊎ (STORE_BASE + 4 * (PAGE_WORDS * MOST_PAGES) ≤ p)
   pointer-outside {o} {k} {p} {x} variable points =
       let (kind, there) = slice_get_below points.kinds k points.inside in
@@ -96,7 +97,8 @@ module _ {t : Tables} {w : World} {s : StoreState} (related : Related t w s) whe
   not-both-ranges (low, high) (inl below) = omega (arith, low, below)
   not-both-ranges (low, high) (inr above) = omega (arith, high, above)
 
-  -- equal addresses in live objects and variables belong to one cell
+  -- If two pointers to live objects or variables have equal addresses, then they point to the same
+  -- cell.
   pub one_live_cell : AreApart t w → {o i k q p : ℕ} {x y : Object} → Lives o x → Lives i y → Points t o k p → Points t i q p → (o ≡ i) × (k ≡ q)
   one_live_cell apart (inl (h, alive)) (inl (g, beside)) first second = one_cell alive beside first second
   one_live_cell apart (inl (h, alive)) (inr variable) first second = absurd (not-both-ranges (pointer-inside alive first) (pointer-outside variable second))
@@ -119,7 +121,7 @@ module _ {t : Tables} {w : World} {s : StoreState} (related : Related t w s) whe
         ]
   ]
 
-  -- an object that is found is one of the store's, or a variable
+  -- An object that is found is an object of the store, or a variable.
   pub object-lives : (o : ℕ) (x : Object) → object_at w o ≡ Found x → Lives o x
   object-lives o x found = let (there, live) = live-found o x found in live-either related o x there live
 

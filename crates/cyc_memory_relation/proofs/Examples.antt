@@ -1,5 +1,5 @@
--- Examples: a stale pointer and a new one may be the same word. A block is freed, or its region is closed, and the store reuses the address
--- and the handle. The relation holds before and after, by the lemmas on each service.
+-- This file has examples: a stale pointer and a new one may be the same word. A block is freed, or its region is closed, and the store
+-- reuses the address and the handle. The relation holds before and after, by the lemmas on each request to the store.
 use Rattle.std.proofs.Common.{◌≡◌, ℕ, ◌+◌, ◌^◌, ◌<◌, ◌≤◌, length, true, false, List, [], ◌∷◌, None, Some, refl, ap, arith, inr}
 use Rattle.std.specs.Prelude.{◌==◌, if◌then◌else◌, slice_get}
 use Rattle.cyc_words.proofs.Options.{never_none_and_some}
@@ -19,18 +19,18 @@ use Rattle.cyc_memory_relation.proofs.Making.{allocated-unique}
 use Rattle.cyc_memory_relation.proofs.Services.{freed-unique}
 use Rattle.cyc_memory_relation.proofs.Variables.{declared, opened-variables}
 
--- the heap only, and three empty pages
+-- The tables before the first object, with only the heap, and a store with three empty pages.
 abbrev no_tables : Tables
 no_tables = record { rows = []; handles = Some HEAP ∷ [] }
 
--- the cells of an object with one int
+-- The cells of an object that consists of one int.
 abbrev cells : List Cell
 cells = blank kinds.Int ∷ []
 
 abbrev empty : World
 empty = record { regions = new_region Heap ∷ []; objects = []; classes = first_classes; output = []; input = [] }
 
--- each word is 0, and each block is allocated at the store's first address
+-- In the examples, each word is 0, and each block is allocated at the store's first address.
 abbrev choice : Choice
 choice = record { handle = 3; address = STORE_BASE; memory = λ (x : ℕ). 0 }
 
@@ -88,7 +88,7 @@ new-related = record {
   alone = λ o i h g a x y ks ls first second row also. absurd (never_none_and_some refl first.at);
 }
 
--- nothing is live, so every choice is allowed and no word must be kept
+-- No object is live, so every choice of the store is allowed and no word must be kept.
 may-make : IsAllowed new (Allocate UNIQUE 1) choice
 may-make = record {
   may = (placed, λ x inside. refl);
@@ -125,14 +125,15 @@ points-to number row = record {
   at = refl;
 }
 
--- the pointer to the freed object and the pointer to the new object at its address are the same word
+-- The pointer to the freed object and the pointer to the new object at the same address are the same
+-- word.
 stale-pointer : Is both kinds.NonNull (Thin 0 0) (λ k. STORE_BASE) 0
 stale-pointer = points-to 0 refl
 
 live-pointer : Is both kinds.NonNull (Thin 1 0) (λ k. STORE_BASE) 0
 live-pointer = points-to 1 refl
 
--- an access by the stale pointer is dead, and one by the new pointer finds its cell
+-- An access by the stale pointer is dead, and an access by the new pointer finds its cell.
 stale-is_dead : cell_at other 0 0 ≡ Closed
 stale-is_dead = refl
 
@@ -159,14 +160,15 @@ region_gone = closed (opened_as Lexical empty) 1 (new_region Lexical)
 abbrev two_handles : Tables
 two_handles = with_handle (with_handle no_tables (Some 3)) (Some 3)
 
--- both regions have equal handle words
+-- The closed region and the new region have equal handle words.
 stale-handle : Is two_handles kinds.Handle (Handle 1) (λ k. 3) 0
 stale-handle = refl
 
 live-handle : Is two_handles kinds.Handle (Handle 2) (λ k. 3) 0
 live-handle = refl
 
--- objects of the closed region lie in no store region, and objects of the new one lie in the new one
+-- Objects of the closed region lie in no region of the store, and objects of the new region lie in
+-- the new region.
 stale-lies_nowhere : lies_in two_handles.handles (opened_as Lexical region_gone).regions (InRegion 1) ≡ None
 stale-lies_nowhere = refl
 
@@ -178,14 +180,15 @@ same-demand = refl
 
 -- ---- offsets of cells
 
--- the cell after a fat pointer between ints
+-- The offset of the cell that follows a fat pointer after an int is 16.
 after_fat : before 2 (kinds.Int ∷ kinds.Fat ∷ kinds.Int ∷ []) ≡ 16
 after_fat = refl
 
 bytes_of_three : bytes_of_kinds (kinds.Int ∷ kinds.Fat ∷ kinds.Int ∷ []) ≡ 20
 bytes_of_three = refl
 
--- chars beside an int and a fat pointer: a char is at the next byte, and a word at the next multiple of 4
+-- In an object of chars, an int and a fat pointer, a char is at the next byte, and a word at the next
+-- multiple of 4.
 last_char : before 3 (kinds.Char ∷ kinds.Int ∷ kinds.Char ∷ kinds.Char ∷ []) ≡ 9
 last_char = refl
 
@@ -195,14 +198,14 @@ char_after_fat = refl
 bytes_of_chars : bytes_of_kinds (kinds.Char ∷ kinds.Char ∷ kinds.Char ∷ []) ≡ 3
 bytes_of_chars = refl
 
--- the byte at the lowest address of a word is its highest one
+-- The byte at the lowest address of a word is the highest byte of the word.
 lowest-byte : byte_at (λ (x : ℕ). if x == 8 then 305419896 else 0) 8 ≡ 18
 lowest-byte = refl
 
 next-byte : byte_at (λ (x : ℕ). if x == 8 then 305419896 else 0) 9 ≡ 52
 next-byte = refl
 
--- chars at the addresses of this word are its bytes
+-- The chars at the addresses of the word in memory are the bytes of this word.
 first-char : Holds both kinds.Char (Int 18) (λ (x : ℕ). if x == 8 then 305419896 else 0) 8
 first-char = refl
 
@@ -211,18 +214,18 @@ next-char = refl
 
 -- ---- pairs that the relation rejects
 
--- a char's word is below 256
+-- The word of a char is below 256.
 no-char : Is both kinds.Char (Int 256) (λ k. 256) 0 → ⊥
 no-char (same, small) = omega (arith, small)
 
--- an int is not a pointer, and no kind without null contains the null pointer
+-- An int is not a pointer, and the null pointer has no kind that excludes null.
 no-pointer : Is both kinds.Int (Thin 0 0) (λ k. STORE_BASE) 0 → ⊥
 no-pointer is = is
 
 never-null : Is both kinds.NonNull Null (λ k. 0) 0 → ⊥
 never-null is = is
 
--- the address just after an object is not a pointer to it
+-- The address just after an object is not a pointer to the object.
 not-following : Points both 0 1 (STORE_BASE + 4) → ⊥
 not-following points =
     let (address, ks) = same-row points.row refl in
@@ -232,7 +235,8 @@ not-following points =
 
 -- ---- a variable whose address is taken
 
--- the region of a block, with an int variable whose slot has this address
+-- The world in which the region of a block is open; below it, an int variable of this region has
+-- the address of its slot.
 abbrev in_block : World
 in_block = opened_as Stack empty
 
@@ -265,7 +269,7 @@ variable-pointer = record {
   at = refl;
 }
 
--- the address of a char variable is that of the last byte of its slot's word
+-- The address of a char variable is the address of the last byte of its slot's word.
 abbrev char_there : World
 char_there = made in_block (variable 1 kinds.Char None)
 
@@ -282,6 +286,6 @@ char-related =
 char-byte : byte_at (λ (x : ℕ). if x == slot_address then 65 else 0) (slot_address + 3) ≡ 65
 char-byte = refl
 
--- the variable is not an object of the store
+-- A variable is not an object of the store.
 variable-lies_nowhere : lies_in with_variable.handles declared_there.regions (InRegion 1) ≡ None
 variable-lies_nowhere = refl

@@ -1,4 +1,4 @@
--- lemmas that the proofs of the compiler cite
+-- This module contains the lemmas that the proofs of the compiler cite.
 pub mod Places
 pub mod Bytes
 pub mod Values
@@ -14,5 +14,5 @@ pub mod Services
 pub mod Closing
 pub mod Scopes
 pub mod Start
--- the examples and their basis
+-- This module contains the examples and their basis.
 pub mod Examples

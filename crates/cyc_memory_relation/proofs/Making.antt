@@ -1,5 +1,5 @@
--- New objects, in a region or unique: their cells are blank, and they lie in the block that the store chose. The source's demand decides
--- whether the store is full.
+-- This file is about new objects, in a region or unique: their cells are blank, and they lie in the block that the store chose. The
+-- pages that the source needs decide if the store is full.
 use Rattle.std.proofs.Common.{◌≡◌, ℕ, zero, suc, ◌+◌, ◌*◌, ◌^◌, ◌<◌, ◌≤◌, Bool, true, false, List, [], ◌∷◌, ◌++◌, length, set, None, Some, is_some, refl, sym, ap, subst, ◌∙◌, inl, inr, arith, length-set}
 use Rattle.std.specs.Prelude.{◌≢◌, ◌⊎◌, nat_lt, if◌then◌else◌, slice_get}
 use Rattle.std.proofs.lemmas.List.{length_push}
@@ -39,7 +39,7 @@ use Rattle.cyc_memory_relation.proofs.Serving.{block-made_in, block-made_unique,
 
 -- ---- sizes
 
--- a block placed by the store lies in the range of addresses
+-- A block that the store places lies in the range of addresses.
 pub placed-range : (pages : ℕ) (b : Block) (ks : List Kind) → IsPlaced pages b → pages ≤ MOST_PAGES → bytes_of_kinds ks ≤ 4 * b.size → InRange b.address ks
 placed-range pages b ks placed few fits = record {
   low = let low : 536870912 ≤ b.address = placed.low in omega (arith, low);
@@ -55,7 +55,7 @@ room-unique words = when_equal UNIQUE UNIQUE (2 ^ class_of words) words refl
 room-in : (g words : ℕ) → g ≢ UNIQUE → room g words ≡ words
 room-in g words other = when_other g UNIQUE (2 ^ class_of words) words other
 
--- a block is large enough for the request
+-- The block of a new object is large enough for the object's cells.
 pub room-fits : (g : ℕ) (cells : List Cell) → block_size cells ≤ page_words → bytes_of_kinds (kinds_of cells) ≤ 4 * room g (block_size cells)
 room-fits g cells short = elim (cases_eq g UNIQUE) [
   | inl same ↦
@@ -70,7 +70,7 @@ room-fits g cells short = elim (cases_eq g UNIQUE) [
 
 -- ---- the number of live unique objects of a class
 
--- counting two objects in either order gives the same number
+-- Counting two objects yields the same number in either order.
 pub either-order : (b c : Bool) (n : ℕ)
     → (if b then suc (if c then suc n else n) else (if c then suc n else n)) ≡ (if c then suc (if b then suc n else n) else (if b then suc n else n))
 either-order true true n = refl
@@ -78,7 +78,7 @@ either-order true false n = refl
 either-order false true n = refl
 either-order false false n = refl
 
--- counting with one more object at the end
+-- The number of live objects of a class after one more object is added at the end.
 pub live-last : (class : ℕ) (xs : List Object) (x : Object)
     → live_in class (xs ++ x ∷ []) ≡ (if is_live_in class x.owner x.cells then suc (live_in class xs) else live_in class xs)
 live-last class [] x = refl
@@ -116,7 +116,7 @@ module _ {t : Tables} {w : World} {s r : StoreState} (related : Related t w s) (
     holds = AreCells-blank (with_row t (Placed a (kinds_of x.cells))) x.cells r.memory a 0 blank;
   }
 
-  -- no live object begins at the address of the new one
+  -- No live object begins at the address of the new object.
   none-there : (o h : ℕ) (y : Object) (ks : List Kind) → Alive t w o h y → slice_get (t.rows ++ Placed a (kinds_of x.cells) ∷ []) o ≡ Some (Placed a ks) → ⊥
   none-there o h y ks alive row =
       let st : Stands t (homes s) s.memory h o y.cells = related.objects o h y alive in
@@ -195,14 +195,14 @@ serves s g n c none allowed =
 
 -- ---- allocation in a region
 
--- a region that is found is open
+-- If the lookup of a region succeeds, then the region is open.
 region-open : (w : World) (n : ℕ) (r : Region) → region_at w n ≡ Found r → slice_get w.regions n ≡ Some r → r.is_open ≡ true
 region-open w n r found there = elim (cases_Bool r.is_open) [
   | inl is ↦ is
   | inr not ↦ absurd (let e : Closed ≡ Found r = sym (ap found_region there ∙ cond-false r.is_open (Found r) Closed not) ∙ found in cc)
 ]
 
--- the handle of a region differs from that of the unique blocks
+-- The handle of a region differs from the handle of the unique blocks.
 pub handle-other : {t : Tables} {w : World} {s : StoreState} → Related t w s → (n g : ℕ) (r : Region) → slice_get w.regions n ≡ Some r → has_home r ≡ true
     → slice_get t.handles n ≡ Some (Some g) → (g ≢ UNIQUE) × ((o : Home) × (lookup handle_of s.regions g ≡ Some o))
 handle-other {t} {w} {s} related n g r there kept entry =
@@ -210,7 +210,7 @@ handle-other {t} {w} {s} related n g r there kept entry =
     let found : lookup handle_of s.regions g ≡ Some is.home = subst (λ h. lookup handle_of s.regions h ≡ Some is.home) (same_from_some_some is.entry entry) is.there in
     (λ e. never_none_and_some (subst (λ h. lookup handle_of s.regions h ≡ None) (sym e) related.sound.regions.handles.0) found, (is.home, found))
 
--- an open region with a handle is one of the store's regions
+-- An open region that has a handle is one of the store's regions.
 pub open-home : {t : Tables} {w : World} {s : StoreState} → Related t w s → (n g : ℕ) (r : Region) → region_at w n ≡ Found r
     → slice_get t.handles n ≡ Some (Some g) → (slice_get w.regions n ≡ Some r) × (has_home r ≡ true)
 open-home {t} {w} related n g r found entry =
@@ -235,7 +235,7 @@ module _ {t : Tables} {w : World} {s : StoreState} (related : Related t w s) (n 
       (room-in g (block_size cells) other)
       (Regions-made related.regions related.sound.regions.handles.1 n g r (block_of g (block_size cells) c) there kept entry)
 
-  -- allocating an object in a region keeps the relation
+  -- Allocating an object in a region preserves the relation.
   pub allocated : (c : Choice) → AreBlank cells → refusal s (Allocate g (block_size cells)) ≡ None → IsAllowed s (Allocate g (block_size cells)) c
       → Related (with_row t (Placed c.address (kinds_of cells))) (source.made_in w n r cells) (served s (Allocate g (block_size cells)) c)
   allocated c blank none allowed =
@@ -257,7 +257,7 @@ module _ {t : Tables} {w : World} {s : StoreState} (related : Related t w s) (n 
       related.classes
       (λ class. related.uniques class ∙ sym (live-last class w.objects (record { owner = InRegion n; cells = cells }))))
 
-  -- the condition under which the store refuses the allocation
+  -- The condition under which the store refuses an allocation.
   pub refusal-allocate : is_size (block_size cells) ≡ true
       → refusal s (Allocate g (block_size cells)) ≡ full_at (nat_lt s.pages (pages_of (source.made_in w n r cells)))
   refusal-allocate sized =
@@ -298,7 +298,7 @@ module _ {t : Tables} {w : World} {s : StoreState} (related : Related t w s) (ce
       ∙ (ap (λ m. stores.raised s.classes (class_of_cells cells) (suc m)) (related.uniques (class_of_cells cells))
       ∙ ap (λ l. raised l (class_of_cells cells) (suc (live_in (class_of_cells cells) w.objects))) related.classes)
 
-  -- allocating a unique object keeps the relation
+  -- Allocating a unique object preserves the relation.
   pub allocated-unique : (c : Choice) → AreBlank cells → block_size cells ≤ page_words → refusal s (Allocate UNIQUE (block_size cells)) ≡ None
       → IsAllowed s (Allocate UNIQUE (block_size cells)) c
       → Related (with_row t (Placed c.address (kinds_of cells))) (source.made_unique w cells) (served s (Allocate UNIQUE (block_size cells)) c)
@@ -350,7 +350,8 @@ module _ {t : Tables} {w : World} {s : StoreState} (related : Related t w s) whe
   range-made g cells c short allowed =
       placed-range s.pages (block_of g (block_size cells) c) (kinds_of cells) allowed.may.0 related.few (room-fits g cells short)
 
-  -- the address of the block points to the first cell of a new object, and to the part of all cells of a new array
+  -- The address of the block of a new object points to the object's first cell; the address of the block of a new
+  -- array points to all of its cells.
   pub points-made : (g : ℕ) (first : Cell) (cells : List Cell) (c : Choice) → block_size (first ∷ cells) ≤ page_words → IsAllowed s (Allocate g (block_size (first ∷ cells))) c
       → Points (with_row t (Placed c.address (kinds_of (first ∷ cells)))) (length w.objects) 0 c.address
   points-made g first cells c short allowed =

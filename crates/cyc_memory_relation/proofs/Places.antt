@@ -1,4 +1,5 @@
--- The offsets of an object's cells: increasing, disjoint, and within its bytes.
+-- This file is about the offsets of an object's cells: they increase, the cells are disjoint, and
+-- they are within the object's bytes.
 use Rattle.std.proofs.Common.{◌≡◌, ℕ, zero, suc, ◌+◌, ◌*◌, ◌%◌, ◌<◌, ◌≤◌, max, List, [], ◌∷◌, ◌++◌, length, Some, None, refl, sym, ap, subst, ◌∙◌, inl, inr, arith, add-zero}
 use Rattle.std.specs.Prelude.{slice_get}
 use Rattle.std.proofs.lemmas.Bool.{cases_lt}
@@ -50,7 +51,7 @@ begins-twice kinds.Fat at = omega arith
 begins-twice kinds.Handle at = omega arith
 begins-twice kinds.Key at = omega arith
 
--- after a cell of a kind, the next cell of that kind begins at once
+-- After a cell of a kind, the next cell of the same kind begins without padding.
 pub begins-following : (kind : Kind) (at : ℕ) → begins kind (following kind at) ≡ following kind at
 begins-following kinds.Int at = omega arith
 begins-following kinds.Char at = refl
@@ -64,7 +65,7 @@ begins-step : (kind : Kind) (at : ℕ) → begins kind at ≡ at → begins kind
 begins-step kind at even =
     ap (λ z. begins kind (z + bytes_of_kind kind)) (sym even) ∙ (begins-following kind at ∙ ap (λ z. z + bytes_of_kind kind) even)
 
--- the alignment of a kind; a char may be at any address
+-- Says that an address is aligned for a kind; a char may be at any address.
 abbrev pub IsAligned : Kind → (address : ℕ) → Type 0
 IsAligned kinds.Int address = address % 4 ≡ 0
 IsAligned kinds.Char address = Unit {0}
@@ -94,7 +95,7 @@ before-least at k [] = omega arith
 before-least at zero (kind ∷ ks) = begins-least kind at
 before-least at (suc k) (kind ∷ ks) = omega (arith, begins-least kind at, before-least (following kind at) k ks)
 
--- a cell ends before the end of the object
+-- Each cell ends before the end of its object.
 pub before-inside : (at k : ℕ) (ks : List Kind) (kind : Kind) → slice_get ks k ≡ Some kind → before_from at k ks + bytes_of_kind kind ≤ bytes_from at ks
 before-inside at k [] kind found = absurd (let e : None ≡ Some kind = found in cc)
 before-inside at zero (a ∷ ks) kind found =
@@ -107,7 +108,7 @@ before-all at k [] = omega arith
 before-all at zero (kind ∷ ks) = omega (arith, bytes-least (following kind at) ks)
 before-all at (suc k) (kind ∷ ks) = before-all (following kind at) k ks
 
--- a later cell begins after the end of this one
+-- A later cell of an object begins after the end of an earlier cell.
 pub before-more : (at k l : ℕ) (ks : List Kind) (kind : Kind) → slice_get ks k ≡ Some kind → k < l → before_from at k ks + bytes_of_kind kind ≤ before_from at l ks
 before-more at k l [] kind found less = absurd (let e : None ≡ Some kind = found in cc)
 before-more at k zero (a ∷ ks) kind found less = absurd (omega (arith, less))
@@ -116,7 +117,7 @@ before-more at zero (suc l) (a ∷ ks) kind found less =
     omega (arith, bytes, before-least (following a at) l ks)
 before-more at (suc k) (suc l) (a ∷ ks) kind found less = before-more (following a at) k l ks kind found (omega (arith, less))
 
--- an offset belongs to only one cell
+-- An offset belongs to only one cell of an object.
 pub one-place : (ks : List Kind) (k l : ℕ) → k < length ks → l < length ks → before k ks ≡ before l ks → k ≡ l
 one-place ks k l first second same =
     let (a, here) = slice_get_below ks k first in
@@ -129,7 +130,8 @@ one-place ks k l first second same =
       ]
     ]
 
--- the next cell begins at the first aligned offset after this one
+-- The next cell begins at the first offset after this cell that is aligned for the next cell's
+-- kind.
 pub before-next : (at k : ℕ) (ks : List Kind) (a b : Kind) → slice_get ks k ≡ Some a → slice_get ks (suc k) ≡ Some b
     → before_from at (suc k) ks ≡ begins b (before_from at k ks + bytes_of_kind a)
 before-next at k [] a b first second = absurd (let e : None ≡ Some a = first in cc)
@@ -138,7 +140,7 @@ before-next at zero (c ∷ d ∷ ks) a b first second =
     ap (λ z. begins z (following c at)) (same_from_some second) ∙ ap (λ z. begins b (begins c at + bytes_of_kind z)) (same_from_some first)
 before-next at (suc k) (c ∷ ks) a b first second = before-next (following c at) k ks a b first second
 
--- a cell begins at an offset that is aligned for its kind
+-- Each cell begins at an offset that is aligned for its kind.
 pub before-begins : (at k : ℕ) (ks : List Kind) (kind : Kind) → slice_get ks k ≡ Some kind → begins kind (before_from at k ks) ≡ before_from at k ks
 before-begins at k [] kind found = absurd (let e : None ≡ Some kind = found in cc)
 before-begins at zero (a ∷ ks) kind found = subst (λ z. begins z (begins a at) ≡ begins a at) (same_from_some found) (begins-twice a at)
@@ -152,7 +154,7 @@ pub before-first : (ks : List Kind) → before 0 ks ≡ 0
 before-first [] = refl
 before-first (kind ∷ ks) = begins-first kind
 
--- the offsets of cells of one kind differ by the bytes of one cell
+-- The offsets of consecutive cells of one kind differ by the bytes of one cell.
 pub before-part : (ks : List Kind) (kind : Kind) (start i : ℕ) → ((j : ℕ) → j ≤ i → slice_get ks (start + j) ≡ Some kind)
     → before (start + i) ks ≡ before start ks + i * bytes_of_kind kind
 before-part ks kind start zero even = ap (λ n. before n ks) (add-zero start) ∙ none (before start ks) (bytes_of_kind kind)
@@ -186,13 +188,13 @@ bytes-joined at (a ∷ done) rest = bytes-joined (following a at) done rest
 
 -- ---- blocks
 
--- a block is large enough for all cells
+-- The block of an object is large enough for all cells of the object.
 pub size-enough : (cells : List Cell) → bytes_of_kinds (kinds_of cells) ≤ 4 * block_size cells
 size-enough cells = omega arith
 
 -- ---- arrays
 
--- the cells of an array are consecutive
+-- The cells of an array follow each other without padding.
 pub blanks-bytes : (at count : ℕ) (kind : Kind) → begins kind at ≡ at → bytes_from at (kinds_of (blanks count kind)) ≡ at + count * bytes_of_kind kind
 blanks-bytes at zero kind even = omega arith
 blanks-bytes at (suc count) kind even =

@@ -1,4 +1,5 @@
--- Pointers and their words: conversions, tests for null, and arithmetic. All facts of this file also hold for pointers to freed objects.
+-- This file is about pointers and their words: conversions, tests for null, and arithmetic. All facts of this file also hold for
+-- pointers to freed objects.
 use Rattle.std.proofs.Common.{◌≡◌, ℕ, zero, suc, ◌+◌, ◌-◌, ◌*◌, ◌^◌, ◌<◌, ◌≤◌, Bool, true, false, not, List, ◌∷◌, length, Option, Some, refl, sym, ap, subst, ◌∙◌, arith, add-zero}
 use Rattle.std.specs.Prelude.{◌==◌, ◌≢◌, if◌then◌else◌, slice_get}
 use Rattle.cyc_words.proofs.Numbers.{when_equal}
@@ -21,7 +22,7 @@ use Rattle.cyc_memory_relation.proofs.Values.{Is-same}
 pub same-row : {o : Option Row} {a b : ℕ} {ks ls : List Kind} → o ≡ Some (Placed a ks) → o ≡ Some (Placed b ls) → (a ≡ b) × (ks ≡ ls)
 same-row {o} {a} {b} {ks} {ls} p q = let e : Placed a ks ≡ Placed b ls = same_from_some (sym p ∙ q) in (cc, cc)
 
--- the first cell of an object is at the object's address
+-- The first cell of an object is at the object's address.
 first-at : (a : ℕ) (ks : List Kind) → a + before 0 ks ≡ a
 first-at a ks = ap (λ n. a + n) (before-first ks) ∙ add-zero a
 
@@ -31,7 +32,7 @@ at-first a ks at = at ∙ first-at a ks
 module _ {t : Tables} where
   -- ---- addresses
 
-  -- a pointer to a cell is not 0, whether its object is live or not
+  -- A pointer to a cell is not 0, even if the object of the cell is not live.
   pub not-null : {o k w : ℕ} → Points t o k w → w ≢ 0
   not-null p e =
       let low : 0 < p.address = p.range.low in
@@ -44,13 +45,13 @@ module _ {t : Tables} where
       let at : _ ≡ p.address + before _ p.kinds = p.at in
       omega (arith, low, at, e)
 
-  -- a cell has only one address
+  -- Every cell has only one address.
   pub one_address : {o k v w : ℕ} → Points t o k v → Points t o k w → v ≡ w
   one_address {o} {k} p q =
       let (same, kinds) = same-row p.row q.row in
       p.at ∙ (ap (λ a. a + before k p.kinds) same ∙ (ap (λ ks. q.address + before k ks) kinds ∙ sym q.at))
 
-  -- an address fits into a word
+  -- The address of a cell fits into a 32-bit word.
   pub pointer-word : {o k w : ℕ} → Points t o k w → w < 2 ^ 32
   pointer-word {o} {k} {w} p =
       let high : p.address + bytes_of_kinds p.kinds < 4294967296 = p.range.high in
@@ -60,7 +61,8 @@ module _ {t : Tables} where
 
   -- ---- conversions between pointers
 
-  -- the address of the cell at the index of a fat pointer, if the index is in bounds
+  -- If the index of a fat pointer is in bounds, then the address of the cell at the index is the
+  -- sum of the part's address and the bytes before the cell.
   pub thinned : {o start n w : ℕ} (i : ℕ) (part : IsPartOf t o start n w) → i < n → Points t o (start + i) (w + i * bytes_of_kind part.kind)
   thinned {o} {start} {n} {w} i part below = record {
     address = part.address;
@@ -77,13 +79,13 @@ module _ {t : Tables} where
       away : (w a b c d : ℕ) → w ≡ a + b → c ≡ b + d → w + d ≡ a + c
       away w a b c d at far = omega (arith, at, far)
 
-  -- the address of that cell, by the cell's kind
+  -- The address of the cell at the index of a fat pointer, computed from the kind of the cell.
   pub fat-to_cell : {o start n w : ℕ} (i : ℕ) (kind : Kind) (part : IsPartOf t o start n w) → i < n → slice_get part.kinds (start + i) ≡ Some kind
       → Points t o (start + i) (w + i * bytes_of_kind kind)
   fat-to_cell {o} {start} {n} {w} i kind part below there =
       subst (λ k. Points t o (start + i) (w + i * bytes_of_kind k)) (same_from_some (sym (part.even i below) ∙ there)) (thinned i part below)
 
-  -- a thin pointer as a part of one cell
+  -- A thin pointer describes a part of one cell.
   pub part-of-cell : {o k w : ℕ} → Points t o k w → IsPartOf t o k 1 w
   part-of-cell {o} {k} p =
       let (kind, there) = slice_get_below p.kinds k p.inside in
@@ -101,7 +103,7 @@ module _ {t : Tables} where
       only : (k i : ℕ) → i < 1 → k + i ≡ k
       only k i below = omega (arith, below)
 
-  -- the addresses of an object's cells, from the address of its first cell
+  -- The addresses of an object's cells are the address of the first cell plus their offsets.
   pub member-points : {o w : ℕ} (p : Points t o 0 w) (field : ℕ) → field < length p.kinds → Points t o field (w + before field p.kinds)
   member-points {o} {w} p field inside = record {
     address = p.address;
@@ -114,7 +116,7 @@ module _ {t : Tables} where
 
   -- ---- pointers to a new object
 
-  -- the address of a nonempty object points to its first cell
+  -- The address of an object with at least one cell points to the first cell.
   pub first-points : (o a : ℕ) (kind : Kind) (ks : List Kind) → slice_get t.rows o ≡ Some (Placed a (kind ∷ ks)) → InRange a (kind ∷ ks) → Points t o 0 a
   first-points o a kind ks row range = record {
     address = a;
@@ -125,7 +127,7 @@ module _ {t : Tables} where
     at = sym (first-at a (kind ∷ ks));
   }
 
-  -- the address of an array is a part with all its cells
+  -- The address of an array describes the part that has all cells of the array.
   pub whole-part : (o a count : ℕ) (kind : Kind) → slice_get t.rows o ≡ Some (Placed a (kinds_of (blanks count kind)))
       → InRange a (kinds_of (blanks count kind)) → IsPartOf t o 0 count a
   whole-part o a count kind row range = record {
@@ -169,7 +171,8 @@ module _ (t : Tables) where
     thin_null : kind ≡ kinds.Nullable → word ≡ 0 → ThinIs kind word Null
     thin_cell : (object offset : ℕ) → Points t object offset word → ThinIs kind word (Thin object offset)
 
-  -- the word of a thin null pointer is 0, and that of any other is the address of its cell
+  -- The word of a thin null pointer is 0, and the word of any other thin pointer is the address of
+  -- its cell.
   pub thin-is : (kind : Kind) (v : Value) (m : ℕ → ℕ) (p : ℕ) → is_thin kind ≡ true → Is t kind v m p → ThinIs kind (m p) v
   thin-is kinds.Nullable Null m p thin is = thin_null refl is
   thin-is kinds.Nullable (Thin o k) m p thin is = thin_cell o k is
@@ -187,7 +190,7 @@ module _ (t : Tables) where
       subst (λ x. Is t kinds.NonNull x n q) (same_value e) (subst (Points t o k) (sym same) p)
   from_thin kind to u v n w q thin is e same = absurd (let k : false ≡ true = thin in cc)
 
-  -- converting a thin pointer to a thin one keeps its word
+  -- Converting a thin pointer to another thin kind keeps its word.
   pub thin-to_thin : (from to : Kind) (v u : Value) (m n : ℕ → ℕ) (p q : ℕ) → is_thin from ≡ true → is_thin to ≡ true → Is t from v m p
       → conversion to v ≡ Gives u → n q ≡ m p → Is t to u n q
   thin-to_thin from to v u m n p q thin also is e same = from_thin from to u v n (m p) q also (thin-is from v m p thin is) e same
@@ -198,7 +201,8 @@ module _ (t : Tables) where
   to_fat kind u v n w q (thin_cell o k p) e same many last =
       subst (λ x. Is t kinds.Fat x n q) (same_value e) (subst (IsPartOf t o k 1) (sym same) (part-of-cell p), many ∙ when_other w 0 0 1 (not-null p), last)
 
-  -- converting a thin pointer to a fat one: the part is one cell (none for null), and the index is 0
+  -- Converting a thin pointer to a fat pointer yields a part of one cell (of none for null) and the
+  -- index 0.
   pub thin-to_fat : (from : Kind) (v u : Value) (m n : ℕ → ℕ) (p q : ℕ) → is_thin from ≡ true → Is t from v m p → conversion kinds.Fat v ≡ Gives u
       → n q ≡ m p → n (q + 1) ≡ (if m p == 0 then 0 else 1) → n (q + 2) ≡ 0 → Is t kinds.Fat u n q
   thin-to_fat from v u m n p q thin is e same many last = to_fat from u v n (m p) q (thin-is from v m p thin is) e same many last
@@ -209,7 +213,8 @@ module _ (t : Tables) where
     fat_null : word ≡ 0 → count ≡ 0 → FatIs word count index Null
     fat_part : (object start : ℕ) → IsPartOf t object start count word → FatIs word count index (Fat object start count index)
 
-  -- the first two words of a fat null pointer are 0; otherwise the words are the address of the part, the length and the index
+  -- The first two words of a fat null pointer are 0; the words of any other fat pointer are the address of its part, the
+  -- length and the index.
   pub fat-is : (v : Value) (m : ℕ → ℕ) (p : ℕ) → Is t kinds.Fat v m p → FatIs (m p) (m (p + 1)) (m (p + 2)) v
   fat-is Null m p is = fat_null is.0 is.1
   fat-is (Fat o start n i) m p is =
@@ -224,7 +229,8 @@ module _ (t : Tables) where
   move_fat change v u n w count index q (fat_part o start part) e same many at =
       subst (λ x. Is t kinds.Fat x n q) (same_value e) (subst (IsPartOf t o start count) (sym same) part, many, at)
 
-  -- arithmetic changes only the index; the index of a null pointer may become anything
+  -- Arithmetic on a fat pointer changes only the index; the index of a null pointer may become any
+  -- word.
   pub fat-moved : (change : ℕ → ℕ) (v u : Value) (m n : ℕ → ℕ) (p q : ℕ) → Is t kinds.Fat v m p → moved change v ≡ Gives u
       → n q ≡ m p → n (q + 1) ≡ m (p + 1) → n (q + 2) ≡ change (m (p + 2)) → Is t kinds.Fat u n q
   fat-moved change v u m n p q is e same many at =
@@ -252,7 +258,7 @@ module _ (t : Tables) where
 
 -- ---- writing further words
 
--- the three words of a fat pointer, written one by one
+-- Three words that are written one by one represent the fat pointer that they represented before.
 pub Is-put_three : (t : Tables) (v : Value) (m : ℕ → ℕ) (p a b c : ℕ) → Is t kinds.Fat v (λ j. if j == 0 then a else if j == 1 then b else c) 0
     → Is t kinds.Fat v (put (put (put m (p + 2) c) (p + 1) b) p a) p
 Is-put_three t v m p a b c is = Is-same t kinds.Fat v (λ j. if j == 0 then a else if j == 1 then b else c) (put (put (put m (p + 2) c) (p + 1) b) p a) 0 p each is

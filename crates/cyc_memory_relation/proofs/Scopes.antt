@@ -1,5 +1,5 @@
 -- The open lexical regions are exactly those that stack entries will close. Lexical regions can therefore be counted on the stack, the
--- innermost is the newest, and their number is bounded.
+-- innermost one is the newest, and their number is bounded.
 use Rattle.std.proofs.Common.{◌≡◌, ℕ, suc, ◌≤◌, Bool, true, false, List, [], ◌∷◌, length, set, Option, None, Some, refl, sym, ap, ◌∙◌, inl, inr, arith}
 use Rattle.std.specs.Prelude.{slice_get}
 use Rattle.std.proofs.lemmas.Bool.{cases_lt, cond-true}
@@ -14,7 +14,7 @@ use Rattle.cyc_memory_relation.specs.inside.Related.{scopes, IsNewest}
 use Rattle.cyc_memory_relation.proofs.RegionLemmas.{shut}
 use Rattle.cyc_memory_relation.proofs.Closing.{scopes-closed, scopes-none}
 
--- a lookup that finds an open lexical region
+-- If a lookup finds an open lexical region, then this region exists.
 scope-there : (o : Option Region) → is_open_scope o ≡ true → (r : Region) × (o ≡ Some r) × (is_scope r.sort r.is_open ≡ true)
 scope-there None scope = absurd (let e : false ≡ true = scope in cc)
 scope-there (Some r) scope = (r, refl, scope)
@@ -29,11 +29,11 @@ scopes-are (CloseLexical region ∷ stack) regions bound (less, below) are =
 scopes-are (CloseRegion region home ∷ stack) regions bound (less, below) are = scopes-are stack regions region below are
 scopes-are (entry ∷ stack) regions bound below are = scopes-are stack regions bound below are
 
--- the number of open lexical regions is the number of entries that close one
+-- The number of open lexical regions is the number of stack entries that close one.
 pub scopes-counted : (stack : List Entry) (e : Environment) (w : World) → IsNested stack e w → scopes w.regions ≡ length (lexicals_of stack)
 scopes-counted stack e w (found, below, home, are) = scopes-are stack w.regions (length w.regions) below are
 
--- the region that the newest entry closes
+-- The lexical region that the newest stack entry closes.
 pub record Ends (w : World) (number : ℕ) : Type 0 where
   pub region : Region
   pub there : slice_get w.regions number ≡ Some region
@@ -68,6 +68,7 @@ ends-newest number stack e w (found, (less, below), home, are) =
 
 -- ---- the number of open lexical regions
 
--- each region of a store has at least one page
+-- Each region of a store has at least one page, so a store has at most as many lexical regions as
+-- pages.
 pub lexicals-within : (s : StoreState) → IsSound s → lexical_count s.regions ≤ s.pages
 lexicals-within s sound = omega (arith, lexical-few s.regions, regions-few s.regions s.classes, sound.demand)

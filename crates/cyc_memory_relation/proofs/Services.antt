@@ -1,5 +1,5 @@
--- Opening and closing regions of the store, and freeing unique objects. A dead block or handle is never used again, so the store may reuse
--- it.
+-- This file is about opening and closing regions of the store, and about freeing unique objects. A dead block or handle is never used
+-- again, so the store may reuse it.
 use Rattle.std.proofs.Common.{◌≡◌, ℕ, zero, suc, Bool, true, false, List, [], ◌∷◌, ◌++◌, length, set, None, Some, is_some, refl, sym, ap, subst, ◌∙◌, inl, inr, length-set}
 use Rattle.std.specs.Prelude.{◌==◌, ◌≢◌, nat_lt, if◌then◌else◌, slice_get}
 use Rattle.std.proofs.lemmas.Bool.{cases_eq, cond-true}
@@ -85,7 +85,7 @@ module _ {t : Tables} {w : World} {s : StoreState} (related : Related t w s) whe
 
   -- ---- closing a region
 
-  -- an object that stays live lies in another region
+  -- An object that stays live when a region closes lies in another region.
   elsewhere : (n g : ℕ) (r : Region) → slice_get w.regions n ≡ Some r → has_home r ≡ true → has_home (shut r) ≡ false → slice_get t.handles n ≡ Some (Some g)
       → (owner : Owner) (h : ℕ) → lies_in t.handles (set w.regions n (shut r)) owner ≡ Some h → h ≢ g
   elsewhere n g r there kept ends entry (InRegion i) h lies e =
@@ -124,7 +124,7 @@ module _ {t : Tables} {w : World} {s : StoreState} (related : Related t w s) whe
         lies = lies-set t.handles w.regions n h (shut r) r y.owner there (λ e. absurd (never_true_and_false e ends)) alive.lies;
       }
 
-  -- the store knows the handle of an open dynamic region
+  -- The store accepts the request to close an open dynamic region by its handle.
   pub refusal-close : (n g : ℕ) (r : Region) → slice_get w.regions n ≡ Some r → has_home r ≡ true → r.sort ≡ Dynamic → slice_get t.handles n ≡ Some (Some g)
       → refusal s (CloseDynamic g) ≡ None
   refusal-close n g r there kept dynamic entry =
@@ -143,7 +143,7 @@ module _ {t : Tables} {w : World} {s : StoreState} (related : Related t w s) whe
 
 -- ---- freeing a unique object
 
--- one block less in its class
+-- Removing a block reduces the count of blocks in the block's class by one.
 live-without : (class : ℕ) (bs : List Block) (a : ℕ) (b : Block) → AreDistinct address_of bs → lookup address_of bs a ≡ Some b
     → stores.live_in class bs ≡ (if class_of b.size == class then suc (stores.live_in class (without address_of bs a)) else stores.live_in class (without address_of bs a))
 live-without class [] a b distinct found = absurd (let e : None ≡ Some b = found in cc)
@@ -163,7 +163,7 @@ live-without class (d ∷ bs) a b distinct found = elim (cases_eq d.address a) [
       (sym (when_other d.address a (without address_of bs a) (d ∷ without address_of bs a) other)))
 ]
 
--- one object less in its class
+-- Freeing an object reduces the count of live objects in the object's class by one.
 live-freed : (class : ℕ) (xs : List Object) (o : ℕ) (x y : Object) → slice_get xs o ≡ Some x → is_live_in class y.owner y.cells ≡ false
     → live_in class xs ≡ (if is_live_in class x.owner x.cells then suc (live_in class (set xs o y)) else live_in class (set xs o y))
 live-freed class [] o x y there gone = absurd (let e : None ≡ Some x = there in cc)
@@ -174,7 +174,7 @@ live-freed class (a ∷ xs) (suc o) x y there gone =
     ap (λ n. if is_live_in class a.owner a.cells then suc n else n) (live-freed class xs o x y there gone)
     ∙ either-order (is_live_in class a.owner a.cells) (is_live_in class x.owner x.cells) (live_in class (set xs o y))
 
--- equal counts stay equal after one object is subtracted from both
+-- Equal counts stay equal after one object is subtracted from both counts.
 same-rest : (b : Bool) (m n : ℕ) → (if b then suc m else m) ≡ (if b then suc n else n) → m ≡ n
 same-rest true m n e = let k : suc m ≡ suc n = e in cc
 same-rest false m n e = e
@@ -191,7 +191,7 @@ module _ {t : Tables} {w : World} {s : StoreState} (related : Related t w s) (o 
       (sym (ap (λ q. block_in q st.address) (lookup-here handle_of (record { handle = UNIQUE; sort = stores.Uniques; blocks = s.unique }) s.regions UNIQUE refl))
       ∙ st.found)
 
-  -- the store knows the block of the freed object
+  -- The store accepts the request to free the block of a live unique object.
   pub refusal-free : refusal s (Free a) ≡ None
   refusal-free = cond-true (is_some (lookup address_of s.unique a)) None (Some NotABlock) (ap (λ q. is_some q) unique-found)
 
@@ -204,7 +204,7 @@ module _ {t : Tables} {w : World} {s : StoreState} (related : Related t w s) (o 
       ∙ (live-freed class w.objects o x (record x { owner = Unique false }) there refl
       ∙ ap (λ z. if is_live_in class z x.cells then suc (live_in class (set w.objects o (record x { owner = Unique false }))) else live_in class (set w.objects o (record x { owner = Unique false }))) owner))))
 
-  -- an object that is live afterwards was live before, and is another object
+  -- An object that is live after a free was live before it, and is not the freed object.
   before-freed : (i h : ℕ) (y : Object) → Alive t (freed w o x) i h y → (i ≢ o) × Alive t w i h y
   before-freed i h y alive = elim (slice_get-set_cases w.objects o i x (record x { owner = Unique false }) y there alive.at) [
     | inl here ↦ absurd (never_none_and_some (ap (λ (z : Object). lies_in t.handles w.regions z.owner) here.1) alive.lies)

@@ -1,4 +1,5 @@
--- The effect of a service: live blocks are found as before and keep their words, so objects keep their places.
+-- This file is about the effect of a request to the store: live blocks are found as before and keep their
+-- words, so objects keep their addresses.
 use Rattle.std.proofs.Common.{◌≡◌, ℕ, ◌+◌, ◌-◌, ◌*◌, ◌/◌, ◌%◌, ◌<◌, ◌≤◌, true, List, [], ◌∷◌, ◌++◌, Option, None, Some, refl, sym, ap, subst, ◌∙◌, inl, inr, arith}
 use Rattle.std.specs.Prelude.{◌≢◌, slice_get}
 use Rattle.std.proofs.lemmas.Bool.{cases_eq}
@@ -19,7 +20,7 @@ use Rattle.cyc_memory_relation.proofs.Values.{AreCells-grows, AreCells-same}
 
 -- ---- lookups of live blocks
 
--- the unique blocks as a region
+-- The unique blocks of the store, as a region.
 abbrev pub unique_home : List Block → Home
 unique_home blocks = record { handle = UNIQUE; sort = Uniques; blocks = blocks }
 
@@ -47,7 +48,7 @@ block-changed rs g c h a b at =
       | inr other ↦ ap (λ o. block_in o a) (lookup-changed_other handle_of (with_block c) (λ q. refl) rs g h other ∙ there) ∙ found
     ]
 
--- lookups in the unique region and in the other regions, after either changed
+-- Lookups in the unique region and in the other regions find the same blocks after either changed.
 block-split : (us vs : List Block) (rs qs : List Home) (h a : ℕ) (b : Block)
     → (UNIQUE ≡ h → lookup address_of us a ≡ Some b → lookup address_of vs a ≡ Some b)
     → ((UNIQUE ≡ h → ⊥) → block_at rs h a ≡ Some b → block_at qs h a ≡ Some b)
@@ -85,7 +86,7 @@ module _ (s : StoreState) (h a : ℕ) (b : Block) where
 
 -- ---- objects keep their places
 
--- the words of blocks that are live before and after are kept
+-- Says that the words of blocks that are live before and after a request are kept.
 pub record WordsStay (s r : StoreState) : Type 0 where
   pub sound : IsSound s
   pub after : AreWords r.memory
@@ -122,7 +123,7 @@ module _ {t u : Tables} {s r : StoreState} (grows : Grows t u) (stay : WordsStay
       placed : IsPlaced s.pages (record { address = st.address; size = room h (block_size cells) })
       placed = stay.sound.regions.placed h st.address (record { address = st.address; size = room h (block_size cells) }) st.found
 
-      -- a byte of the cells is part of a word of their block
+      -- A byte of an object's cells is part of a word of the object's block.
       same : (x : ℕ) → st.address + 0 ≤ x → x < st.address + bytes_of_kinds (kinds_of cells) → byte_at r.memory x ≡ byte_at s.memory x
       same x least less =
           let enough : bytes_of_kinds (kinds_of cells) ≤ 4 * room h (block_size cells) = st.enough in
@@ -133,7 +134,8 @@ module _ {t u : Tables} {s r : StoreState} (grows : Grows t u) (stay : WordsStay
           (stay.words h st.address (record { address = st.address; size = room h (block_size cells) }) st.found there ((x - st.address) / 4)
           (omega (arith, least, less, enough))))
 
--- If each object that is live afterwards was live before, and its block is still found, then the objects keep their places.
+-- If each object that is live afterwards was live before, and its block is still found, then the objects keep their
+-- addresses.
 module _ {t u : Tables} {w v : World} {s r : StoreState} (related : Related t w s) (grows : Grows t u) (stay : WordsStay s r)
     (before : (o h : ℕ) (x : Object) → Alive u v o h x → Alive t w o h x)
     (stays : (o h a : ℕ) (ks : List Kind) (x : Object) (b : Block) → Alive u v o h x → slice_get t.rows o ≡ Some (Placed a ks)
@@ -144,7 +146,7 @@ module _ {t u : Tables} {w v : World} {s r : StoreState} (related : Related t w 
       Stands-served grows stay h o x.cells st
       (stays o h st.address (kinds_of x.cells) x (record { address = st.address; size = room h (block_size x.cells) }) alive st.row st.found)
 
-  -- the row of a live object is an old one
+  -- The table row of an object that is live afterwards was already in the table before.
   old-row : (o h a : ℕ) (ks : List Kind) (x : Object) → Alive u v o h x → slice_get u.rows o ≡ Some (Placed a ks) → slice_get t.rows o ≡ Some (Placed a ks)
   old-row o h a ks x alive row =
       let st : Stands t (homes s) s.memory h o x.cells = related.objects o h x (before o h x alive) in

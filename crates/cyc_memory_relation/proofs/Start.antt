@@ -1,4 +1,5 @@
--- The start: a program's globals are variables, and a new store contains the heap.
+-- This file is about the start of a run: the program's globals are variables, and a new store
+-- contains the heap.
 use Rattle.std.proofs.Common.{◌≡◌, ℕ, ◌≤◌, List, [], ◌∷◌, map, Some, refl, sym, ap, subst, ◌∙◌, arith}
 use Rattle.std.specs.Prelude.{slice_get}
 use Rattle.std.proofs.lemmas.List.{length-map}
@@ -18,7 +19,7 @@ none-unique class [] = refl
 none-unique class (g ∷ globals) = none-unique class globals
 
 module _ (program : Program) (globals : List Row) (are : AreGlobals program globals) (input : List ℕ) (pages : ℕ) (memory : Memory) where
-  -- each object is a global, and therefore a variable
+  -- Says that at the start each object is a global, and therefore a variable.
   record IsGlobal (o : ℕ) (x : Object) : Type 0 where
     owner : x.owner ≡ InRegion globals_number
     row : Row

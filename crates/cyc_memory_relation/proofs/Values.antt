@@ -1,4 +1,5 @@
--- Values and their words, cells and their bytes: facts that are kept when tables grow, and facts about equal words and bytes.
+-- This file is about values and their words, and cells and their bytes: it has facts that are kept when tables grow, and
+-- facts about equal words and bytes.
 use Rattle.std.proofs.Common.{◌≡◌, ℕ, ◌+◌, ◌*◌, ◌%◌, ◌<◌, ◌≤◌, true, false, List, [], ◌∷◌, Option, None, Some, sym, ap, subst, ◌∙◌, arith, add-zero}
 use Rattle.cyc_words.proofs.Items.{slice_get_front}
 use Rattle.cyc_types.specs.declared.typed.Kind.{Kind}
@@ -88,7 +89,7 @@ module _ (t : Tables) where
   first-same : (words : ℕ) (m n : ℕ → ℕ) (p q : ℕ) → 0 < words → ((j : ℕ) → j < words → n (q + j) ≡ m (p + j)) → n q ≡ m p
   first-same words m n p q some same = ap n (sym (add-zero q)) ∙ (same 0 some ∙ ap m (add-zero p))
 
-  -- a word equal to the word of a value represents that value
+  -- Words that are equal to the words of a value represent this value.
   pub Is-same : (kind : Kind) (v : Value) (m n : ℕ → ℕ) (p q : ℕ) → ((j : ℕ) → j < words_of_kind kind → n (q + j) ≡ m (p + j))
       → Is t kind v m p → Is t kind v n q
   Is-same kinds.Int (Int word) m n p q same is = first-same 1 m n p q (omega arith) same ∙ is
@@ -108,7 +109,7 @@ module _ (t : Tables) where
 
 -- ---- equal bytes
 
--- the words of an aligned cell are equal if its bytes are
+-- The words of an aligned cell are equal in two memories if the bytes of the cell are equal.
 words-at-same : (words : ℕ) (m n : Memory) (a : ℕ) → AreWords m → AreWords n → a % 4 ≡ 0
     → ((x : ℕ) → a ≤ x → x < a + 4 * words → byte_at n x ≡ byte_at m x) → (j : ℕ) → j < words → n (a + 4 * (0 + j)) ≡ m (a + 4 * (0 + j))
 words-at-same words m n a old new even same j below =
@@ -116,7 +117,8 @@ words-at-same words m n a old new even same j below =
     (λ i short. same (a + 4 * (0 + j) + i) (omega arith) (omega (arith, below, short)))
 
 module _ (t : Tables) where
-  -- for a cell that is not a char, containing a value means that its words represent the value
+  -- If the kind of a cell is not char, then the cell contains a value exactly if its words
+  -- represent the value.
   pub Holds-words : (kind : Kind) (v : Value) (m : Memory) (a : ℕ) → is_kind kind kinds.Char ≡ false → Holds t kind v m a → Is t kind v (words_from m a) 0
   Holds-words kinds.Int v m a wide is = is
   Holds-words kinds.Char v m a wide is = absurd (let e : true ≡ false = wide in cc)

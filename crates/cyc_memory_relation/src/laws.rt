@@ -1,5 +1,5 @@
-//! Laws of the definitions in `specs/`. Each function of this file does nothing, and its contract states one law, which is proved with the
-//! crate. The lemmas that other proofs cite are in `proofs/`.
+//! This file states laws of the definitions in `specs/`. Each function of this file does nothing, and its contract states one law, which
+//! is proved with the crate. The lemmas that other proofs cite are in `proofs/`.
 
 ghost use Rattle.std.specs.Prelude.{◌≡◌, ◌≢◌, ◌⊎◌, ℕ, suc, ◌+◌, ◌*◌, ◌%◌, ◌<◌, ◌≤◌, ◌==◌, not, nat_lt, if◌then◌else◌, Bool, true, false, List, ◌∷◌};
 ghost use Rattle.std.specs.Prelude.{length, Option, Some, None, slice_get};
@@ -28,22 +28,22 @@ ghost use Rattle.cyc_memory_relation.specs.inside.Words.{byte_at, Points, IsPart
 ghost use Rattle.cyc_memory_relation.specs.inside.Related.{has_home, IsOfVariable, HasKinds, Alive, LiveVariable, AreApart, AreGlobals, Related};
 ghost use Rattle.cyc_memory_relation.specs.inside.Related.{scopes, IsNewest, closed_to};
 
-/// The relation between words and values is kept when further objects are created and regions opened. The relation between words and values
-/// also holds for equal words elsewhere.
+/// The relation between words and values is preserved when further objects are created and regions opened. It also holds for equal words at
+/// another position.
 pub fn words_stay_values()
     ensures grows { (t u : Tables) (kind : Kind) (v : Value) (words : ℕ → ℕ) (place : ℕ) → Grows t u → Is t kind v words place → Is u kind v words place }
     ensures same { (t : Tables) (kind : Kind) (v : Value) (words others : ℕ → ℕ) (place other : ℕ)
         → ((j : ℕ) → j < words_of_kind kind → others (other + j) ≡ words (place + j)) → Is t kind v words place → Is t kind v others other }
 {}
 
-/// A cell has exactly one address, which is not 0, whether its object is live or not.
+/// A cell has exactly one address, which is not 0, even if its object is not live.
 pub fn cells_have_addresses()
     ensures one { (t : Tables) (object offset word other : ℕ) → Points t object offset word → Points t object offset other → word ≡ other }
     ensures some { (t : Tables) (object offset word : ℕ) → Points t object offset word → word ≢ 0 }
 {}
 
-/// Conversions of pointers. A thin pointer keeps its word, and as a fat pointer gets a length and an index (null gets the length 0). A fat
-/// pointer whose index is in bounds becomes the address of the cell at the index.
+/// Pointers are converted as follows. A thin pointer keeps its word, and as a fat pointer gets a length and an index (null gets the length
+/// 0). A fat pointer whose index is in bounds becomes the address of the cell at the index.
 pub fn pointers_convert()
     ensures thin { (t : Tables) (from to : Kind) (v u : Value) (words others : ℕ → ℕ) (place other : ℕ) → is_thin from ≡ true → is_thin to ≡ true
         → Is t from v words place → conversion to v ≡ Gives u → others other ≡ words place → Is t to u others other }
@@ -54,7 +54,8 @@ pub fn pointers_convert()
         → Points t object (start + index) (word + index * bytes_of_kind part.kind) }
 {}
 
-/// Conversions of chars: an int becomes a char by its low byte; a char stays as it is, and its word is its int value.
+/// An int is converted to a char by its low byte; a char converted to a char stays as it is; the word of a char is
+/// its int value.
 pub fn chars_convert()
     ensures low { (t : Tables) (v u : Value) (words others : ℕ → ℕ) (place other : ℕ) → Is t kinds.Int v words place → conversion kinds.Char v ≡ Gives u
         → others other ≡ words place % 256 → Is t kinds.Char u others other }
@@ -64,9 +65,10 @@ pub fn chars_convert()
         → others other ≡ words place → Is t kinds.Int u others other }
 {}
 
-/// A char in a cell is a byte. The loaded byte is the word of the char, and its word, stored as a byte, is the content of the cell. A char
-/// in a variable is the last byte of the word of the variable. The word of a variable that holds a char is below 256, so its last byte is
-/// the whole word. After a byte is stored in the last byte of a word below 256, the word is that byte.
+/// A char in a cell is a byte. A byte that is loaded from a cell is the word of its char, and the word of a char, stored as a byte, is the
+/// content of the cell. A char in a variable is the last byte of the word of the variable. The word of a variable that holds a char is
+/// below 256, so its last byte is the whole word. After a byte is stored in the last byte of a word below 256, the word is equal to that
+/// byte.
 pub fn chars_are_bytes()
     ensures loaded { (t : Tables) (v : Value) (m : Memory) (address : ℕ) → Holds t kinds.Char v m address → Is t kinds.Char v (λ j. byte_at m address) 0 }
     ensures stored { (t : Tables) (v : Value) (words : ℕ → ℕ) (place : ℕ) (m : Memory) (address : ℕ) → Is t kinds.Char v words place
@@ -86,22 +88,24 @@ pub fn pointers_compute()
         → null_test negated v ≡ Gives (Int (truth (if words place == 0 then not negated else negated))) }
 {}
 
-/// Thin pointers that the source compares are equal exactly if their words are, provided that no two variables share a word.
+/// Thin pointers that the source compares are equal exactly if their words are equal, provided that no two variables share a
+/// word.
 pub fn pointers_compare()
     ensures { (t : Tables) (w : World) (s : StoreState) (from to : Kind) (u v : Value) (words others : ℕ → ℕ) (place other : ℕ) (equal : Bool)
         → Related t w s → AreApart t w → is_thin from ≡ true → is_thin to ≡ true → Is t from u words place → Is t to v others other
         → compared w u v ≡ Found equal → equal ≡ (words place == others other) }
 {}
 
-/// At the start the globals are variables, outside the store if their addresses are taken, and the store contains the heap.
+/// At the start of a run the globals are variables, which are outside the store if their addresses are taken, and the store
+/// contains the heap.
 pub fn starts_related()
     ensures { (program : Program) (globals : List Row) (input : List ℕ) (pages : ℕ) (memory : Memory) → AreGlobals program globals → AreWords memory
         → 1 ≤ pages → pages ≤ MOST_PAGES → Related (first_tables globals) (first_world program input) (start pages memory) }
 {}
 
-/// A cell that the source finds belongs to an object of the store, or to a variable. If a pointer leads to a cell of the store, each word
-/// of its bytes can be read, and the bytes represent its content. For a fat pointer, the cell is found by its offset in bytes. Writing a
-/// cell of the store keeps the relation, if all other bytes of memory are unchanged.
+/// A cell that the source finds belongs to an object of the store, or to a variable. If a pointer points to a cell of the store, then
+/// each word with bytes of the cell can be read, and these bytes represent the cell's content. For a fat pointer, the cell is found by
+/// its offset in bytes. Writing a cell of the store preserves the relation if all other bytes of memory are unchanged.
 pub fn cells_are_read_and_written()
     ensures either { (t : Tables) (w : World) (s : StoreState) (object offset : ℕ) (at : Located) → Related t w s → cell_at w object offset ≡ Found at
         → ((handle : ℕ) × Alive t w object handle at.object) ⊎ LiveVariable t w object at.object }
@@ -139,7 +143,8 @@ pub fn objects_are_made()
         → IsPartOf (with_row t (Placed c.address (kinds_of (blanks count kind)))) (length w.objects) 0 count c.address }
 {}
 
-/// The store is full exactly if the source's demand afterwards exceeds the pages, and it refuses for no other reason.
+/// The store is full exactly if the number of pages that the source needs afterwards exceeds the store's pages; the
+/// store refuses a request for no other reason.
 pub fn refusals_go_by_demand()
     ensures region { (t : Tables) (w : World) (s : StoreState) (number handle : ℕ) (r : Region) (cells : List Cell) → Related t w s
         → slice_get w.regions number ≡ Some r → has_home r ≡ true → slice_get t.handles number ≡ Some (Some handle) → is_size (block_size cells) ≡ true
@@ -152,7 +157,8 @@ pub fn refusals_go_by_demand()
         → refusal s OpenDynamic ≡ full_at (nat_lt s.pages (pages_of (opened_as Dynamic w))) }
 {}
 
-/// Variables and their regions do not change the store.
+/// Declaring and assigning variables, and opening and closing their regions, does not change the
+/// store.
 pub fn variables_leave_the_store()
     ensures declared { (t : Tables) (w : World) (s : StoreState) (number : ℕ) (r : Region) (kind : Kind) (content : Option Value) (row : Row) → Related t w s
         → slice_get w.regions number ≡ Some r → slice_get t.handles number ≡ Some None
@@ -165,7 +171,7 @@ pub fn variables_leave_the_store()
         → slice_get w.regions number ≡ Some r → slice_get t.handles number ≡ Some None → Related t (closed w number r) s }
 {}
 
-/// A freed unique object frees its block, which the store knows.
+/// Freeing a unique object frees its block, which the store knows.
 pub fn unique_objects_are_freed()
     ensures knows { (t : Tables) (w : World) (s : StoreState) (number address : ℕ) (x : Object) (ks : List Kind) → Related t w s
         → slice_get w.objects number ≡ Some x → x.owner ≡ Unique true → slice_get t.rows number ≡ Some (Placed address ks)
@@ -175,7 +181,7 @@ pub fn unique_objects_are_freed()
         → IsAllowed s (Free address) c → Related t (freed w number x) (served s (Free address) c) }
 {}
 
-/// Regions of the store open and close with the source's regions.
+/// Regions of the store open and close with the corresponding regions of the source.
 pub fn regions_open_and_close()
     ensures lexical { (t : Tables) (w : World) (s : StoreState) (c : Choice) → Related t w s → refusal s OpenLexical ≡ None → IsAllowed s OpenLexical c
         → Related (with_handle t (Some c.handle)) (opened_as Lexical w) (served s OpenLexical c) }
@@ -189,9 +195,9 @@ pub fn regions_open_and_close()
         → IsAllowed s (CloseDynamic handle) c → Related t (closed w number r) (served s (CloseDynamic handle) c) }
 {}
 
-/// When several lexical regions are left, the source closes one in each step, newest first. The store closes all left regions at the end by
-/// one call with a mark. In a run, the open lexical regions are exactly those that stack entries will close. The newest entry closes the
-/// newest region.
+/// When several lexical regions are left, the source closes one in each step, newest first. The store closes all of these regions at the
+/// end by one call, which says how many regions stay open. In a run, the open lexical regions are exactly those that stack entries will
+/// close. The newest of these stack entries closes the newest region.
 pub fn regions_close_at_once()
     ensures begins { (t : Tables) (w : World) (s : StoreState) → Related t w s → Related t w (closed_to s (scopes w.regions)) }
     ensures following { (t : Tables) (w : World) (s : StoreState) (mark number : ℕ) (r : Region) → Related t w (closed_to s (suc mark))

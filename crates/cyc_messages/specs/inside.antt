@@ -1,2 +1,2 @@
--- the faults that have an explanation of names, types or regions
+-- the codes of the faults of names, types or regions, which have an explanation
 pub mod Refusal

@@ -1,12 +1,14 @@
-//! Finds the faults of a text after its first one, as if that were repaired.
+//! Finds the faults of names, types, regions and flow that remain in a text once its first fault is
+//! repaired.
 //!
 //! The body of a function with a fault is replaced by one that throws an exception, which any function may have, and the remaining program
-//! is checked. Each reported fault is one of a program, and a fault of a body never follows from another body's fault. A body that passed
-//! the type check is also replaced while those after it are checked. Each body is checked once, and once more before the flow check.
-//! Signatures are shared by all bodies, so after a fault in a signature nothing more is reported, except that a missing or invalid `main`
-//! is replaced.
+//! is checked. Each reported fault is a fault of the program, and no fault in one body follows from a fault in another. A body that passed
+//! the type check is also replaced while those after it are checked. Each body is checked once, and once more before the flow check. All
+//! bodies share the signatures, so after a fault in a signature no further fault is reported, except that a missing or invalid `main` is
+//! replaced.
 //!
-//! For a text without tokens or tree, `cyc_rendering` reports the faults after the first one.
+//! If a text has no tokens or no syntax tree, `cyc_rendering` reports the faults after the first
+//! one.
 
 use crate::reported::explained;
 use cyc_check::check;
@@ -21,13 +23,13 @@ use cyc_words::{Code, Fault, Span};
 use std::alloc::{AllocError, Global};
 use std::mem::{ManuallyDrop, replace};
 
-/// Bounds the tokens of signatures that are read again, since all signatures are read for each further fault of types. The bound is this
-/// many times the tokens of the text, plus `MOST_MORE`.
+/// The factor of a bound on the tokens of signatures that are read again, since all signatures are read for each further fault of types.
+/// The bound is this factor times the number of tokens of the text, plus `MOST_MORE`.
 const MOST_TIMES: usize = 4;
 
 const MOST_MORE: usize = 4000;
 
-/// Returns the place of a fault.
+/// Returns the source position of a fault.
 fn span_of(fault: Fault) -> Span {
     Span {
         line: fault.line,
@@ -37,14 +39,14 @@ fn span_of(fault: Fault) -> Span {
 
 // ---- the number of faults to search for
 
-/// Returns the number of tokens before a place.
+/// Returns the number of tokens before a source position.
 fn count_before(tokens: &[Token], place: Span) -> usize {
     tokens.partition_point(|token| {
         (token.span.line, token.span.column) < (place.line, place.column)
     })
 }
 
-/// Returns the number of tokens outside function bodies.
+/// Returns the number of tokens of a text that are outside function bodies.
 fn count_of_declarations(tokens: &[Token], declarations: &[Declaration]) -> usize {
     let mut count = tokens.len();
     for declaration in declarations {
@@ -57,7 +59,7 @@ fn count_of_declarations(tokens: &[Token], declarations: &[Declaration]) -> usiz
     count
 }
 
-/// Returns the most faults of types to search for after the first one.
+/// Returns the most faults of types that are searched for after the first one.
 fn most_by_types(alloc: Global, text: &[u8], declarations: &[Declaration]) -> Result<usize, Fault> {
     let tokens = ManuallyDrop::new(lex(alloc, text)?);
     let heads = count_of_declarations(&tokens, declarations);
@@ -70,27 +72,27 @@ fn most_by_types(alloc: Global, text: &[u8], declarations: &[Declaration]) -> Re
 
 // ---- replaced bodies
 
-/// The body that was removed from a tree, and the number of its declaration.
+/// The body that was removed from a function, and the index of the function's declaration.
 #[derive(Drop)]
 struct Aside {
     declaration: usize,
     items: Vec<Item>,
 }
 
-/// A syntax tree with some function bodies replaced.
+/// A syntax tree in which some function bodies are replaced.
 #[derive(Drop)]
 struct Mended {
     alloc: Global,
     tree: Tree,
-    /// The exception that the replaced bodies throw.
+    /// The exception that the replacing bodies throw.
     exception: Name,
-    /// The first declaration that is still to be checked.
+    /// The index of the first declaration that is still to be checked.
     next: usize,
-    /// The removed bodies that passed the type check.
+    /// The removed function bodies that passed the type check.
     aside: Vec<Aside>,
 }
 
-/// Returns the declaration whose body contains a fault.
+/// Returns the index of the declaration whose body contains a fault.
 fn body_at(declarations: &[Declaration], fault: Fault) -> Option<usize> {
     for (n, declaration) in declarations.iter().enumerate() {
         if let Declaration::Function { body, .. } = declaration {
@@ -102,7 +104,7 @@ fn body_at(declarations: &[Declaration], fault: Fault) -> Option<usize> {
     None
 }
 
-/// Returns the function whose name is at a fault.
+/// Returns the index of the function whose name is at the position of a fault.
 fn function_named_at(declarations: &[Declaration], fault: Fault) -> Option<usize> {
     for (n, declaration) in declarations.iter().enumerate() {
         if let Declaration::Function { name, .. } = declaration {
@@ -127,7 +129,8 @@ impl Mended {
         })
     }
 
-    /// Returns the replacement of a body: no path reaches its end, so it needs no result.
+    /// Returns the items that replace the body of a function. The replacing items throw an
+    /// exception, so no path reaches the end of the body, and they need no result.
     fn thrown(&self, span: Span) -> Result<Vec<Item>, AllocError> {
         let mut items = Vec::new(self.alloc);
         items.push(Item::Statement {
@@ -151,7 +154,8 @@ impl Mended {
         }
     }
 
-    /// Replaces the body of a declaration, and sets aside the earlier bodies that are not replaced yet.
+    /// Replaces the body of the rejected declaration. Also replaces the bodies before it that are not
+    /// replaced yet, and keeps them for `put_back`.
     fn leave_out(&mut self, refused: usize, span: Span) -> Result<(), AllocError> {
         for declaration in self.next..refused {
             let items = self.thrown(span)?;
@@ -165,7 +169,7 @@ impl Mended {
         Ok(())
     }
 
-    /// Restores the bodies that were set aside.
+    /// Restores the bodies that `leave_out` has kept.
     fn put_back(&mut self) {
         let aside = replace(&mut self.aside, Vec::new(self.alloc));
         for Aside { declaration, items } in aside {
@@ -173,7 +177,7 @@ impl Mended {
         }
     }
 
-    /// Returns an artificial function `main` at a place.
+    /// Returns an artificial function `main` at a source position.
     fn main_at(&mut self, span: Span) -> Result<Declaration, AllocError> {
         Ok(Declaration::Function {
             result: Some(WrittenType {
@@ -217,7 +221,7 @@ impl Mended {
         }
     }
 
-    /// Turns the rest of the text into a program without this fault. Returns true if the text could be made such a program.
+    /// Changes the syntax tree into that of a program without this fault. Returns true if this was possible.
     fn mend(&mut self, fault: Fault) -> Result<bool, AllocError> {
         if fault.code == Code::BadMain {
             return self.put_main(fault);
@@ -232,7 +236,8 @@ impl Mended {
     }
 }
 
-/// Reports the faults of names, types and regions of a tree, one body after another, and then its flow faults.
+/// Reports the faults of names, types and regions in a syntax tree, one body after another, and then its flow
+/// faults.
 fn tell_types(
     alloc: Global,
     text: &[u8],
@@ -244,7 +249,7 @@ fn tell_types(
     let mut mended = ManuallyDrop::new(Mended::new(alloc, tree)?);
     let mut fault = first;
     for _ in 0..=most {
-        // If no more faults are reported, no more are searched for.
+        // Once the maximum number of faults is reported, no further fault is searched for.
         if reported.len() >= most || !mended.mend(fault)? {
             return Ok(());
         }
@@ -270,7 +275,7 @@ fn tell_types(
 
 // ---- all faults of a text
 
-/// Reports the further faults of a text that has a tree.
+/// Reports the further faults of a text that has a syntax tree.
 fn tell_bodies(
     alloc: Global,
     text: &[u8],
@@ -292,7 +297,7 @@ fn tell_bodies(
 }
 
 /// Returns the faults of a text after this first one, at most twenty, in the order in which they would be reported if each were repaired.
-/// If memory runs out the list ends.
+/// If memory runs out, the list ends early.
 pub fn refusals_after(alloc: Global, text: &[u8], first: Fault) -> Vec<Refusal> {
     let mut reported = Vec::new(alloc);
     match first.code {

@@ -1,4 +1,5 @@
-//! The messages on the faults of a rejected text, and the warnings about a text, also as JSON.
+//! The messages on the faults of a rejected text, and the warnings about a text, as lines or as
+//! JSON objects.
 #![tactic(auto)]
 
 pub use cyc_rendering::{Message, Refusal, Warnings, line_of_refusal, line_of_warning};

@@ -1,4 +1,4 @@
-//! The explanation of a fault of names, types or regions, in addition to its code.
+//! Explains a fault of names, types or regions in more detail than its code does.
 ghost use Rattle.std.specs.Prelude.{◌≡◌, IfSome};
 ghost use Rattle.cyc_front.specs.Front.{IsRefusedText};
 ghost use Rattle.cyc_messages.specs.inside.Refusal.{is_explained};
@@ -9,7 +9,7 @@ use cyc_rendering::tree_of;
 use cyc_words::{Code, Fault};
 use std::alloc::Global;
 
-/// Returns true if a fault is the checker's, of names, types or regions.
+/// Returns true if a fault with this code is the checker's: a fault of names, types or regions.
 fn is_explained(code: Code) -> bool
     ensures { result ≡ is_explained code }
 {
@@ -29,10 +29,10 @@ fn is_explained(code: Code) -> bool
     }
 }
 
-/// Returns the violated rule for a text with this fault, with the names, types or regions involved, in lines; the last may be a hint.
-/// Returns `None` if memory runs out.
+/// Returns lines that explain the rule that the fault violates, with the names, types or regions involved. The last line may be a
+/// hint. Returns `None` if memory runs out.
 pub fn words_for(alloc: Global, text: &[u8], fault: Fault) -> Option<Explanation>
-    // Only an actual fault of the text has an explanation.
+    // `words_for` explains only a fault that the text actually has.
     ensures { IfSome result (λ words. IsRefusedText text.now fault) }
 {
     if !is_explained(fault.code) {

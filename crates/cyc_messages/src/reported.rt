@@ -1,4 +1,4 @@
-//! A fault with all of its explanations.
+//! Combines a fault with all of its explanations.
 use crate::refusal::words_for;
 use cyc_explain::Explanation;
 use cyc_rendering::{Refusal, cause_of, expected_at, name_of_ended, tree_of, words_on_variable};
@@ -13,13 +13,14 @@ pub fn explained(fault: Fault, explanation: Option<Explanation>) -> Refusal {
     }
 }
 
-/// Returns the name of the function whose end a path reaches, according to the fault.
+/// Returns the name of the function with a result whose end can be reached, if the fault is of this
+/// kind.
 fn ended_in(alloc: Global, text: &[u8], fault: Fault) -> Option<Vec<u8>> {
     let tree = tree_of(alloc, text).ok()?;
     name_of_ended(alloc, text, &tree, fault)
 }
 
-/// Returns the fault of a text with its explanations.
+/// Returns the fault of a text with all of its explanations.
 pub fn refusal_of(alloc: Global, text: &[u8], fault: Fault) -> Refusal {
     match fault.code {
         Code::UnexpectedToken | Code::UnexpectedEnd => {

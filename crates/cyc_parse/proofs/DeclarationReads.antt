@@ -1,4 +1,5 @@
--- Declarations and programs are parsed back from their yields.
+-- For every declaration and program, the parser returns it when it reads its yield (the symbols
+-- that spell it).
 use Rattle.std.proofs.Common.{◌≡◌, ℕ, zero, suc, ◌≤◌, Bool, true, false, List, [], ◌∷◌, ◌++◌, Option, Some, None, is_some, refl, sym, ap, ◌∙◌, arith, append_assoc, zero-le, ◌⊎◌, inl, inr}
 use Rattle.std.specs.List.{AllByRecursion}
 use Rattle.cyc_syntax.specs.declared.tokens.Keyword.TheVariants as words
@@ -23,11 +24,11 @@ use Rattle.cyc_parse.proofs.RegionReads.{regions_reads}
 use Rattle.cyc_parse.proofs.ExpressionReads.{deeper, NoParen}
 use Rattle.cyc_parse.proofs.ItemReads.{all_bodies}
 
--- the closing parenthesis of a function's parameters follows
+-- Holds if the next symbol is the closing parenthesis of a function's parameters.
 pub record Closes (ts : List Symbol) : Type 0 where
   pub paren : next ts ≡ Some (Mark signs.RightParen)
 
--- no initial value is given: no `=` follows
+-- Holds if no `=` comes next, so that a global variable has no initial value.
 pub record NoAssign (ts : List Symbol) : Type 0 where
   pub assign : sees signs.Assign ts ≡ false
 
@@ -75,7 +76,7 @@ constructors_read room d fits (c ∷ cs) = (constructor_read room d fits c, cons
 
 -- ---- parameters
 
--- the symbols that may follow each part of a function's parameter list
+-- Conditions on the symbols that may follow each part of a function's parameter list.
 pub record EndsParameters (ts : List Symbol) : Type 0 where
   pub void : starts begins_void (next ts) ≡ false
   pub member : starts begins_type (next ts) ≡ false
@@ -134,7 +135,8 @@ module _ (room d : ℕ) (fits : Fits (suc (suc room)) d) where
       (sign_reads (suc room) (suc d) signs.RightBrace _ (omega arith) (λ p. pure_reads (Some (r ∷ rs)) NoSemicolon))
       (λ mid rest front ends. record { item = tt; comma = ap (sees_terminal signs.Comma) (front-next (leaf_of (suc d) (Mark signs.RightBrace)) [] mid rest front) }))))
 
-  -- the closing parenthesis of a function's parameters follows
+  -- After a function's constraints comes the closing parenthesis of its parameters, so the
+  -- constraints begin with a colon or are absent.
   colon_or_end : (cs : List Constraint) (mid rest : List Symbol) → Front (yields.constraints d cs) mid rest → next rest ≡ Some (Mark signs.RightParen) → (next mid ≡ Some (Mark signs.Colon)) ⊎ (next mid ≡ Some (Mark signs.RightParen))
   colon_or_end [] mid rest front ends = inr (ap next front ∙ ends)
   colon_or_end (c ∷ cs) mid rest (t, more, e, is_leaf, front) ends = inl (ap next e ∙ ap Some is_leaf.terminal)
@@ -187,7 +189,7 @@ module _ (room d : ℕ) (fits : Fits (suc (suc (suc room))) d) where
       assigned (Byte p n) ts rest (t, more, e, is_leaf, front) = ap (sees signs.Assign) e ∙ ap (λ (u : Terminal). sees_terminal signs.Assign (Some u)) is_leaf.terminal
       assigned (NullPointer p) ts rest (t, more, e, is_leaf, front) = ap (sees signs.Assign) e ∙ ap (λ (u : Terminal). sees_terminal signs.Assign (Some u)) is_leaf.terminal
 
-  -- after a type, a global variable or a function is parsed back from its yield
+  -- The rest of a global variable or of a function, after its type, is parsed back from its yield.
   global_reads : (t : WrittenType) (x : Named) (v : Option GlobalValue) → Reads (typed R t) (Global t x v) (leaf_at d (Identifier x.name) x.place ∷ (yields.optional (yields.global_value d) v ++ leaf_of d (Mark signs.Semicolon) ∷ [])) Always
   global_reads t x v = identifier_reads (suc R) d x _ fits (unseen_reads signs.LeftParen _ _ (λ ts rest front ends. no_paren v ts rest front)
       (then_reads _ (value_reads v) (sign_reads (suc R) d signs.Semicolon _ fits (λ p. pure_reads (Global t x v) Always))
@@ -209,7 +211,7 @@ module _ (room d : ℕ) (fits : Fits (suc (suc (suc room))) d) where
   before_name : (x : Named) (ys : Yield) (mid rest : List Symbol) → Front (leaf_at d (Identifier x.name) x.place ∷ ys) mid rest → EndsType mid
   before_name x ys mid rest front = record { name = x.name; comes = front-next (leaf_at d (Identifier x.name) x.place) ys mid rest front }
 
-  -- after the region arguments of a struct type comes a mark or a name
+  -- After the region arguments of a struct type comes a pointer mark or a name.
   mark_or_name : (s : Sign) (ms : List Pointer) (x : Named) (ys : Yield) (mid rest : List Symbol) → ((k : PointerKind) → sees_terminal s (Some (Mark (yields.mark_sign k))) ≡ false)
       → Front (yields.marks d ms ++ leaf_at d (Identifier x.name) x.place ∷ ys) mid rest → sees s mid ≡ false
   mark_or_name s [] x ys mid rest plain front = ap (sees_terminal s) (front-next (leaf_at d (Identifier x.name) x.place) ys mid rest front)
@@ -264,7 +266,7 @@ module _ (room d : ℕ) (fits : Fits (suc (suc (suc room))) d) where
       (sign_reads R (suc d) signs.RightBrace _ (omega arith) (λ p. sign_reads (suc R) d signs.Semicolon _ fits (λ p. pure_reads (Exceptions (c ∷ cs)) Always)))
       (λ mid rest front ends. record { other = ap (starts begins_constructor) (front-next (leaf_of (suc d) (Mark signs.RightBrace)) (leaf_of d (Mark signs.Semicolon) ∷ []) mid rest front) })))))
 
-  -- ALL DECLARATIONS are parsed back from their yields
+  -- For EVERY DECLARATION, the parser returns the declaration when it reads its yield.
   pub all_declarations : (x : Declaration) → IsDeclaration x → Reads (declaration R) x (yields.declaration d x) Always
   all_declarations (StructType s rs []) is = absurd is
   all_declarations (StructType s rs (f ∷ fs)) is = struct_reads s rs f fs

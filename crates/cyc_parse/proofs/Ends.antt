@@ -1,4 +1,4 @@
--- The end of the parse of a text: a successful parse leaves no symbol, and a rejection has its place in the text.
+-- At the end of a text's parse, a success leaves no symbol, and a rejection has its position in the text.
 use Rattle.std.proofs.Common.{◌≡◌, ◌⊎◌, ℕ, List, [], ◌∷◌, map, fold, inl, inr, Ok, Err, sym, ap, ◌∙◌}
 use Rattle.cyc_words.specs.Fault.{memory_fault}
 use Rattle.cyc_words.specs.declared.fault.Fault.{Fault}
@@ -28,11 +28,11 @@ pub whole_ends : (ts : List Symbol) (ds : List Declaration) (left : List Symbol)
 unfolding bind
 whole_ends ts ds left e = e ∙ ap (λ (us : List Symbol). Ok (ds, us)) (end_leaves_none (program_of ts) ds left e)
 
--- The place after the whole text is the end of the text.
+-- The position just after the whole text is the end of the text.
 pub end_after : (text : List ℕ) (end : Span) → IsAfter end text → place_of_span end ≡ end_of text
 end_after text end following = (λ i. record { line = following.line i; column = following.column i })
 
--- A rejection of the tokens' symbols is a rejection of the text's tokens.
+-- If the symbols of the tokens are rejected, the tokens of the text are rejected.
 pub refused_of : (text : List ℕ) (tokens : List Token) (seen names : List (List ℕ)) (symbols : List Symbol) (fault : Fault)
     → seen ≡ [] → names ≡ fold with_text seen (texts_in tokens) → symbols ≡ map (symbol_of names) tokens
     → (fault ≡ memory_fault) ⊎ IsRefused (end_of text) symbols fault → IsAnswer text tokens (Err fault)

@@ -1,4 +1,5 @@
--- Each production of expressions is parsed back from its yield, given that its parts are.
+-- Each production of expressions is parsed back from its yield if its parts are parsed back from
+-- theirs.
 use Rattle.std.proofs.Common.{◌≡◌, ℕ, zero, suc, ◌+◌, ◌≤◌, true, false, List, [], ◌∷◌, ◌++◌, Some, None, Ok, refl, sym, ap, subst, ◌∙◌, arith}
 use Rattle.std.specs.List.{AllByRecursion}
 use Rattle.cyc_syntax.specs.declared.tokens.Keyword.TheVariants as words
@@ -24,7 +25,7 @@ deeper room d fits = omega arith
 pub shallow : (room d : ℕ) → Fits (suc room) d → d ≤ max_nesting
 shallow room d fits = omega arith
 
--- an expression is parsed back by the parser one level deeper
+-- Says that an expression is parsed back from its yield by the parser one nesting level deeper.
 abbrev pub ReadsDeeper : ℕ → ℕ → Expression → Type 0
 ReadsDeeper room d e = Reads (nested room).expression e (yields.expression d e) (Stops 11)
 
@@ -46,7 +47,7 @@ arguments-list : (d : ℕ) (es : Expressions) → yields.arguments d es ≡ yiel
 arguments-list d NoExpressions = refl
 arguments-list d (MoreExpressions e es) = ap (λ (ys : Yield). yields.item_number 1 (yields.expression d e) ++ ys) (more-list d 2 es)
 
--- the symbols that may follow an item of a list of expressions
+-- A comma may follow an item of a list of expressions, because it ends the expression.
 stops_comma : (ts : List Symbol) → next ts ≡ Some (Mark signs.Comma) → Stops 11 ts
 stops_comma [] e = absurd (cc)
 stops_comma (t ∷ ts) e = stops_leaf 11 (leaf_of 0 (Mark signs.Comma)) [] (t ∷ ts) ts refl (omega arith) (t, ts, refl, record { terminal = from_some; place = tt }, refl)
@@ -54,7 +55,7 @@ stops_comma (t ∷ ts) e = stops_leaf 11 (leaf_of 0 (Mark signs.Comma)) [] (t �
     from_some : t.terminal ≡ Mark signs.Comma
     from_some = cc
 
--- each expression of the list is parsed back by the parser one level deeper
+-- Says that each expression of a list is parsed back by the parser one nesting level deeper.
 abbrev pub AreRead : ℕ → ℕ → List Expression → Type 0
 AreRead room d es = AllByRecursion (λ e. ReadsDeeper room d e) es
 
@@ -62,11 +63,11 @@ are_read : (room d : ℕ) (es : List Expression) → AreRead room d es → AllBy
 are_read room d [] all = all
 are_read room d (e ∷ es) (one, all) = (record { starts = expression_starts d e; reads = one }, are_read room d es all)
 
--- the symbols that follow the arguments of a call
+-- The closing parenthesis of a call ends its list of arguments.
 before_paren : (d : ℕ) (mid rest : List Symbol) → Front (leaf_of d (Mark signs.RightParen) ∷ []) mid rest → EndsList (Stops 11) mid
 before_paren d mid rest front = record { item = stops_leaf 11 (leaf_of d (Mark signs.RightParen)) [] mid rest refl (omega arith) front; comma = ap (sees_terminal signs.Comma) (front-next (leaf_of d (Mark signs.RightParen)) [] mid rest front) }
 
--- the closing parenthesis of the arguments follows
+-- Holds if the closing parenthesis of a call's arguments comes next.
 pub record EndsArguments (ts : List Symbol) : Type 0 where
   pub list : EndsList (Stops 11) ts
   pub paren : sees signs.RightParen ts ≡ true
@@ -80,7 +81,7 @@ first_isnt_paren : (d : ℕ) (e : Expression) (i : ℕ) (ys : Yield) (ts rest : 
 first_isnt_paren d e i ys ts rest front =
     ap (sees_terminal signs.RightParen) (item-next (expression_starts d e) i ys ts rest front) ∙ begins_no_paren ((expression_starts d e).first.terminal) ((expression_starts d e).begin)
 
--- the list of arguments is parsed back at a nesting depth d
+-- The list of a call's arguments is parsed back from its yield at nesting depth d.
 listed_reads : (room d : ℕ) → Fits room d → (e : Expression) (es : Expressions) → AreRead room d (e ∷ list_of es)
     → Reads (separated room begins_expression (nested room).expression) (e ∷ list_of es) (yields.separated (yields.expression d) d (e ∷ list_of es)) (EndsList (Stops 11))
 unfolding nested
@@ -95,11 +96,12 @@ arguments_reads room d fits (MoreExpressions e es) all =
     (last_reads (λ (v : List Expression). pure (chain_of v)) (λ ts. ap (λ (c : Expressions). Ok (c, ts)) (chain-list (MoreExpressions e es)))
     (reads_before (EndsList (Stops 11)) (listed_reads room d fits e es all) (λ rest ends. ends.list))))
 
--- no opening parenthesis follows, so the name is not called
+-- Holds if no opening parenthesis comes next, so that a name is not called.
 pub record NoParen (ts : List Symbol) : Type 0 where
   pub paren : sees signs.LeftParen ts ≡ false
 
--- the parts of an operand are parsed back by the parsers one level deeper
+-- Says that the inner expressions of an operand are parsed back by the parsers one nesting level
+-- deeper.
 abbrev pub Parts : ℕ → ℕ → Expression → Type 0
 Parts room d (Call f es) = AreRead room (suc d) (list_of es)
 Parts room d (Bracketed p e) = ReadsDeeper room (suc d) e

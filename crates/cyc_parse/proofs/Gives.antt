@@ -14,14 +14,14 @@ use Rattle.cyc_parse.proofs.Rules.{Front, leaf_at}
 use Rattle.cyc_parse.proofs.Locality.{left_of, one_refusal}
 use Rattle.cyc_parse.proofs.LocalExpressions.{was_read}
 
--- The symbols begin with a yield that keeps the limits and satisfies `Post`.
+-- Says that the symbols begin with a yield that keeps the limits and satisfies `Post`.
 pub record Derived (ts rest : List Symbol) (Post : Yield → Type 0) : Type 0 where
   pub leaves : Yield
   pub front : Front leaves ts rest
   pub within : AllByRecursion IsWithin leaves
   pub post : Post leaves
 
--- The yield begins with the symbols up to the first of those left.
+-- Says that a yield begins with the symbols that were read, up to the first symbol left.
 pub record Begins (leaves : Yield) (ts left : List Symbol) : Type 0 where
   pub done : Yield
   pub more : Yield
@@ -31,7 +31,7 @@ pub record Begins (leaves : Yield) (ts left : List Symbol) : Type 0 where
   pub left_are : left ≡ symbol ∷ back
   pub front : Front done ts back
 
--- some result satisfies `Post` with no symbol after it
+-- Says that some result satisfies `Post` with no symbol left after it.
 pub record Possible {A : Type 0} (Post : A → Yield → List Symbol → Type 0) : Type 0 where
   pub value : A
   pub leaves : Yield
@@ -40,7 +40,8 @@ pub record Possible {A : Type 0} (Post : A → Yield → List Symbol → Type 0)
 pub possibly : {A : Type 0} {Post : A → Yield → List Symbol → Type 0} (x : A) (ls : Yield) → Post x ls [] → Possible Post
 possibly x ls post = record { value = x; leaves = ls; post = post }
 
--- some result satisfies `Post` and its yield begins with a symbol of this terminal and this place
+-- Says that some result satisfies `Post`, and its yield begins with a symbol of the given terminal
+-- and source position.
 pub record Opened {A : Type 0} (Post : A → Yield → List Symbol → Type 0) (u : Terminal) (p : Place) : Type 0 where
   pub value : A
   pub leaf : Leaf
@@ -49,7 +50,8 @@ pub record Opened {A : Type 0} (Post : A → Yield → List Symbol → Type 0) (
   pub place : IfSome leaf.place (λ q. p ≡ q)
   pub post : Post value (leaf ∷ following) []
 
--- some result satisfies `Post` and its yield begins with these symbols, up to the rejected one
+-- Says that some result satisfies `Post`, and its yield begins with the symbols that were read, up
+-- to the rejected one.
 pub record Completed {A : Type 0} (Post : A → Yield → List Symbol → Type 0) (ts left : List Symbol) : Type 0 where
   pub value : A
   pub leaves : Yield
@@ -61,15 +63,16 @@ IsLimit Unexpected = ⊥
 IsLimit TooDeep = Unit {0}
 IsLimit TooLong = Unit {0}
 
--- A fact about each result on these symbols: about the value, the symbols read, and the symbols left. If a limit rejects a symbol, the
--- symbols up to it begin some result that satisfies the fact.
+-- Says that each result of a parser on the given symbols satisfies `Post`, which relates the value, the symbols read and the symbols
+-- left. If a limit rejects a symbol, the symbols up to the rejected one begin some result that satisfies `Post`.
 pub record Gives {A : Type 0} (p : Parser A) (Post : A → Yield → List Symbol → Type 0) (ts : List Symbol) : Type 0 where
   pub gives : (rest : List Symbol) (x : A) → p ts ≡ Ok (x, rest) → Derived ts rest (λ ls. Post x ls rest)
   pub goes : (e : Refusal) → p ts ≡ Err e → IsLimit e.reason → Completed Post ts e.left
-  -- if no symbols are left, some result satisfies the fact
+  -- If no symbols are left, some result satisfies `Post`.
   pub ending : ts ≡ [] → Possible Post
 
--- the fact for leaves read before, followed by the yield of the result, and a condition on the result
+-- Says that leaves read before, followed by the symbols read, are the yield of the result, and that
+-- the result satisfies a condition.
 abbrev pub Follows : {A : Type 0} → Yield → (A → Yield) → (A → List Symbol → Type 0) → A → Yield → List Symbol → Type 0
 Follows before yield Is x ls rest = (before ++ ls ≡ yield x) × Is x rest
 
@@ -100,7 +103,8 @@ begins_after xs {ts = ts} {mid = mid} front b = record {
   front = front-append xs b.done ts mid b.back front b.front;
 }
 
--- a yield that begins with the symbols still does so after one more leaf
+-- If a yield begins with certain symbols, then it still does when one leaf is put before the yield
+-- and its symbol before the symbols.
 pub leaf_begins : (leaf : Leaf) (t : Symbol) {ys : Yield} {more mid left : List Symbol} → t.terminal ≡ leaf.terminal → IfSome leaf.place (λ q. t.place ≡ q) → more ≡ mid → Begins ys mid left
     → Begins (leaf ∷ ys) (t ∷ more) left
 leaf_begins leaf t {more = more} terminal place same b = begins_after (leaf ∷ []) (t, more, refl, record { terminal = terminal; place = place }, same) b
@@ -116,7 +120,8 @@ begins_before ys b = record {
   front = b.front;
 }
 
--- the rejected symbol is the first one
+-- If a yield's first leaf is the rejected symbol, then the yield begins with the symbols up to that
+-- one.
 pub begins_here : (leaf : Leaf) (following : Yield) (t : Symbol) (more left : List Symbol) → t.terminal ≡ leaf.terminal → IfSome leaf.place (λ q. t.place ≡ q) → left ≡ t ∷ more
     → Begins (leaf ∷ following) (t ∷ more) left
 begins_here leaf following t more left terminal place same = record {
@@ -137,7 +142,8 @@ no_limit left e h limit = absurd (subst IsLimit (sym (ap (λ (r : Refusal). r.re
 pub no_refusal : {P : Type 0} {A : Type 0} {e : Refusal} {r : A × List Symbol} → ◌≡◌ {A = Outcome A} (Ok r) (Err e) → P
 no_refusal h = absurd (cc)
 
--- a composed parser rejects: either its first part rejects, or its second part does
+-- If a composed parser rejects its input, then either its first part rejects it or its second part
+-- does.
 pub data WasRefused {A B : Type 0} (p : Parser A) (f : A → Parser B) (ts : List Symbol) (e : Refusal) : Type 0 where
   in_first : p ts ≡ Err e → WasRefused p f ts e
   in_second : (x : A) (mid : List Symbol) → p ts ≡ Ok (x, mid) → f x mid ≡ Err e → WasRefused p f ts e
@@ -182,7 +188,7 @@ part_then {p = p} {f = f} {Q = Q} {ts = ts} first second = record {
         let b = (second x a.leaves mid a.post).goes e k limit in
         record { value = b.value; leaves = a.leaves ++ b.leaves; begins = begins_after a.leaves a.front b.begins; post = b.post }
 
--- a first part with a known yield, followed by another parser
+-- `Gives` holds for a sequence of parsers whose first part has a known yield.
 pub spelled_then : {A B : Type 0} {p : Parser A} {f : A → Parser B} {yield : A → Yield} {Is : A → List Symbol → Type 0} {Q : B → Yield → List Symbol → Type 0} {ts : List Symbol}
     → Gives p (Spells yield Is) ts → ((x : A) (mid : List Symbol) → Is x mid → Gives (f x) (λ y ys rest. Q y (yield x ++ ys) rest) mid) → Gives (bind p f) Q ts
 spelled_then {f = f} {yield = yield} {Q = Q} first second =
@@ -192,7 +198,7 @@ abbrev pub answer_of : {A : Type 0} → A → Outcome A → A
 answer_of other (Ok q) = q.0
 answer_of other (Err e) = other
 
--- a last part, and a node made of its result
+-- `Gives` holds for a parser whose result becomes a node of the tree.
 pub last_then : {A B : Type 0} {p : Parser A} (make : A → B) {yield : A → Yield} {Is : A → List Symbol → Type 0} {Q : B → Yield → List Symbol → Type 0} {ts : List Symbol}
     → Gives p (Spells yield Is) ts → ((x : A) (rest : List Symbol) → Is x rest → Q (make x) (yield x) rest) → Gives (bind p (λ x. pure (make x))) Q ts
 last_then {A} {B} {p = p} make {yield = yield} {Is = Is} {Q = Q} {ts = ts} first post = record {
@@ -234,7 +240,7 @@ pure_gives {A} {Q = Q} {ts = ts} {x = x} post = record {
 
 -- ---- parsers that reject
 
--- a parser that rejects the next symbol as unexpected
+-- `Gives` holds for a parser that rejects the next symbol as unexpected.
 pub unexpected_gives : {A : Type 0} {Q : A → Yield → List Symbol → Type 0} {ts : List Symbol} → Possible Q → Gives (refuse {A = A} Unexpected) Q ts
 unexpected_gives {ts = ts} possible = record { gives = λ rest y h. absurd (cc); goes = λ e h limit. no_limit ts e h limit; ending = λ none. possible }
 
@@ -257,7 +263,8 @@ completed_here : {A : Type 0} {Q : A → Yield → List Symbol → Type 0} (t : 
 completed_here t more left same o =
     record { value = o.value; leaves = o.leaf ∷ o.following; begins = begins_here o.leaf o.following t more left o.terminal o.place same; post = o.post }
 
--- a parser that rejects the next symbol for a limit
+-- `Gives` holds for a parser that rejects the next symbol because of a limit, if some result begins
+-- with that symbol.
 pub limit_gives : {A : Type 0} {Q : A → Yield → List Symbol → Type 0} {ts : List Symbol} (why : Reason) (u : Terminal) → next ts ≡ Some u → ((p : Place) → Opened Q u p) → Gives (refuse {A = A} why) Q ts
 limit_gives {A} {Q = Q} {ts = ts} why u comes opened = record {
   gives = λ rest y h. absurd (cc);
@@ -272,7 +279,8 @@ limit_gives {A} {Q = Q} {ts = ts} why u comes opened = record {
     start [] e is same = absurd (nothing is)
     start (t ∷ more) e is same = let terminal : t.terminal ≡ u = cc in completed_here t more e.left (sym same) (subst (λ (w : Terminal). Opened Q w t.place) (sym terminal) (opened t.place))
 
--- each symbol that may begin an item does begin one
+-- `Gives` holds for a limit's rejection of an item if every symbol that may begin an item begins
+-- some result.
 pub begun_gives : {A : Type 0} {Q : A → Yield → List Symbol → Type 0} {ts : List Symbol} (begins : Terminal → Bool) (why : Reason) → starts begins (next ts) ≡ true
     → ((u : Terminal) (p : Place) → begins u ≡ true → Opened Q u p) → Gives (refuse {A = A} why) Q ts
 begun_gives {A} {Q = Q} {ts = ts} begins why comes opened = go (next ts) refl comes
@@ -301,7 +309,7 @@ item_refusal_gives {A} {Q = Q} {ts = ts} begins why possible opened = record {
 
 -- ---- weakening and rewriting of facts
 
--- a fact may be replaced by one that it implies
+-- In `Gives`, a condition on results may be replaced by a condition that it implies.
 pub gives_as : {A : Type 0} {p : Parser A} {P Q : A → Yield → List Symbol → Type 0} {ts : List Symbol} → ((x : A) (ls : Yield) (rest : List Symbol) → P x ls rest → Q x ls rest) → Gives p P ts → Gives p Q ts
 gives_as weaker h = record {
   gives = λ rest x e. let a = h.gives rest x e in record { leaves = a.leaves; front = a.front; within = a.within; post = weaker x a.leaves rest a.post };
@@ -309,7 +317,7 @@ gives_as weaker h = record {
   ending = λ none. let a = h.ending none in record { value = a.value; leaves = a.leaves; post = weaker a.value a.leaves [] a.post };
 }
 
--- a parser may be replaced by one that returns an equal result on these symbols
+-- In `Gives`, a parser may be replaced by one that returns an equal result on the given symbols.
 pub gives_instead : {A : Type 0} {p : Parser A} (q : Parser A) {Q : A → Yield → List Symbol → Type 0} {ts : List Symbol} → p ts ≡ q ts → Gives q Q ts → Gives p Q ts
 gives_instead q same h = record { gives = λ rest x e. h.gives rest x (sym same ∙ e); goes = λ e is limit. h.goes e (sym same ∙ is) limit; ending = h.ending }
 
@@ -346,14 +354,15 @@ item_gives {yield = yield} i few h = record {
 pub opened_at : {A : Type 0} {Q : A → Yield → List Symbol → Type 0} (d : ℕ) (u : Terminal) (p : Place) (x : A) (following : Yield) → Q x (leaf_at d u p ∷ following) [] → Opened Q u p
 opened_at d u p x following post = record { value = x; leaf = leaf_at d u p; following = following; terminal = refl; place = refl; post = post }
 
--- a result whose first leaf has no stored place and is the item of this number
+-- A result witnesses `Opened` if its first leaf has no stored source position and has a given item
+-- number.
 pub opened_item : {A : Type 0} {Q : A → Yield → List Symbol → Type 0} (d i : ℕ) (u : Terminal) (p : Place) (x : A) (following : Yield) → Q x (record { terminal = u; place = None; nesting = d; item = i } ∷ following) [] → Opened Q u p
 opened_item d i u p x following post = record { value = x; leaf = record { terminal = u; place = None; nesting = d; item = i }; following = following; terminal = refl; place = tt; post = post }
 
 pub numbered : {A : Type 0} {yield : A → Yield} {Is : A → List Symbol → Type 0} {u : Terminal} {p : Place} (i : ℕ) → Opened (Spells yield Is) u p → Opened (Spells (λ x. item_number i (yield x)) Is) u p
 numbered i o = record { value = o.value; leaf = record o.leaf { item = i }; following = o.following; terminal = o.terminal; place = o.place; post = (ap (item_number i) o.post.0, o.post.1) }
 
--- a part whose yield begins with the symbol, followed by another part
+-- `Opened` holds for a sequence whose first part has a yield that begins with the symbol.
 pub opened_then : {A B : Type 0} {yield : A → Yield} {Is : A → List Symbol → Type 0} {Q : B → Yield → List Symbol → Type 0} {u : Terminal} {p : Place}
     → Opened (Spells yield Is) u p → ((x : A) → Is x [] → Possible (λ y ys rest. Q y (yield x ++ ys) rest)) → Opened Q u p
 opened_then {Q = Q} o more =

@@ -96,7 +96,7 @@ number_is : (u : Terminal) (n : ℕ) → number_value u ≡ Some n → u ≡ ter
 number_is (terminals.Number m) n h = cc
 number_is _ n h = absurd (cc)
 
--- The value of a global after its sign is parsed at the nesting of the sign.
+-- The initial value of a global variable is parsed after its `=`, at the nesting depth of that `=`.
 value_gives : (room d : ℕ) → Fits (suc room) d → suc d ≤ max_nesting → (o : Option Terminal) (ts : List Symbol) → next ts ≡ o
     → Gives (value_by room o) (Follows (leaf_of d (Mark signs.Assign) ∷ []) (yields.global_value d) Any) ts
 value_gives room d fits shallow (Some (terminals.Number n)) ts e = advance_then (suc d) (terminals.Number n) e shallow (λ p mid. pure_gives (refl, tt))
@@ -139,7 +139,8 @@ module _ (room d : ℕ) (fits : Fits (suc room) d) (shallow : suc d ≤ max_nest
   struct_fields_give s rs ts = sign_then (suc room) d signs.LeftBrace fits (λ _ mid. spelled_then (some_of_gives begins_type (field room) (yields.field (suc d)) (field_gives room (suc d) deeper shallow) (field_opened (suc d)) mid) (λ fs mid some.
       sign_then room (suc d) signs.RightBrace deeper (λ _ mid. sign_then (suc room) d signs.Semicolon fits (λ _ mid. pure_gives (refl, some)))))
 
-  -- `struct`, whose place is stored by a type but not by a struct declaration
+  -- `Gives` holds for a parser that begins with `struct`; a type stores the source position of
+  -- `struct`, and a struct declaration does not.
   struct_then : {C : Type 0} {f : Place → Parser C} {Q : C → Yield → List Symbol → Type 0} {ts : List Symbol} → next ts ≡ Some (Word words.Struct)
       → ((q : Place) (mid : List Symbol) → Gives (f q) (λ y ys rest. Q y (leaf_at d (Word words.Struct) q ∷ ys) rest ⊎ Q y (leaf_of d (Word words.Struct) ∷ ys) rest) mid) → Gives (bind advance f) Q ts
   unfolding bind

@@ -95,7 +95,7 @@ module _ (room d : ℕ) (inner : Nested) (fits : Fits (suc room) d) (h : Stateme
   abbrev condition : Expression → Yield
   condition c = leaf_of d (Mark signs.LeftParen) ∷ (yields.expression (suc d) c ++ leaf_of (suc d) (Mark signs.RightParen) ∷ [])
 
-  -- the yield of a condition and the symbols after it, regrouped
+  -- The yield of a parenthesized condition, followed by more symbols, can be regrouped.
   regroup : (l : Leaf) (c : Expression) (zs : Yield) → l ∷ (condition c ++ zs) ≡ l ∷ leaf_of d (Mark signs.LeftParen) ∷ (yields.expression (suc d) c ++ leaf_of (suc d) (Mark signs.RightParen) ∷ zs)
   regroup l c zs = ap (λ (ys : Yield). l ∷ leaf_of d (Mark signs.LeftParen) ∷ ys) (append_assoc (yields.expression (suc d) c) (leaf_of (suc d) (Mark signs.RightParen) ∷ []) zs)
 

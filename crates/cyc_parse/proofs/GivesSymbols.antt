@@ -1,4 +1,5 @@
--- The parsers of one symbol, by its terminal and its leaf, and the parsers that decide by the next symbol.
+-- The parsers of one symbol satisfy `Gives` for the symbol's leaf, and so do the parsers that decide by
+-- the next symbol.
 use Rattle.std.proofs.Common.{◌≡◌, ℕ, zero, suc, ◌≤◌, Bool, true, false, cond, List, [], ◌∷◌, Option, Some, None, is_some, Ok, Err, refl, sym, ap, subst, ◌∙◌, arith, rules}
 use Rattle.std.specs.Option.{IfSome}
 use Rattle.std.specs.Prelude.{if◌then◌else◌}
@@ -26,7 +27,7 @@ taken_parts room None give t ts rest y h = absurd (cc)
 taken_parts zero (Some a) give t ts rest y h = absurd (cc)
 taken_parts (suc r) (Some a) give t ts rest y h = (r, a, refl, refl, ap (answer_of y) h, ap left_of h)
 
--- a symbol rejected by a limit is nested too deep
+-- If a limit rejects a symbol in the parser of one symbol, then that symbol is nested too deep.
 too_deep : {A B : Type 0} (room : ℕ) (o : Option A) (give : A → Place → B) (t : Symbol) (ts : List Symbol) (e : Refusal) → accept_if room o give t ts ≡ Err e → IsLimit e.reason
     → (a : A) × (o ≡ Some a) × (e.left ≡ t ∷ ts)
 too_deep room None give t ts e h limit = no_limit (t ∷ ts) e h limit
@@ -36,7 +37,8 @@ too_deep (suc r) (Some a) give t ts e h limit = no_refusal h
 pub some_place : Place
 some_place = record { line = 1; column = 1 }
 
--- the leaf of a symbol that was read, given its value
+-- `Gives` holds for the parser of one symbol followed by another parser; the symbol's leaf is
+-- computed from its value and position.
 pub take_then : {A B C : Type 0} (room : ℕ) (reads : Terminal → Option A) (give : A → Place → B) (f : B → Parser C) {Q : C → Yield → List Symbol → Type 0} {ts : List Symbol} (some : A) (leaf : A → Place → Leaf)
     → ((a : A) (q : Place) → Fits room (leaf a q).nesting) → ((a : A) (q : Place) → (leaf a q).item ≤ max_items)
     → ((a : A) (u : Terminal) (q : Place) → reads u ≡ Some a → u ≡ (leaf a q).terminal) → ((a : A) (q : Place) → IfSome (leaf a q).place (λ p. q ≡ p))
@@ -83,7 +85,7 @@ take_then {A} {B} {C} room reads give f {Q = Q} {ts = ts} some leaf fits few is 
         let d = (second a t.place mid).goes e (ap (λ (b : B). f b mid) value ∙ k) limit in
         record { value = d.value; leaves = leaf a t.place ∷ d.leaves; begins = leaf_begins (leaf a t.place) t (is a t.terminal t.place reading) (place a t.place) same d.begins; post = d.post }
 
--- with no room left, no symbol is read
+-- If no nesting level is left, the parser of one symbol reads no symbol.
 pub stuck_then : {A B C : Type 0} (reads : Terminal → Option A) (give : A → Place → B) (f : B → Parser C) {Q : C → Yield → List Symbol → Type 0} {ts : List Symbol} (leaf : Leaf) (possible : Possible (λ y ys rest. Q y (leaf ∷ ys) rest))
     → ((a : A) (u : Terminal) → reads u ≡ Some a → u ≡ leaf.terminal) → ((q : Place) → IfSome leaf.place (λ p. q ≡ p)) → Gives (bind (take zero reads give) f) Q ts
 unfolding take
@@ -153,7 +155,8 @@ region_terminal (Word k) a h = absurd (cc)
 region_terminal (Mark s) a h = absurd (cc)
 
 module _ {C : Type 0} {Q : C → Yield → List Symbol → Type 0} {ts : List Symbol} (room d : ℕ) where
-  -- a sign that is an item of its chain with this number, or no item
+  -- `Gives` holds for the parser of a sign (punctuation token) that is the item with a given number
+  -- in its list or chain.
   pub sign_item_then : (i : ℕ) (s : Sign) {f : Place → Parser C} → Fits room d → i ≤ max_items
       → ((q : Place) (mid : List Symbol) → Gives (f q) (λ y ys rest. Q y (record { terminal = Mark s; place = None; nesting = d; item = i } ∷ ys) rest) mid) → Gives (bind (sign room s) f) Q ts
   sign_item_then i s fits few second = take_then room (is_sign s) only_place _ tt (λ _ _. record { terminal = Mark s; place = None; nesting = d; item = i }) (λ _ _. fits) (λ _ _. few) (λ a u _ e. sign_is s u a e) (λ _ _. tt) (λ _ q mid. second q mid)
@@ -186,7 +189,7 @@ stuck_word d k f possible = stuck_then (is_word k) only_place f (leaf_of d (Word
 
 -- ---- decisions by the next symbol
 
--- the next symbol, read as this leaf
+-- `Gives` holds for a parser that reads the next symbol as a given leaf.
 pub advance_leaf_then : {C : Type 0} {f : Place → Parser C} {Q : C → Yield → List Symbol → Type 0} {ts : List Symbol} (leaf : Place → Leaf) (u : Terminal) → next ts ≡ Some u
     → ((q : Place) → (leaf q).terminal ≡ u) → ((q : Place) → (leaf q).nesting ≤ max_nesting) → ((q : Place) → (leaf q).item ≤ max_items) → ((q : Place) → IfSome (leaf q).place (λ p. q ≡ p))
     → ((q : Place) (mid : List Symbol) → Gives (f q) (λ y ys rest. Q y (leaf q ∷ ys) rest) mid) → Gives (bind advance f) Q ts
@@ -223,7 +226,7 @@ pub advance_then : {C : Type 0} {f : Place → Parser C} {Q : C → Yield → Li
     → ((q : Place) (mid : List Symbol) → Gives (f q) (λ y ys rest. Q y (leaf_at d u q ∷ ys) rest) mid) → Gives (bind advance f) Q ts
 advance_then d u comes shallow second = advance_leaf_then (λ q. leaf_at d u q) u comes (λ _. refl) (λ _. shallow) (λ _. omega arith) (λ _. refl) second
 
--- the next symbol, read as a leaf without a stored place
+-- `Gives` holds for a parser that reads the next symbol as a leaf without a stored source position.
 pub advance_bare_then : {C : Type 0} {f : Place → Parser C} {Q : C → Yield → List Symbol → Type 0} {ts : List Symbol} (d : ℕ) (u : Terminal) → next ts ≡ Some u → d ≤ max_nesting
     → ((q : Place) (mid : List Symbol) → Gives (f q) (λ y ys rest. Q y (leaf_of d u ∷ ys) rest) mid) → Gives (bind advance f) Q ts
 advance_bare_then d u comes shallow second = advance_leaf_then (λ q. leaf_of d u) u comes (λ _. refl) (λ _. shallow) (λ _. omega arith) (λ _. tt) second
@@ -255,7 +258,7 @@ is_gives {A} reads {f = f} {q = q} {Q = Q} {ts = ts} h k = gives_instead (on_som
     go None e = k
     go (Some x) e = h x e
 
--- a parser whose result is returned unchanged
+-- `Gives` holds for a parser if it holds for the parser followed by returning the result unchanged.
 pub bare_gives : {A : Type 0} {p : Parser A} {Q : A → Yield → List Symbol → Type 0} {ts : List Symbol} → Gives (bind p (λ x. pure x)) Q ts → Gives p Q ts
 unfolding bind
 bare_gives {A} {p = p} {ts = ts} h = gives_instead (bind p (λ x. pure x)) (same (p ts)) h
@@ -264,7 +267,7 @@ bare_gives {A} {p = p} {ts = ts} h = gives_instead (bind p (λ x. pure x)) (same
     same (Ok q) = refl
     same (Err e) = refl
 
--- a sign that comes next and is rejected for a limit
+-- `Gives` holds for a test that rejects the next sign (punctuation token) because of a limit.
 pub sees_limit_gives : {A : Type 0} (s : Sign) (why : Reason) {q : Parser A} {Q : A → Yield → List Symbol → Type 0} {ts : List Symbol} → ((p : Place) → Opened Q (Mark s) p) → Gives q Q ts → Gives (if_sees s (refuse why) q) Q ts
 unfolding if_sees
 sees_limit_gives s why {ts = ts} opened k = test_gives (sees s) (λ e. limit_gives why (Mark s) (seen (next ts) e) opened) (λ _. k)

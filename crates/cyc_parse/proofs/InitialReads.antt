@@ -1,4 +1,4 @@
--- The operand of `new` is parsed back from its yield, and so are all expressions.
+-- The operand of `new` is parsed back from its yield, and so is every expression.
 use Rattle.std.proofs.Common.{◌≡◌, ℕ, zero, suc, ◌≤◌, ◌<◌, Bool, true, false, cond, List, [], ◌∷◌, ◌++◌, length, Some, refl, sym, ap, subst, ◌∙◌, arith, length-append, inl, inr}
 use Rattle.std.proofs.lemmas.Bool.Decides.{eqb_tells}
 use Rattle.cyc_words.proofs.Numbers.{below_when_not_last}
@@ -32,7 +32,7 @@ module _ (room d : ℕ) (fits : Fits (suc room) d) where
 
 -- ---- the values of a struct's fields
 
--- the symbols that may follow the values of a struct's fields
+-- Conditions on the symbols that may follow the values of a struct's fields.
 abbrev pub EndsValues : List Symbol → Type 0
 EndsValues = EndsList (Stops 11)
 
@@ -96,7 +96,8 @@ module _ (room d : ℕ) (fits : Fits (suc room) d) where
 
   -- ---- a plain expression
 
-  -- the parser of a name that does not open a struct's fields
+  -- If a name does not open a struct's fields, the parser of initial values parses it as an
+  -- expression.
   on_name : (x : ℕ) (t : Symbol) (more : List Symbol) → t.terminal ≡ Identifier x → sees signs.LeftBrace more ≡ false → opens_regions more ≡ false
       → initial room (nested room) (t ∷ more) ≡ bind (unary room (nested room)) (λ v. pure (Plain v)) (t ∷ more)
   unfolding initial unary choose if_sees bind primary
@@ -108,7 +109,7 @@ module _ (room d : ℕ) (fits : Fits (suc room) d) where
   not_name (Mark _) h other = refl
   not_name _ h other = refl
 
--- the symbol after a name at the start of an operand
+-- The symbol after a name at the start of an operand is not `<`.
 low_not_less : (t : Terminal) → binds_terminal t ≤ 0 → sees_terminal signs.Less (Some t) ≡ false
 low_not_less (Mark signs.Less) h = absurd (omega arith)
 low_not_less (Mark _) h = refl
@@ -157,7 +158,8 @@ unfolding nested
 binary_read e h zero d fits is = deep_reads begins_expression d (omega arith) (expression_starts d e)
 binary_read e h (suc room) d fits is = h.operand 10 (suc room) d fits (omega arith) is
 
--- without the limits in the way: the parse of an initial value, with and without room
+-- An initial value is parsed back at every depth if it is parsed back where nesting levels are
+-- left.
 initial_read : (i : Initial) → ((room d : ℕ) → Fits (suc room) d → IsInitial i → Reads (initial room (nested room)) i (yields.initial d i) (Stops 0)) → IsInitialRead i
 unfolding nested
 initial_read i h = record { reads = at }
@@ -166,7 +168,7 @@ initial_read i h = record { reads = at }
     at zero d fits is = deep_reads begins_initial d (omega arith) (initial_starts d i)
     at (suc room) d fits is = h room d fits is
 
--- a chain of operators is parsed back from its yield
+-- A chain of binary operators is parsed back from its yield.
 chain_read : (e : Expression) (os : Operations) → IsReadAll e → ((below room d : ℕ) → Fits (suc room) d → AreOperations below os → below ≤ 10 → OperationParts (bind (nested (suc room)).unary (climb (nested (suc room)).unary below)) below d os) → IsReadAll (Binary e os)
 chain_read e os h parts = record { unary = at_unary; operand = at_operand; expression = at_expression; parts = λ room d fits is. tt }
   where
@@ -190,7 +192,7 @@ chain_read e os h parts = record { unary = at_unary; operand = at_operand; expre
     at_expression zero d fits is = deep_expression d fits (Binary e os)
     at_expression (suc room) d fits (below, less, limit, first, some, are) = unassigned room d (climbing 10 below room d fits limit limit first some are)
 
--- an assignment is parsed back from its yield
+-- An assignment expression is parsed back from its yield.
 assign_read : (a b : Expression) → IsReadAll a → IsReadAll b → IsReadAll (Assign a b)
 unfolding nested
 assign_read a b left right = record { unary = at_unary; operand = at_operand; expression = at_expression; parts = λ room d fits is. tt }
@@ -249,7 +251,7 @@ struct_read room d fits s rs NoExpressions some all = absurd some
 struct_read room d fits s rs (MoreExpressions e es) some all = struct_reads room d fits s rs e es all
 
 mutual
-  -- ALL EXPRESSIONS are parsed back from their yields
+  -- EVERY EXPRESSION is parsed back from its yield.
   pub all_read : (e : Expression) → IsReadAll e
   all_read (Number p n) = from_unary (Number p n) (λ k is. is) (λ room d fits is. alone_reads room d fits (Number p n) refl tt) (λ room d fits is. tt)
   all_read (Character p c) = from_unary (Character p c) (λ k is. is) (λ room d fits is. alone_reads room d fits (Character p c) refl tt) (λ room d fits is. tt)

@@ -23,7 +23,7 @@ use Rattle.cyc_parse.proofs.StatementStarts.{statement_starts, statement_char_op
 use Rattle.cyc_parse.proofs.StatementReads.{EndsStatement, EndsBlock, EndsClauses, expression_at, ReadsStatement, ReadsItems, body_reads, block_reads, labelled_reads, empty_reads}
 use Rattle.cyc_parse.proofs.StatementReads.{evaluate_reads, swap_reads, if_reads, if_else_reads, while_reads, return_reads, break_reads, continue_reads, throw_reads, try_reads}
 
--- the symbols that may follow an item
+-- Conditions on the symbols that may follow an item of a block.
 abbrev pub EndsItem : Item → List Symbol → Type 0
 EndsItem (Execute s) = EndsStatement (wants_else s)
 EndsItem (Local t x v) = Always
@@ -42,7 +42,7 @@ pub record EndsGiven (ts : List Symbol) : Type 0 where
   pub assign : sees signs.Assign ts ≡ false
   pub stops : Stops 11 ts
 
--- `open(key)` is parsed back, also at a depth without room
+-- `open(key)` is parsed back from its yield, even at the deepest permitted nesting.
 open_reads : (room d : ℕ) → Fits room d → (k : Named) (Ends : List Symbol → Type 0)
     → Reads (word room words.Open >> sign room signs.LeftParen >> identifier (inside room) >>= (λ x. sign (inside room) signs.RightParen >> pure (Some x))) (Some k)
     (leaf_of d (Word words.Open) ∷ leaf_of d (Mark signs.LeftParen) ∷ leaf_at (suc d) (Identifier k.name) k.place ∷ leaf_of (suc d) (Mark signs.RightParen) ∷ []) Ends
@@ -50,7 +50,8 @@ open_reads zero d fits k Ends = word_deep_reads d words.Open _ (omega arith)
 open_reads (suc room) d fits k Ends = word_reads (suc room) d words.Open _ fits (λ p. sign_reads (suc room) d signs.LeftParen _ fits (λ p. identifier_reads room (suc d) k _ (deeper room d fits)
     (sign_reads room (suc d) signs.RightParen _ (deeper room d fits) (λ p. pure_reads (Some k) Ends))))
 
--- `(variable)` is parsed back, also at a depth without room
+-- `(variable)` in a catch clause is parsed back from its yield, even at the deepest permitted
+-- nesting.
 caught_reads : (room d : ℕ) → Fits room d → (v : Option Named) → Reads (caught room (nested_statements room)) v (yields.optional (yields.caught d) v) NoParen
 caught_reads room d fits None = unseen_reads signs.LeftParen _ _ (λ ts rest front ends. ap (sees signs.LeftParen) front ∙ ends.paren) (pure_reads None NoParen)
 caught_reads zero d fits (Some x) = sees_reads signs.LeftParen _ _ (leaf_of d (Mark signs.LeftParen)) _ refl (sign_deep_reads d signs.LeftParen _ (omega arith))
@@ -64,7 +65,7 @@ key_reads zero d fits Ends = word_deep_reads (suc d) words.NewKey _ (omega arith
 key_reads (suc room) d fits Ends = word_reads (suc room) (suc d) words.NewKey _ (omega arith) (λ p. sign_reads (suc room) (suc d) signs.LeftParen _ (omega arith) (λ p. sign_reads room (suc (suc d)) signs.RightParen _ (omega arith) (λ p.
     sign_reads (suc (suc room)) d signs.Semicolon _ fits (λ p. pure_reads (tt {0}) Ends))))
 
--- `<region>` is parsed back, also at a depth without room
+-- `<region>` is parsed back from its yield, even at the deepest permitted nesting.
 region_inside_reads : {C : Type 0} (room d : ℕ) → Fits room d → (r : Named) (f : Named → Parser C) {y : C} {ys : Yield} {Ends : List Symbol → Type 0} → Reads (f r) y ys Ends
     → Reads (bind (region_of room) f) y (leaf_of d (Mark signs.Less) ∷ leaf_at d (RegionName r.name) r.place ∷ leaf_of d (Mark signs.Greater) ∷ ys) Ends
 region_inside_reads room d fits r f h = then_reads f (region_of_reads_any room d fits r Always) h (λ mid rest front ends. tt)
@@ -76,7 +77,7 @@ mark_no_paren pointers.Nullable = refl
 mark_no_paren pointers.NonNull = refl
 mark_no_paren pointers.Fat = refl
 
--- a type is followed by a name, so no parenthesis follows `char` in a declaration
+-- In a declaration, a name follows the type, so no parenthesis follows `char`.
 marks_no_paren : (d i : ℕ) (ms : List Pointer) (x : Named) (ys : Yield) (mid rest : List Symbol) → Front (yields.each (yields.mark d) i ms ++ leaf_at d (Identifier x.name) x.place ∷ ys) mid rest → sees signs.LeftParen mid ≡ false
 marks_no_paren d i [] x ys mid rest front = ap (sees_terminal signs.LeftParen) (front-next (leaf_at d (Identifier x.name) x.place) ys mid rest front)
 marks_no_paren d i (m ∷ ms) x ys mid rest (t, more, e, is_leaf, front) = ap (sees signs.LeftParen) e ∙ ap (λ (u : Terminal). sees_terminal signs.LeftParen (Some u)) is_leaf.terminal ∙ mark_no_paren m.kind
@@ -89,7 +90,7 @@ type_opens_none d p (Struct s rs) ms x ys ts rest (t, more, e, is_leaf, front) =
 type_opens_none d p (Handle r) ms x ys ts rest (t, more, e, is_leaf, front) = ap opens_low_byte e ∙ rw (is_leaf.terminal) refl
 type_opens_none d p (Key r) ms x ys ts rest (t, more, e, is_leaf, front) = ap opens_low_byte e ∙ rw (is_leaf.terminal) refl
 
--- `char` at the start of a statement is followed by a parenthesis
+-- If a statement begins with `char`, a parenthesis follows the `char`.
 opens_here : (leaf : Leaf) (ys : Yield) (ts rest : List Symbol) → Front (leaf ∷ ys) ts rest → leaf.terminal ≡ Word words.Char → OpensParen ys → opens_low_byte ts ≡ true
 opens_here leaf [] ts rest front is opens = absurd opens
 opens_here leaf (other ∷ ys) ts rest (t, more, e, is_leaf, (u, mores, f, is_other, front)) is opens =
@@ -187,7 +188,7 @@ item_count-length : (d : ℕ) (is : Items) → item_count is ≤ length (yields.
 item_count-length d NoItems = omega arith
 item_count-length d (MoreItems i is) = omega (arith, item_count-length d is, item-length d i, length-append (yields.item d i) (yields.items d is))
 
--- an item is parsed back from its yield
+-- An item of a block is parsed back from its yield.
 pub record ReadsItem (room d : ℕ) (i : Item) : Type 0 where
   pub reads : Reads (item room (nested_statements room)) i (yields.item d i) (EndsItem i)
 
@@ -246,7 +247,7 @@ ClausesRead room d NoClauses = Unit {0}
 ClausesRead room d (Default is) = ReadsItems room d is
 ClausesRead room d (Case x v is cs) = ReadsItems room d is × ClausesRead room d cs
 
--- the symbols that may follow the items of a clause
+-- Conditions on the symbols that may follow the items of a catch clause.
 next_clause : (d : ℕ) (cs : Clauses) (mid rest : List Symbol) → Front (yields.clauses d cs) mid rest → EndsClauses rest → EndsBlock mid
 next_clause d NoClauses mid rest front ends = subst EndsBlock (sym front) ends.block
 next_clause d (Default is) mid rest front ends = let n : next mid ≡ Some (Word words.Default) = front-next (leaf_of d (Word words.Default)) (leaf_of d (Mark signs.Colon) ∷ yields.items d is) mid rest front in
@@ -293,7 +294,7 @@ clauses_reads room d fits (Case x v is cs) some all = starts_reads begins_clause
 
 -- ---- all statements
 
--- a statement is parsed back, also at a depth without room
+-- A statement is parsed back from its yield, even at the deepest permitted nesting.
 statement_read : (s : Statement) → ((room d : ℕ) → Fits (suc room) d → IsStatement s → Reads (statement room (nested_statements room)) s (yields.statement d s) (EndsStatement (wants_else s)))
     → (room d : ℕ) → Fits room d → IsStatement s → ReadsStatement room d s
 unfolding nested_statements
@@ -305,7 +306,7 @@ unfolding nested_statements
 read_here room d s h = h.reads
 
 mutual
-  -- ALL STATEMENTS are parsed back from their yields
+  -- EVERY STATEMENT is parsed back from its yield.
   pub all_statements : (s : Statement) (room d : ℕ) → Fits room d → IsStatement s → ReadsStatement room d s
   all_statements (Block (Braces p is q)) = statement_read (Block (Braces p is q)) (λ room d fits are. block_reads room d fits p is q (EndsStatement false) (items_read is (λ r n f. all_items is r n f are) room (suc d) (deeper room d fits)))
   all_statements (Labelled l (Braces p is q)) = statement_read (Labelled l (Braces p is q)) (λ room d fits are. labelled_reads room d fits l p is q (EndsStatement false) (items_read is (λ r n f. all_items is r n f are) room (suc d) (deeper room d fits)))

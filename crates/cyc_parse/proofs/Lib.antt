@@ -1,9 +1,10 @@
--- lemmas that the proofs of `parse` and of the laws cite
+-- Lemmas that the proofs of `parse` and of its laws cite.
 pub mod Accepted
 pub mod Ends
 pub mod Naming
 pub mod OneTree
--- completeness: if symbols have a tree, the parser returns it, or rejects the first limit that it breaks
+-- Completeness: if symbols have a parse tree, the parser returns that tree, or rejects the first limit
+-- that it breaks.
 pub mod Completeness
 pub mod Rules
 pub mod Signs
@@ -21,7 +22,8 @@ pub mod StatementStarts
 pub mod StatementReads
 pub mod ItemReads
 pub mod DeclarationReads
--- soundness: a tree that the parser returns is a tree of the symbols; a symbol rejected for a limit begins some program
+-- Soundness: a tree that the parser returns is a parse tree of the symbols; if a limit rejects a symbol, some program
+-- begins with the symbols up to the rejected one.
 pub mod Soundness
 pub mod Gives
 pub mod GivesSymbols
@@ -30,14 +32,14 @@ pub mod GivesTypes
 pub mod GivesExpressions
 pub mod GivesStatements
 pub mod GivesDeclarations
--- the meaning of a rejection: the parser looks at no symbol after the rejected one
+-- The meaning of a rejection: the parser's decision depends on no symbol after the rejected one.
 pub mod Refused
 pub mod Locality
 pub mod LocalTypes
 pub mod LocalExpressions
 pub mod LocalStatements
 pub mod LocalDeclarations
--- lemmas about the loops of the code and its levels of nesting
+-- Lemmas about the parser's loops and its levels of nesting.
 pub mod Loops
 pub mod Rounds
 pub mod NextItems

@@ -31,7 +31,7 @@ IsOpenInitial i = ends_in_name i ≡ true
 -- ---- chains of binary operators
 
 module _ {c : Bool} (operand : Parser Expression) (h : Runs c Anything operand) (k : ℕ) where
-  -- lookahead after an operator
+  -- The parser has bounded lookahead after an operator.
   operand_runs : (left : ℕ) → Runs false Anything (operations operand k left) → Tolerates Anything (operations operand k left) → (o : BinaryOperator) (p : Place)
       → Runs c Anything (bind operand (λ e. bind (operations operand k left) (λ os. pure (ThenOperation o p e os))))
   operand_runs left more tolerates o p = open_then_runs h (λ e. open_then_runs more (λ os. pure_runs _) (λ os _. tolerates_pure _ tt)) (λ e _. tolerates_then _ _ tolerates (λ os. pure_runs _) (λ os _. tolerates_pure _ tt))
@@ -46,7 +46,7 @@ module _ {c : Bool} (operand : Parser Expression) (h : Runs c Anything operand) 
   one_more left more tolerates None t a b less differ = opens NoOperations t refl tt less differ
   one_more left more tolerates (Some o) t a b less differ = beyond_suffix _ ((operand_runs left more tolerates o t.place).suffix a)
 
-  -- both facts about a chain, for this many operators
+  -- Says that both lookahead facts about a chain hold for a given number of operators.
   record Chains (left : ℕ) : Type 0 where
     runs : Runs false Anything (operations operand k left)
     tolerates : Tolerates Anything (operations operand k left)
@@ -73,7 +73,7 @@ module _ {c : Bool} (unary : Parser Expression) (h : Runs c Anything unary) wher
     pub runs : (e : Expression) → Runs false Anything (climb unary k e)
     pub tolerates : (e : Expression) → Tolerates Anything (climb unary k e)
 
-  -- an operand of the next level has bounded lookahead
+  -- An operand of the next operator level has bounded lookahead.
   operand_climbs : (k : ℕ) → Climbs k → Runs c Anything (bind unary (climb unary k))
   operand_climbs k below = open_then_runs h (λ e. below.runs e) (λ e _. below.tolerates e)
 
@@ -103,7 +103,8 @@ NoLess ts = next ts ≡ Some (Mark signs.Less) → ⊥
 abbrev pub Halts : {A : Type 0} → Parser A → Type 0
 Halts {A} p = (ts rest : List Symbol) (x : A) → p ts ≡ Ok (x, rest) → NoLess rest
 
--- the symbols read by a sequence of two parsers
+-- Says that a sequence of two parsers read its symbols in two parts: the first parser's, then the
+-- second's.
 pub record WasRead {A B : Type 0} (p : Parser A) (f : A → Parser B) (ts rest : List Symbol) (y : B) : Type 0 where
   pub value : A
   pub mid : List Symbol
@@ -118,7 +119,8 @@ was_read {A} {B} p f ts rest y h = go (p ts) refl h
     go (Ok q) e h = record { value = q.0; mid = q.1; first = e; second = h }
     go (Err r) e h = absurd (cc)
 
--- a sequence of parsers never stops before `<` if its last part never does
+-- If the last parser of a sequence never stops before `<`, then the sequence never stops before
+-- `<`.
 halts_then : {A B : Type 0} (p : Parser A) (f : A → Parser B) → ((x : A) → Halts (f x)) → Halts (bind p f)
 halts_then p f h ts rest y e = let w = was_read p f ts rest y e in h w.value w.mid rest y w.second
 
@@ -128,7 +130,8 @@ halts_made p make ts rest y h e =
     let same : w.mid ≡ rest = ap left_of w.second in
     h w.value (subst (λ (s : List Symbol). p ts ≡ Ok (w.value, s)) same w.first)
 
--- `Ready` holds of symbols before an operator that do not begin with `<`, except as an operator of this level
+-- `Ready` holds for symbols before an operator if they do not begin with `<`, except where `<` is an operator
+-- of the current level.
 module _ (operand : Parser Expression) (k : ℕ) (Ready : List Symbol → Type 0) (stops : (ts : List Symbol) → Ready ts → operator_at k (next ts) ≡ None → NoLess ts)
     (ready : (ts rest : List Symbol) (e : Expression) → operand ts ≡ Ok (e, rest) → Ready rest) where
   stopped : (ts rest : List Symbol) (os : Operations) → Ready ts → operator_at k (next ts) ≡ None → pure NoOperations ts ≡ Ok (os, rest) → NoLess rest
@@ -159,7 +162,7 @@ less_operator ts none less = absurd (is_none (ap (operator_at 4) (sym less) ∙ 
     is_none e = cc
 
 module _ (unary : Parser Expression) where
-  -- the chains of the level of `<`, and of all looser levels
+  -- The chains of the level of `<`, and of all looser levels, have bounded lookahead.
   climb_halts : (j : ℕ) (e : Expression) → Halts (climb unary (suc (suc (suc (suc j)))) e)
   unfolding climb
   climb_halts zero e ts rest y h =
@@ -172,7 +175,7 @@ module _ (unary : Parser Expression) where
       (λ os e'. operations_halt (bind unary (climb unary (suc (suc (suc (suc j)))))) (suc (suc (suc (suc (suc j))))) NoLess (λ ts no _. no)
       (halts_then unary (climb unary (suc (suc (suc (suc j))))) (λ x. climb_halts j x)) max_items w.mid rest os (climb_halts j e ts w.mid w.value w.first) e') w.second
 
--- a parser that never stops before `<` looks at no further symbol
+-- If a parser never stops before `<`, then it looks at no further symbol.
 local_if_halts : {A : Type 0} {c : Bool} {Open : A → Type 0} {p : Parser A} → Runs c Open p → Halts p → Local c p
 local_if_halts {A} {Open = Open} {p = p} h halts = record { suffix = h.suffix; shorter = h.shorter; ends = h.ends; agrees = λ front a b. agree (front ++ a) a b (h.agrees front a b) }
   where
@@ -306,7 +309,8 @@ module _ (room : ℕ) (inner : Nested) (h : NestedRuns inner) where
   from_name_alone_runs : (s : Named) → Runs false IsOpenInitial (from_name_alone s)
   from_name_alone_runs s = then_runs (with_postfixes_run (from_name_run s)) (λ e. pure_runs _)
 
-  -- the decision by the symbol after `<`, which may be the end of the first symbols
+  -- The parser decides by the symbol after `<`, which may be the first symbol after the common part
+  -- of two inputs.
   by_region : (s : Named) (t : Symbol) (a b : List Symbol) (x y : Bool) → IsLess t → region_next a ≡ x → region_next b ≡ y
       → Agrees IsOpenInitial a b (cond x (with_regions s) (from_name_alone s) (t ∷ a)) (cond y (with_regions s) (from_name_alone s) (t ∷ b))
   by_region s t a b true true less e e' = (with_regions_run s).agrees (t ∷ []) a b
@@ -377,7 +381,7 @@ module _ (room : ℕ) (inner : Nested) (h : NestedRuns inner) where
   unfolding initial
   initial_runs = choose_runs initial_by_runs
 
-  -- an expression that begins with this name has bounded lookahead
+  -- An expression that begins with a given name has bounded lookahead.
   pub named_run : (x : Named) → Local false (bind (with_postfixes room inner (from_name room inner x)) (climb (unary room inner) 10))
   named_run x = then_runs (with_postfixes_run (from_name_run x)) (λ e. climb_all_runs (unary room inner) (opens_as (λ e _. tt) unary_runs) e)
 

@@ -19,7 +19,8 @@ use Rattle.cyc_parse.proofs.LocalExpressions.{IsOpen, nested_runs, named_run, lo
 end_of_swap_runs : (room : ℕ) (e : Expression) → Local false (end_of_swap room e)
 end_of_swap_runs room e = sees_runs signs.Semicolon (sign_runs _ signs.Semicolon) (test_runs (λ t. sees_terminal signs.Less t && ends_in_new e) (then_runs advance_runs (λ _. unexpected_runs)) unexpected_runs)
 
--- after `new` and a name, `<` could open region arguments, so the symbol after `<` is the rejected one
+-- After the right side of a swap that ends in `new` and a name, `<` could open region arguments, so
+-- the symbol after the `<` is rejected.
 end_refuses : (room : ℕ) (a b : Expression) (t : Symbol) (rest : List Symbol) → IsOpen b → IsLess t → bind (end_of_swap room b) (λ _. pure (Swap a b)) (t ∷ rest) ≡ Err (record { reason = Unexpected; left = rest })
 unfolding bind if_sees
 end_refuses room a b t rest ready less = rw (less, ready) refl
@@ -146,8 +147,8 @@ module _ (room : ℕ) (inner : Nested) (h : StatementsRun inner) where
   let_by_runs (Some (Word words.NewDynamicRegion)) = dynamic_region_runs
   let_by_runs _ = unexpected_runs
 
-  -- The symbol after `char` decides if an item is a declaration. The symbol after `char` is read in both cases, so the item needs only one
-  -- symbol of lookahead.
+  -- The symbol after `char` decides if an item is a declaration. In both cases the parser reads the symbol after `char`, so an item needs
+  -- only one symbol of lookahead.
 
   abbrev low_byte_from : Place → Parser Statement
   low_byte_from p = bind (bind (bind (with_postfixes room (nested room) (bind (group room (nested room)) (λ e. pure (LowByteOf p e)))) (climb (unary room (nested room)) 10)) (assignment room (nested room))) (following room inner)

@@ -1,6 +1,6 @@
--- The parser's lookahead: it rejects or leaves a symbol, and looks at no symbol after it. The one exception to this lookahead is: `<` after
--- `new` and a name opens region arguments if a region follows, otherwise it continues an expression. (After `char` at the start of an item
--- it looks at one more symbol, too, but reads it.)
+-- The parser's bounded lookahead: if the parser rejects a symbol or leaves it unread, it looks at no symbol after that one. The one
+-- exception: `<` after `new` and a name opens region arguments if a region follows, and otherwise continues an expression. (After `char` at
+-- the start of an item, the parser looks at one more symbol, but also reads it.)
 use Rattle.std.proofs.Common.{◌≡◌, ℕ, zero, suc, ◌+◌, ◌≤◌, ◌<◌, Bool, true, false, cond, List, [], ◌∷◌, ◌++◌, length, Option, Some, None, is_some, Ok, Err, refl, sym, ap, subst, ◌∙◌, arith, append_assoc, length-append}
 use Rattle.std.proofs.Math.Path.{fun_ext}
 use Rattle.cyc_syntax.specs.declared.tokens.Keyword.{Keyword}
@@ -28,7 +28,7 @@ suffix_after t h = record { before = t ∷ h.before; are = ap (λ (w : List Symb
 pub suffix-length : {left ts : List Symbol} → IsSuffix left ts → length left ≤ length ts
 suffix-length {left = left} {ts = ts} h = subst (λ (w : List Symbol). length left ≤ length w) (sym h.are) (omega (arith, length-append h.before left))
 
--- the symbols left by an outcome
+-- Returns the symbols that an outcome leaves unread.
 abbrev pub left_of : {A : Type 0} → Outcome A → List Symbol
 left_of (Ok p) = p.1
 left_of (Err e) = e.left
@@ -44,26 +44,28 @@ IsLess t = t.terminal ≡ Mark signs.Less
 abbrev pub Differ : List Symbol → List Symbol → Type 0
 Differ a b = region_next a ≡ region_next b → ⊥
 
--- The outcome on symbols that end in `a`, if `a` may be replaced by `b`. `Open` says after which results `<` may open region arguments.
--- Either the parser reads into `a`, or it stops at such a `<` right before `a`, which `b` continues differently.
+-- Says how an outcome depends on the end `a` of the symbols, if `a` may be replaced by `b`. `Open` says after which results `<` may
+-- open region arguments. Either the parser reads into `a`, or it stops at a `<` right before `a`, which `b` continues differently.
 pub data Beyond {A : Type 0} (Open : A → Type 0) (a b : List Symbol) (o : Outcome A) : Type 0 where
   reads_on : (x : A) (rest : List Symbol) → o ≡ Ok (x, rest) → IsSuffix rest a → Beyond Open a b o
   refuses_on : (e : Refusal) → o ≡ Err e → IsSuffix (e.left) a → Beyond Open a b o
   opens : (x : A) (t : Symbol) → o ≡ Ok (x, t ∷ a) → Open x → IsLess t → Differ a b → Beyond Open a b o
   overflows : (t : Symbol) → o ≡ Err (record { reason = TooLong; left = t ∷ a }) → IsLess t → Differ a b → Beyond Open a b o
 
--- The outcomes with `a` and with `b` as the end of the symbols: they are equal, or the first looks beyond the common part.
+-- Says that the outcome with `a` as the end of the symbols equals the one with `b`, or looks beyond the symbols before `a`
+-- and `b`.
 pub data Agrees {A : Type 0} (Open : A → Type 0) (a b : List Symbol) (o u : Outcome A) : Type 0 where
   both_read : (x : A) (t : Symbol) (f : List Symbol) → o ≡ Ok (x, t ∷ (f ++ a)) → u ≡ Ok (x, t ∷ (f ++ b)) → Agrees Open a b o u
   both_refuse : (why : Reason) (t : Symbol) (f : List Symbol) → o ≡ Err (record { reason = why; left = t ∷ (f ++ a) }) → u ≡ Err (record { reason = why; left = t ∷ (f ++ b) }) → Agrees Open a b o u
   goes_on : Beyond Open a b o → Agrees Open a b o u
 
--- A parser with bounded lookahead. `consumes` says that it reads at least one symbol if it succeeds.
+-- Says that a parser has bounded lookahead. `consumes` says that the parser reads at least one
+-- symbol if it succeeds.
 pub record Runs {A : Type 0} (consumes : Bool) (Open : A → Type 0) (p : Parser A) : Type 0 where
-  -- the symbols left are a suffix of the input
+  -- The symbols that a parser leaves unread are a suffix of its input.
   pub suffix : (ts : List Symbol) → IsSuffix (left_of (p ts)) ts
   pub shorter : consumes ≡ true → (ts rest : List Symbol) (x : A) → p ts ≡ Ok (x, rest) → length rest < length ts
-  -- at the end of the text no limit is broken
+  -- If a parser rejects the end of the text, then no limit is broken; the end is unexpected.
   pub ends : (ts : List Symbol) (e : Refusal) → p ts ≡ Err e → e.left ≡ [] → e.reason ≡ Unexpected
   pub agrees : (front a b : List Symbol) → Agrees Open a b (p (front ++ a)) (p (front ++ b))
 
@@ -85,15 +87,16 @@ beyond_as {Open = Open} {a = a} {b = b} e h = subst (λ (w : Outcome _). Beyond 
 pub agree_as : {A : Type 0} {Open : A → Type 0} {a b : List Symbol} {o o' u u' : Outcome A} → o ≡ o' → u ≡ u' → Agrees Open a b o' u' → Agrees Open a b o u
 agree_as {Open = Open} {a = a} {b = b} {o' = o'} {u = u} e e' h = subst (λ (w : Outcome _). Agrees Open a b w u) (sym e) (subst (λ (w : Outcome _). Agrees Open a b o' w) (sym e') h)
 
--- a success that leaves the symbols after the common part
+-- If a parser succeeds and leaves exactly the symbols after the common part of two inputs, then its
+-- two outcomes agree.
 pub answered : {A : Type 0} {Open : A → Type 0} (x : A) (f a b : List Symbol) → Agrees Open a b (Ok (x, f ++ a)) (Ok (x, f ++ b))
 answered x [] a b = goes_on (reads_on x a refl (suffix_whole a))
 answered x (t ∷ f) a b = both_read x t f refl refl
 
 -- ---- rules for composed parsers
 
--- A parser that may follow a result after which `<` may open region arguments. The parser rejects that `<` only for a chain that is too
--- long.
+-- Says that a parser may follow a result after which `<` may open region arguments. If `<` comes next, the parser rejects the `<` only
+-- if it makes an operator chain too long.
 abbrev pub Tolerates : {B : Type 0} → (B → Type 0) → Parser B → Type 0
 Tolerates Open q = (t : Symbol) (a b : List Symbol) → IsLess t → Differ a b → Beyond Open a b (q (t ∷ a))
 
@@ -164,7 +167,7 @@ unexpected_runs {A} {Open = Open} = record {
     refused [] a b = goes_on (refuses_on _ refl (suffix_whole a))
     refused (t ∷ front) a b = both_refuse Unexpected t front refl refl
 
--- weakening: a parser may be treated as one that may read nothing, and whose results `<` may continue
+-- Weakening: a parser with bounded lookahead may also be treated as one that may read nothing.
 pub weaker_runs : {A : Type 0} {c : Bool} {Open : A → Type 0} {p : Parser A} → Runs c Open p → Runs false Open p
 weaker_runs h = record { suffix = h.suffix; shorter = λ is. absurd (cc); ends = h.ends; agrees = h.agrees }
 
@@ -182,7 +185,7 @@ opens_as {A} {Open = Open} {Open' = Open'} {p = p} weaker h = record { suffix = 
 pub runs_open : {A : Type 0} {c : Bool} {Open : A → Type 0} {p : Parser A} → Local c p → Runs c Open p
 runs_open h = opens_as (λ x no. absurd no) h
 
--- a parser that is equal at each input to another has the lookahead of the other
+-- If two parsers are equal on every input, then one has the other's bounded lookahead.
 pub runs_as : {A : Type 0} {c : Bool} {Open : A → Type 0} {p q : Parser A} → ((ts : List Symbol) → p ts ≡ q ts) → Runs c Open q → Runs c Open p
 runs_as {c = c} {Open = Open} same h = subst (λ (r : Parser _). Runs c Open r) (sym (fun_ext same)) h
 
@@ -283,7 +286,8 @@ pub choose_runs : {A : Type 0} {c : Bool} {Open : A → Type 0} {f : Option Term
 unfolding choose
 choose_runs {f = f} h = next_runs f h
 
--- a test of the next symbol
+-- A choice between two parsers by a test of the next symbol has bounded lookahead if both parsers
+-- do.
 pub test_runs : {A : Type 0} {c d : Bool} {Open : A → Type 0} (g : Option Terminal → Bool) {p q : Parser A} → Runs c Open p → Runs d Open q → Runs false Open (λ ts. cond (g (next ts)) p q ts)
 test_runs {Open = Open} g {p = p} {q = q} h k = next_runs (λ t. cond (g t) p q) (λ t. chosen (g t))
   where
@@ -307,7 +311,8 @@ is_runs {A} {Open = Open} reads {f = f} {q = q} h k = next_runs (λ t. on_some (
     chosen (Some x) = weaker_runs (h x)
     chosen None = weaker_runs k
 
--- A limit rejects the next symbol. At the end of the text it rejects nothing.
+-- A test that rejects the next symbol because of a limit has bounded lookahead. At the end of the
+-- text a limit rejects nothing.
 pub limit_runs : {A : Type 0} {d : Bool} {Open : A → Type 0} (g : Option Terminal → Bool) (why : Reason) {q : Parser A} → g None ≡ false → Runs d Open q → Runs false Open (λ ts. cond (g (next ts)) (refuse why) q ts)
 limit_runs {A} {d} {Open = Open} g why {q = q} none h = record {
   suffix = λ ts. left (g (next ts)) ts;
@@ -371,7 +376,8 @@ item_refusal_runs {A} {Open = Open} begins why = record {
 
 -- ---- lists, with as many rounds as there are symbols
 
--- two continuations with equal results on the symbols left
+-- Two continuations of a parser give equal results if they agree on the symbols that the parser
+-- leaves.
 pub same_after : {A B : Type 0} {c : Bool} {Open : A → Type 0} {p : Parser A} (f g : A → Parser B) (ts : List Symbol) → Runs c Open p
     → ((x : A) (rest : List Symbol) → length rest ≤ length ts → f x rest ≡ g x rest) → bind p f ts ≡ bind p g ts
 unfolding bind
@@ -390,7 +396,8 @@ same_after_read {A} {p = p} f g ts h same = go (p ts) refl
     go (Ok q) e = same q.0 q.1 (h.shorter refl ts q.1 q.0 e)
     go (Err e) _ = refl
 
--- the first of two parsers may be replaced by one that returns an equal result on these symbols
+-- In a sequence, the first parser may be replaced by one that returns an equal result on the given
+-- symbols.
 pub same_first : {A B : Type 0} (p q : Parser A) (f : A → Parser B) (ts : List Symbol) → p ts ≡ q ts → bind p f ts ≡ bind q f ts
 unfolding bind
 same_first p q f ts e = ap (λ (o : Outcome _). and_then o f) e
@@ -407,7 +414,8 @@ pub starts_same : {A : Type 0} (begins : Terminal → Bool) (p p' q : Parser A) 
 unfolding if_starts
 starts_same begins p p' q ts e = cond_same (starts begins (next ts)) p p' q ts e
 
--- further rounds after one for each symbol do not change the parser's result
+-- If a repeating parser may take one round per symbol, then further permitted rounds do not change
+-- its result.
 pub turns_run : {A : Type 0} {Open : A → Type 0} (q : ℕ → Parser A) → ((n : ℕ) → Runs false Open (q n)) → ((n m : ℕ) (ts : List Symbol) → length ts ≤ n → length ts ≤ m → q n ts ≡ q m ts)
     → Runs false Open (λ ts. q (length ts) ts)
 turns_run {A} {Open = Open} q h enough = record {

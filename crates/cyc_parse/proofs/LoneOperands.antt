@@ -1,5 +1,5 @@
--- Operands that are a single number or name: neither arguments nor a postfix nor a tighter operator follows. The file also covers postfixes
--- that are not an index.
+-- Facts about operands that are a single number or name, followed by no arguments, no postfix and no tighter operator. The file also covers
+-- postfixes that are not an index.
 use Rattle.std.proofs.Common.{◌≡◌, ℕ, zero, suc, Bool, true, false, not, ◌||◌, List, [], ◌∷◌, Option, None, Some, is_some, Ok, refl, ap, subst, ◌∙◌}
 use Rattle.std.proofs.lemmas.Bool.{or_parts}
 use Rattle.cyc_words.proofs.Options.{none_from_is_some}
@@ -18,12 +18,12 @@ unfolding postfixes if_sees
 no_postfix_seen room zero inner ts none = let each = or_parts (sees signs.LeftBracket ts) (sees signs.Arrow ts) none in rw (each.0, each.1) refl
 no_postfix_seen room (suc left) inner ts none = let each = or_parts (sees signs.LeftBracket ts) (sees signs.Arrow ts) none in rw (each.0, each.1) refl
 
--- an operand without postfixes
+-- If neither `[` nor `->` follows an operand, then the operand has no postfix.
 pub no_chain : (room : ℕ) (e : Expression) (ts : List Symbol) → sees signs.LeftBracket ts || sees signs.Arrow ts ≡ false → with_chain room (nested room) e ts ≡ Ok (e, ts)
 unfolding bind
 no_chain room e ts none = rw (no_postfix_seen room max_items (nested room) ts none) refl
 
--- an operand that ends after its first symbols
+-- If no operator of a tighter level follows an operand, the operand ends after its first part.
 operand_ends : (room below : ℕ) (e : Expression) (ts us : List Symbol) → unary room (nested room) ts ≡ Ok (e, us) → level_at 0 below (next us) ≡ None → operand room (nested room) below ts ≡ Ok (e, us)
 unfolding bind
 operand_ends room below e ts us first none = rw first (climb_all room below e us ∙ climb_ends room 0 below e us none)

@@ -1,4 +1,4 @@
--- A list that the code reads in a loop equals the result of the list's parser.
+-- A list that the code reads in a loop equals the list that the specified parser returns.
 use Rattle.std.proofs.Common.{◌≡◌, ℕ, suc, ◌+◌, ◌-◌, ◌<◌, ◌≤◌, Bool, true, false, cond, List, [], ◌∷◌, ◌++◌, map, Option, Some, None, option_map, Ok, Err, refl, sym, ap, ◌∙◌, arith}
 use Rattle.cyc_syntax.specs.declared.tokens.Sign.TheVariants as signs
 use Rattle.cyc_syntax.specs.Symbols.{Terminal, Symbol}
@@ -19,22 +19,22 @@ use Rattle.cyc_parse.specs.inside.Steps.{after_comma, one_pointer, one_postfix, 
 use Rattle.cyc_parse.specs.inside.Parsing.{Parser, Outcome, and_then, bind, pure, choose, next, advance, if_sees, sees, sign, identifier, if_is, on_some}
 use Rattle.cyc_parse.specs.inside.Declarations.{declaration, declarations_in}
 
--- the symbols left to read after one step of a list
+-- Parses the rest of a list after one step of its loop.
 abbrev pub following : {Y B : Type 0} → (Y → B → B) → Parser B → Parser B → Option Y → Parser B
 following add last rest None ts = last ts
 following add last rest (Some y) ts = and_then (rest ts) (λ b us. Ok (add y b, us))
 
--- `many` reads a list step by step; the number is the number of steps left
+-- Says that `many` reads a list step by step; its number argument is the number of steps left.
 pub record Steps {Y B : Type 0} (add : Y → B → B) (last : Parser B) (one : Parser (Option Y)) (many : ℕ → Parser B) : Type 0 where
   pub step : (n : ℕ) (ts : List Symbol) → many (suc n) ts ≡ and_then (one ts) (following add last (many n))
 
 module _ {X Y B : Type 0} (view : X → Y) (add : Y → B → B) where
-  -- the items read so far, put before a list
+  -- Prepends the items read so far to a list.
   abbrev pub onto : List X → B → B
   onto [] b = b
   onto (x ∷ xs) b = add (view x) (onto xs b)
 
-  -- the outcome for the rest of a list, with the items read before put in front
+  -- Returns the outcome for the rest of a list, with the items read so far prepended to the result.
   abbrev pub with_front : List X → Outcome B → Outcome B
   with_front front outcome = and_then outcome (λ b ts. Ok (onto front b, ts))
 
@@ -85,7 +85,7 @@ module _ {X Y B : Type 0} (view : X → Y) (add : Y → B → B) where
         let step : many (count - i) ts ≡ Ok (b, us) = ap (λ (n : ℕ). many n ts) k ∙ h in
         sym so_far ∙ ap (with_front front) step
 
--- the relation between the list built by the code and the list returned by the parser
+-- Relates the list that the code builds to the list that the specified parser returns.
 module _ {X Y B : Type 0} (view : X → Y) (add : Y → B → B) (nothing : B) (show : List X → B) (shows : (xs : List X) → onto view add xs nothing ≡ show xs)
     (one : Parser (Option Y)) (many : ℕ → Parser B) (steps : Steps add (pure nothing) one many) where
   pub ends_as : (front : List X) (count i : ℕ) (ts us : List Symbol) (read : Option X) (whole : Outcome B) → i < count → one ts ≡ Ok (option_map view read, us) → read ≡ None
@@ -114,7 +114,7 @@ onto-operations (x ∷ xs) = ap (then_operation x) (onto-operations xs)
 
 -- ---- the steps of each list
 
--- an item, followed by the rest of the list
+-- Reading an item and then the rest of a list gives the item prepended to the rest.
 after_item : {A Y B : Type 0} (make : A → Y) (add : Y → B → B) (last rest : Parser B) (o : Outcome A)
     → and_then o (λ a. bind rest (λ b. pure (add (make a) b))) ≡ and_then (and_then o (λ a. pure (Some (make a)))) (following add last rest)
 unfolding bind
@@ -145,7 +145,7 @@ pub pointers_of_steps : (room : ℕ) → Steps (λ m ms. m ∷ ms) (pure []) (on
 unfolding pointers_of choose if_is
 pointers_of_steps room = record { step = λ n ts. by_mark room (pointers_of room n) (mark_at (next ts)) ts }
 
--- a step, followed by its continuation
+-- If each continuation of a step equals a step followed by `k`, then so do the composed outcomes.
 pub lift : {A B C : Type 0} (k : C → Parser B) (o : Outcome A) (f : A → Parser C) (g : A → Parser B) → ((a : A) (us : List Symbol) → g a us ≡ and_then (f a us) k) → and_then o g ≡ and_then (and_then o f) k
 lift k (Ok p) f g h = h p.0 p.1
 lift k (Err e) f g h = refl
@@ -188,7 +188,7 @@ pub declarations_steps : (room : ℕ) → Steps (λ d ds. d ∷ ds) (pure []) (o
 unfolding declarations_in choose
 declarations_steps room = record { step = λ n ts. by_symbol room (declarations_in room n) (next ts) ts }
 
--- if no symbol is left, no further declaration is read
+-- If no symbol is left, then no further declaration is read.
 pub no_declaration : (room : ℕ) (ts : List Symbol) → next ts ≡ None → one_declaration room ts ≡ Ok (None, ts)
 unfolding choose
 no_declaration room ts none = ap (λ (o : Option Terminal). (elim o as (λ _. Parser (Option Declaration)) [ None ↦ pure None | Some t ↦ bind (declaration room) (λ d. pure (Some d)) ]) ts) none

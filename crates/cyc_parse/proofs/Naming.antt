@@ -1,4 +1,4 @@
--- The symbols of tokens, made one after the other: a name keeps its number when further names are added.
+-- Symbols are made of tokens one after the other; a name keeps its number when more names are added.
 use Rattle.std.proofs.Common.{◌≡◌, ℕ, ◌+◌, ◌<◌, true, List, [], ◌∷◌, ◌++◌, length, map, take, get_or, fold, refl, sym, ap, subst, ◌∙◌}
 use Rattle.std.proofs.lemmas.List.{take_more, map-append}
 use Rattle.std.proofs.lemmas.List.Sums.{fold-append}
@@ -11,7 +11,7 @@ use Rattle.cyc_syntax.proofs.NameLemmas.{is_among-with_text, is_among-with_text_
 use Rattle.cyc_parse.specs.declared.symbol.Symbol.{Symbol as SymbolCode}
 use Rattle.cyc_parse.specs.inside.Code.{view_symbol}
 
--- the text of the token's name is among these texts
+-- Says that the text of a token's name is among the given texts.
 IsKnown : List (List ℕ) → Kind → Type 0
 IsKnown texts (kinds.Identifier text) = is_among text texts ≡ true
 IsKnown texts (kinds.RegionName text) = is_among text texts ≡ true
@@ -28,7 +28,8 @@ stays_among : (texts more : List (List ℕ)) (a : List ℕ) → is_among a texts
 stays_among texts [] a among = among
 stays_among texts (b ∷ more) a among = stays_among (with_text texts b) more a (is_among-with_text_other texts a b among)
 
--- the texts of a first token and of the tokens after it are known
+-- If the texts of a token list are known, then so are the text of its first token and those of the
+-- tokens after it.
 known_kind : (seen : List (List ℕ)) (ts : List Token) (k : Kind) → ((s : List (List ℕ)) → AreKnown (fold with_text s (texts_in ts)) ts)
     → IsKnown (fold with_text seen (name_texts k (texts_in ts))) k × AreKnown (fold with_text seen (name_texts k (texts_in ts))) ts
 unfolding IsKnown
@@ -39,13 +40,13 @@ known_kind seen ts (kinds.Character c) rest = (tt, rest seen)
 known_kind seen ts (kinds.Word k) rest = (tt, rest seen)
 known_kind seen ts (kinds.Mark s) rest = (tt, rest seen)
 
--- the texts of tokens are among the known texts
+-- The name texts of tokens are among the texts collected from the tokens.
 are_known : (seen : List (List ℕ)) (tokens : List Token) → AreKnown (fold with_text seen (texts_in tokens)) tokens
 unfolding AreKnown
 are_known seen [] = tt
 are_known seen (t ∷ ts) = known_kind seen ts t.kind (λ s. are_known s ts)
 
--- a text's number does not change when further texts are met
+-- The number of a text does not change when more texts are added to the list.
 same_number : (texts more : List (List ℕ)) (a : List ℕ) → is_among a texts ≡ true → number_of (fold with_text texts more) a ≡ number_of texts a
 same_number texts [] a among = refl
 same_number texts (b ∷ more) a among = same_number (with_text texts b) more a (is_among-with_text_other texts a b among) ∙ number_of-with_text texts a b among
@@ -78,7 +79,8 @@ texts_in-append : (xs ys : List Token) → texts_in (xs ++ ys) ≡ texts_in xs +
 texts_in-append [] ys = refl
 texts_in-append (x ∷ xs) ys = ap (name_texts x.kind) (texts_in-append xs ys) ∙ name_texts-append x.kind (texts_in xs) (texts_in ys)
 
--- One more token: `names` are the texts met before the token, and `more` also contains the token's text.
+-- The next token is added: `names` are the texts met before the token, and `more` also contains the
+-- token's text.
 module _ (f : CodeToken → Token) (seen : List (List ℕ)) (tokens : List CodeToken) (i : ℕ) (d : CodeToken) (within : i < length tokens) where
   one_more : map f (take (i + 1) tokens) ≡ map f (take i tokens) ++ f (get_or tokens i d) ∷ []
   one_more = ap (map f) (take_more tokens i d within) ∙ map-append f (take i tokens) (get_or tokens i d ∷ [])

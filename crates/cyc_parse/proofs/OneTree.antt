@@ -12,13 +12,13 @@ use Rattle.cyc_parse.specs.inside.Parsing.{Outcome, Refusal, TooDeep, TooLong}
 use Rattle.cyc_parse.proofs.Rules.{judge}
 use Rattle.cyc_parse.proofs.Completeness.{program_of-complete}
 
--- leaves that keep the limits do not change an outcome
+-- If all leaves of a yield keep the limits, then judging the yield does not change an outcome.
 pub judge-within : {A : Type 0} (leaves : Yield) (ts : List Symbol) (outcome : Outcome A) → AllByRecursion IsWithin leaves → judge leaves ts outcome ≡ outcome
 judge-within [] ts outcome all = refl
 judge-within (l ∷ ls) [] outcome all = refl
 judge-within (l ∷ ls) (t ∷ ts) outcome (one, more) = rw (le-nat_lt max_nesting l.nesting one.nesting, le-nat_lt max_items l.item one.item) (judge-within ls ts outcome more)
 
--- an outcome without a rejection for a limit is the original outcome
+-- If a conditional rejection does not occur, then the outcome is the original one.
 chosen : {A : Type 0} (b : Bool) (e : Refusal) (outcome : Outcome A) (y : A × List Symbol) → cond b (Err e) outcome ≡ Ok y → outcome ≡ Ok y
 chosen true e outcome y h = cc
 chosen false e outcome y h = h

@@ -21,7 +21,7 @@ use Rattle.cyc_parse.proofs.Rules.{leaf_of}
 use Rattle.cyc_parse.proofs.OperatorSigns.{is_prefix_sign}
 use Rattle.cyc_parse.proofs.Gives.{Spells, Any, Opened, possibly, opened_at, opened_item, opened_then}
 
--- a name and a number, as examples
+-- A name and a number serve as examples of operands.
 abbrev pub named_at : Place → Named
 named_at p = record { name = 0; place = p }
 
@@ -117,7 +117,7 @@ initial_opened d (Word k) p h = as_plain (expression_opened d (Word k) p h)
 
 -- ---- statements
 
--- A statement together with the symbols after it: a statement that ends in an `if` without `else` is not followed by `else`.
+-- Says that a statement may precede the given symbols: if the statement ends in an `if` without `else`, no `else` follows.
 abbrev pub IsStatementBefore : Statement → List Symbol → Type 0
 IsStatementBefore s rest = IsStatement s × (wants_else s ≡ true → starts is_else (next rest) ≡ false)
 

@@ -12,8 +12,8 @@ use Rattle.cyc_syntax.specs.Grammar.{level}
 use Rattle.cyc_parse.specs.inside.Expressions.{prefix_operator, begins_by_sign, binary_operator}
 use Rattle.cyc_parse.proofs.Stops.{binds_terminal}
 
--- A fact about every operator or sign is computed case by case. In each proof, one operator or sign is named first, so that the cases are
--- distinguished.
+-- A fact about every operator or sign (punctuation token) is computed case by case. Each proof first names one operator or sign, so that
+-- the cases are distinguished.
 
 -- ---- prefix operators
 

@@ -15,12 +15,12 @@ use Rattle.cyc_syntax.specs.Grammar.{IsLeaf, max_nesting, max_items}
 use Rattle.cyc_parse.specs.inside.Parsing.{Parser, Outcome, Reason, TooDeep, TooLong, and_then, bind, choose, next, take, is_sign, is_word, identifier_name, region_of_terminal, named, only_place}
 use Rattle.cyc_parse.specs.inside.Parsing.{sign, word, identifier, region_name, accept, accept_if, advance, if_sees, sees, sees_terminal, refuse, refuse_item, starts, if_starts, on_some, if_is, pure}
 
--- the symbols begin with the yield, and `rest` follows it
+-- Holds if the symbols consist of the symbols of a yield, followed by `rest`.
 abbrev pub Front : Yield → List Symbol → List Symbol → Type 0
 Front [] ts rest = ts ≡ rest
 Front (leaf ∷ leaves) ts rest = (t : Symbol) × (more : List Symbol) × (ts ≡ t ∷ more) × IsLeaf leaf t × Front leaves more rest
 
--- the outcome, unless a leaf of the yield breaks a limit: then the rejection at the first such leaf
+-- Returns the given outcome, or a rejection at the first leaf of the yield that breaks a limit.
 abbrev pub judge : {A : Type 0} → Yield → List Symbol → Outcome A → Outcome A
 judge [] ts outcome = outcome
 judge (leaf ∷ leaves) [] outcome = outcome
@@ -63,7 +63,7 @@ and_then-judge {A} {B} (l ∷ xs) (t ∷ ts) outcome f =
 
 -- ---- rules for composed parsers
 
--- a parser followed by another
+-- `Reads` holds for a parser followed by another if it holds for both.
 pub then_reads : {A B : Type 0} {p : Parser A} (f : A → Parser B) {x : A} {y : B} {xs ys : Yield} {EndsX EndsY : List Symbol → Type 0}
     → Reads p x xs EndsX → Reads (f x) y ys EndsY → ((mid rest : List Symbol) → Front ys mid rest → EndsY rest → EndsX mid) → Reads (bind p f) y (xs ++ ys) EndsY
 unfolding bind
@@ -79,7 +79,7 @@ then_reads {p = p} f {x = x} {y = y} {xs = xs} {ys = ys} first second between = 
 pub pure_reads : {A : Type 0} (x : A) (Ends : List Symbol → Type 0) → Reads (pure x) x [] Ends
 pure_reads x Ends = record { reads = λ ts rest front ends. ap (λ (s : List Symbol). Ok (x, s)) front }
 
--- a parser, and a node made of its result
+-- `Reads` holds for a parser followed by a function that makes a node of its result.
 pub last_reads : {A B : Type 0} {p : Parser A} (f : A → Parser B) {x : A} {y : B} {xs : Yield} {Ends : List Symbol → Type 0} → ((ts : List Symbol) → f x ts ≡ Ok (y, ts))
     → Reads p x xs Ends → Reads (bind p f) y xs Ends
 unfolding bind
@@ -88,19 +88,19 @@ last_reads f {x = x} {y = y} {xs = xs} is h = record {
       ap (λ (o : Outcome _). and_then o f) (h.reads ts rest front ends) ∙ and_then-judge xs ts (Ok (x, rest)) f ∙ ap (judge xs ts) (is rest);
 }
 
--- A parser may be replaced by one that returns an equal result on these symbols.
+-- In `Reads`, a parser may be replaced by one that returns an equal result on the given symbols.
 pub reads_instead : {A : Type 0} {p : Parser A} (q : Parser A) {x : A} {xs : Yield} {Ends : List Symbol → Type 0}
     → ((ts rest : List Symbol) → Front xs ts rest → Ends rest → p ts ≡ q ts) → Reads q x xs Ends → Reads p x xs Ends
 reads_instead q same h = record { reads = λ ts rest front ends. same ts rest front ends ∙ h.reads ts rest front ends }
 
--- the condition on the following symbols may be strengthened
+-- In `Reads`, the condition on the following symbols may be strengthened.
 pub reads_before : {A : Type 0} {p : Parser A} {x : A} {xs : Yield} (Ends : List Symbol → Type 0) {More : List Symbol → Type 0}
     → Reads p x xs Ends → ((rest : List Symbol) → More rest → Ends rest) → Reads p x xs More
 reads_before Ends h weaker = record { reads = λ ts rest front ends. h.reads ts rest front (weaker rest ends) }
 
 -- ---- one symbol
 
--- the relation between the nesting of a leaf and the room left for it
+-- Relates the nesting depth d of a leaf to `room`, the number of nesting levels left for it.
 abbrev pub Fits : ℕ → ℕ → Type 0
 Fits room d = room + d ≡ suc max_nesting
 
@@ -118,7 +118,7 @@ accept_reads : {B C : Type 0} (room : ℕ) (b : B) (f : B → Parser C) (leaf : 
 accept_reads zero b f leaf ys t more outcome fits few e = sym (judge-deep leaf ys t more outcome (omega arith))
 accept_reads (suc room) b f leaf ys t more outcome fits few e = e ∙ sym (judge-leaf leaf ys t more outcome (omega arith) few)
 
--- a symbol that is read, followed by another parser
+-- `Reads` holds for the parser of one symbol, followed by another parser.
 pub token_reads : {A B C : Type 0} (room : ℕ) (reads : Terminal → Option A) (give : A → Place → B) (f : B → Parser C) {y : C} {ys : Yield} {Ends : List Symbol → Type 0} (leaf : Leaf) (a : A)
     → Fits room leaf.nesting → leaf.item ≤ max_items → reads leaf.terminal ≡ Some a
     → ((p : Place) → IfSome leaf.place (λ q. p ≡ q) → Reads (f (give a p)) y ys Ends)
@@ -131,7 +131,7 @@ token_reads room reads give f {y = y} {ys = ys} leaf a fits few is next = record
       ∙ accept_reads room (give a t.place) f leaf ys t more (Ok (y, rest)) fits few ((next t.place is_leaf.place).reads more rest front ends));
 }
 
--- a leaf without or with a stored place
+-- Makes a leaf without a stored source position (`leaf_of`) or with one (`leaf_at`).
 abbrev pub leaf_of : ℕ → Terminal → Leaf
 leaf_of d t = record { terminal = t; place = None; nesting = d; item = 0 }
 
@@ -168,7 +168,8 @@ identifier_reads room d x f {y = y} {ys = ys} {Ends = Ends} fits next =
     token_reads room identifier_name named f (leaf_at d (Identifier x.name) x.place) x.name fits (omega arith) refl
     (λ p e. subst (λ (q : Place). Reads (f (named x.name q)) y ys Ends) (sym e) next)
 
--- a region name is read; the number of its item may be any within the limit
+-- `Reads` holds for the parser of a region name; the number of its list item may be any within the
+-- limit.
 pub region_reads : {C : Type 0} (room d i : ℕ) (x : Named) (f : Named → Parser C) {y : C} {ys : Yield} {Ends : List Symbol → Type 0} → Fits room d → i ≤ max_items
     → Reads (f x) y ys Ends → Reads (bind (region_name room) f) y (record { terminal = RegionName x.name; place = Some x.place; nesting = d; item = i } ∷ ys) Ends
 region_reads room d i x f {y = y} {ys = ys} {Ends = Ends} fits few next =
@@ -177,7 +178,7 @@ region_reads room d i x f {y = y} {ys = ys} {Ends = Ends} fits few next =
 
 -- ---- decisions by the next symbol
 
--- the symbols begin with the symbol of this leaf
+-- If the symbols begin with the yield of a leaf, then the next symbol is the leaf's terminal.
 pub front-next : (leaf : Leaf) (ys : Yield) (ts rest : List Symbol) → Front (leaf ∷ ys) ts rest → next ts ≡ Some leaf.terminal
 front-next leaf ys ts rest (t, more, e, is_leaf, front) = ap next e ∙ ap Some is_leaf.terminal
 
@@ -190,7 +191,7 @@ advance_reads f {y = y} {ys = ys} leaf shallow few next = record {
       ((next t.place is_leaf.place).reads more rest front ends ∙ sym (judge-leaf leaf ys t more (Ok (y, rest)) shallow few));
 }
 
--- reads the next symbol, whose place is stored
+-- `Reads` holds for reading the next symbol, whose source position the tree stores.
 pub advance_reads_at : {C : Type 0} (d : ℕ) (t : Terminal) (q : Place) (f : Place → Parser C) {y : C} {ys : Yield} {Ends : List Symbol → Type 0} → d ≤ max_nesting
     → Reads (f q) y ys Ends → Reads (bind advance f) y (leaf_at d t q ∷ ys) Ends
 advance_reads_at d t q f {y = y} {ys = ys} {Ends = Ends} shallow next =
@@ -231,13 +232,13 @@ pub isnt_reads : {A B : Type 0} (reads : Option Terminal → Option A) (f : A �
 unfolding if_is
 isnt_reads reads f q isnt h = reads_instead q (λ ts rest front ends. ap (λ (o : Option _). on_some o f q ts) (isnt ts rest front ends)) h
 
--- a parser followed by one that reads nothing
+-- `Reads` holds for a parser followed by one that reads no symbol.
 pub nothing_reads : {A B : Type 0} {p : Parser A} (f : A → Parser B) {x : A} {y : B} {xs : Yield} {EndsX EndsY : List Symbol → Type 0}
     → Reads p x xs EndsX → Reads (f x) y [] EndsY → ((rest : List Symbol) → EndsY rest → EndsX rest) → Reads (bind p f) y xs EndsY
 nothing_reads {p = p} f {y = y} {xs = xs} {EndsX = EndsX} {EndsY = EndsY} first second between =
     subst (λ (zs : Yield). Reads (bind p f) y zs EndsY) (append-nil xs) (then_reads f first second (λ mid rest front ends. subst EndsX (sym front) (between rest ends)))
 
--- an item that begins here is rejected for the limit that it breaks
+-- If an item begins at the next symbol, it is rejected for the limit that it breaks.
 pub refuse_item-is : {A : Type 0} (begins : Terminal → Bool) (why : Reason) (t : Symbol) (ts : List Symbol) → begins t.terminal ≡ true
     → refuse_item {A = A} begins why (t ∷ ts) ≡ Err (record { reason = why; left = t ∷ ts })
 unfolding refuse_item
@@ -253,7 +254,7 @@ pub record Starts (begins : Terminal → Bool) (d : ℕ) (leaves : Yield) : Type
   pub nesting : first.nesting ≡ d
   pub item : first.item ≤ max_items
 
--- a first symbol that is nested too deep is rejected
+-- A first symbol that is nested too deep is rejected.
 pub deep_reads : {A : Type 0} (begins : Terminal → Bool) (d : ℕ) {x : A} {xs : Yield} {Ends : List Symbol → Type 0} → max_nesting < d → Starts begins d xs → Reads (refuse_item begins TooDeep) x xs Ends
 deep_reads begins d {x = x} {Ends = Ends} deep s = subst (λ (xs : Yield). Reads (refuse_item begins TooDeep) x xs Ends) (sym s.are) (record {
   reads = λ ts rest (t, more, e, is_leaf, front) ends.
@@ -282,18 +283,18 @@ starts_append ys s = record { first = s.first; others = s.others ++ ys; are = ap
 pub starts_number : {begins : Terminal → Bool} {d : ℕ} {xs : Yield} (i : ℕ) → i ≤ max_items → Starts begins d xs → Starts begins d (item_number i xs)
 starts_number i few s = record { first = record (s.first) { item = i }; others = s.others; are = ap (item_number i) s.are; begin = s.begin; nesting = s.nesting; item = few }
 
--- if the limit on nesting rejects the first symbol, the result does not depend on the parsers of the later symbols
+-- If the nesting limit rejects the first symbol, the result does not depend on the parsers of the later symbols.
 pub deep_then_reads : {A B : Type 0} (begins : Terminal → Bool) (d : ℕ) (f : A → Parser B) {x : B} {xs : Yield} {Ends : List Symbol → Type 0} → max_nesting < d → Starts begins d xs
     → Reads (bind (refuse_item begins TooDeep) f) x xs Ends
 deep_then_reads begins d f deep s = reads_instead (refuse_item begins TooDeep) (λ ts rest front ends. deep_bind begins f ts) (deep_reads begins d deep s)
 
--- an item of a list, within the limit on items
+-- `Reads` holds for an item of a list whose number is within the limit on items.
 pub number_reads : {A : Type 0} {p : Parser A} {x : A} {xs : Yield} {Ends : List Symbol → Type 0} (begins : Terminal → Bool) (d i : ℕ) → i ≤ max_items → Starts begins d xs
     → Reads p x xs Ends → Reads p x (item_number i xs) Ends
 number_reads {p = p} {x = x} {Ends = Ends} begins d i few s h =
     subst (λ (ys : Yield). Reads p x (item_number i ys) Ends) (sym s.are) (first_in_item i s.first s.others (omega arith) few (subst (λ (ys : Yield). Reads p x ys Ends) s.are h))
 
--- the next symbol of a yield that begins like an item
+-- If a yield begins like an item, then the next symbol is the terminal of its first leaf.
 pub starts-next : {begins : Terminal → Bool} {d : ℕ} {xs : Yield} (s : Starts begins d xs) (ys : Yield) (ts rest : List Symbol) → Front (xs ++ ys) ts rest → next ts ≡ Some s.first.terminal
 starts-next s ys ts rest front = front-next s.first (s.others ++ ys) ts rest (subst (λ (zs : Yield). Front (zs ++ ys) ts rest) s.are front)
 
@@ -305,19 +306,20 @@ pub seen_reads : {A : Type 0} (s : Sign) (p q : Parser A) {x : A} {xs : Yield} {
 unfolding if_sees
 seen_reads s p q is h = reads_instead p (λ ts rest front ends. ap (λ (b : Bool). (cond b p q) ts) (is ts rest front ends)) h
 
--- a sign that is the item of this number of its chain
+-- `Reads` holds for the parser of a sign (punctuation token) that is the item with a given number
+-- in its list or chain.
 pub sign_reads_item : {C : Type 0} (room d i : ℕ) (s : Sign) (f : Place → Parser C) {y : C} {ys : Yield} {Ends : List Symbol → Type 0} → Fits room d → i ≤ max_items
     → ((p : Place) → Reads (f p) y ys Ends) → Reads (bind (sign room s) f) y (record { terminal = Mark s; place = None; nesting = d; item = i } ∷ ys) Ends
 sign_reads_item room d i s f fits few next = token_reads room (is_sign s) only_place f (record { terminal = Mark s; place = None; nesting = d; item = i }) tt fits few (same_sign-self s) (λ p _. next p)
 
--- a leaf that is one item too many
+-- A leaf whose item number exceeds the limit is rejected as too long.
 pub long_leaf_reads : {A : Type 0} {x : A} {Ends : List Symbol → Type 0} (leaf : Leaf) (ys : Yield) → leaf.nesting ≤ max_nesting → max_items < leaf.item → Reads (refuse TooLong) x (leaf ∷ ys) Ends
 long_leaf_reads {x = x} leaf ys shallow many = record {
   reads = λ ts rest (t, more, e, is_leaf, front) ends.
       subst (λ (w : List Symbol). refuse TooLong w ≡ judge (leaf ∷ ys) w (Ok (x, rest))) (sym e) (rw (le-nat_lt max_nesting leaf.nesting shallow, lt-nat_lt max_items leaf.item many) refl);
 }
 
--- a parser whose result is returned unchanged
+-- `Reads` holds for a parser if it holds for the parser followed by returning the result unchanged.
 pub bare_reads : {A : Type 0} {p : Parser A} {x : A} {xs : Yield} {Ends : List Symbol → Type 0} → Reads (bind p (λ v. pure v)) x xs Ends → Reads p x xs Ends
 unfolding bind
 bare_reads {A} {p = p} {x = x} {xs = xs} h = record { reads = λ ts rest front ends. sym (same (p ts)) ∙ h.reads ts rest front ends }
@@ -326,13 +328,13 @@ bare_reads {A} {p = p} {x = x} {xs = xs} h = record { reads = λ ts rest front e
     same (Ok v) = refl
     same (Err e) = refl
 
--- an operator that is the item of this number of its chain
+-- `Reads` holds for reading an operator that is the item with a given number in its chain.
 pub advance_reads_item : {C : Type 0} (d i : ℕ) (t : Terminal) (q : Place) (f : Place → Parser C) {y : C} {ys : Yield} {Ends : List Symbol → Type 0} → d ≤ max_nesting → i ≤ max_items
     → Reads (f q) y ys Ends → Reads (bind advance f) y (record { terminal = t; place = Some q; nesting = d; item = i } ∷ ys) Ends
 advance_reads_item d i t q f {y = y} {ys = ys} {Ends = Ends} shallow few next =
     advance_reads f (record { terminal = t; place = Some q; nesting = d; item = i }) shallow few (λ p e. subst (λ (x : Place). Reads (f x) y ys Ends) (sym e) next)
 
--- the number of symbols is at least the number of leaves
+-- The number of symbols is at least the number of leaves of the yield that they begin with.
 pub front-length : (xs : Yield) (ts rest : List Symbol) → Front xs ts rest → length xs ≤ length ts
 front-length [] ts rest front = zero-le
 front-length (leaf ∷ xs) ts rest (t, more, e, is_leaf, front) = subst (λ (s : List Symbol). suc (length xs) ≤ length s) (sym e) (suc-le-suc (front-length xs more rest front))
@@ -341,11 +343,11 @@ front-length (leaf ∷ xs) ts rest (t, more, e, is_leaf, front) = subst (λ (s :
 pub yield_reads : {A : Type 0} {q : Parser A} {x : A} {xs ys : Yield} {Ends : List Symbol → Type 0} → xs ≡ ys → Reads q x xs Ends → Reads q x ys Ends
 yield_reads {q = q} {x = x} {Ends = Ends} same h = subst (λ (zs : Yield). Reads q x zs Ends) same h
 
--- a part between two leaves, and the symbols after it
+-- If a part stands between two leaves, its yield may be regrouped with the symbols after it.
 pub between_then : {A : Type 0} {q : Parser A} {x : A} {Ends : List Symbol → Type 0} (l r : Leaf) (xs ys : Yield) → Reads q x ((l ∷ (xs ++ r ∷ [])) ++ ys) Ends → Reads q x (l ∷ (xs ++ r ∷ ys)) Ends
 between_then l r xs ys h = yield_reads (ap (λ (zs : Yield). l ∷ zs) (append_assoc xs (r ∷ []) ys)) h
 
--- a symbol without room left: the parsers after it do not matter
+-- If a symbol is nested too deep, then the result does not depend on the parsers after it.
 pub token_deep_reads : {A B C : Type 0} (reads : Terminal → Option A) (give : A → Place → B) (f : B → Parser C) {y : C} {ys : Yield} {Ends : List Symbol → Type 0} (leaf : Leaf) (a : A)
     → max_nesting < leaf.nesting → reads leaf.terminal ≡ Some a → Reads (bind (take zero reads give) f) y (leaf ∷ ys) Ends
 unfolding bind take
@@ -361,7 +363,8 @@ word_deep_reads d k f deep = token_deep_reads (is_word k) only_place f (leaf_of 
 pub sign_deep_reads : {C : Type 0} (d : ℕ) (s : Sign) (f : Place → Parser C) {y : C} {ys : Yield} {Ends : List Symbol → Type 0} → max_nesting < d → Reads (bind (sign zero s) f) y (leaf_of d (Mark s) ∷ ys) Ends
 sign_deep_reads d s f deep = token_deep_reads (is_sign s) only_place f (leaf_of d (Mark s)) tt deep (same_sign-self s)
 
--- a test that each yield of this kind passes
+-- A test of the first symbol may be added before a parser if every yield of the parser passes the
+-- test.
 pub starting_reads : {A : Type 0} (begins : Terminal → Bool) (d : ℕ) (p q : Parser A) {x : A} {xs : Yield} {Ends : List Symbol → Type 0} → Starts begins d xs → Reads p x xs Ends → Reads (if_starts begins p q) x xs Ends
 starting_reads begins d p q {x = x} {Ends = Ends} s h = subst (λ (zs : Yield). Reads (if_starts begins p q) x zs Ends) (sym s.are)
     (starts_reads begins p q s.first s.others s.begin (subst (λ (zs : Yield). Reads p x zs Ends) s.are h))

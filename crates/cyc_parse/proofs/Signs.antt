@@ -1,4 +1,4 @@
--- A sign that comes next is read, and another sign is rejected.
+-- If a given sign (punctuation token) comes next it is read, and any other sign is rejected.
 use Rattle.std.proofs.Common.{◌≡◌, ℕ, suc, true, false, List, [], ◌∷◌, Option, Some, None, Err, refl}
 use Rattle.std.specs.Prelude.{is_some}
 use Rattle.cyc_syntax.specs.declared.tokens.Sign.{Sign}

@@ -1,5 +1,5 @@
--- SOUNDNESS: a tree that the parser returns is a tree of all the symbols and keeps the limits. If it rejects a symbol for a limit, some
--- program begins with the symbols up to that one.
+-- SOUNDNESS: a tree that the parser returns is a parse tree of all the symbols and keeps the limits. If the parser rejects a symbol for
+-- a limit, some program begins with the symbols up to that one.
 use Rattle.std.proofs.Common.{◌≡◌, ℕ, zero, suc, ◌≤◌, List, [], ◌∷◌, ◌++◌, length, Option, Some, None, Ok, Err, refl, sym, ap, subst, ◌∙◌, arith, append_assoc}
 use Rattle.std.proofs.lemmas.List.{append_cancel_right}
 use Rattle.std.specs.Option.{IfSome}
@@ -92,7 +92,7 @@ program_of-sound ts left tree h =
           within = subst IsWithinLimits value small;
         }
 
--- the weight of a returned tree is the number of symbols
+-- The weight of a returned tree equals the number of symbols that it was parsed from.
 pub answered_weight : (ts left : List Symbol) (tree : List Declaration) → program_of ts ≡ Ok (tree, left) → tree_weight tree ≡ length ts
 answered_weight ts left tree h = tree_weight-length ts tree (program_of-sound ts left tree h).has
 
@@ -101,7 +101,7 @@ answered_weight ts left tree h = tree_weight-length ts tree (program_of-sound ts
 program_gives : (ts : List Symbol) → Gives (program 200) (Spells yields.program (λ ds _. IsNonempty ds × AreDeclarations ds)) ts
 program_gives ts = spelled_then (one_gives ts) (λ d mid is. last_then (λ ds. d ∷ ds) (gives_instead (declarations_in 200 (length mid)) refl (declarations_give (length mid) mid)) (λ ds rest are. (refl, (tt, (is, are)))))
 
--- symbols that realize the leaves of a yield
+-- Returns a leaf's stored source position, or an arbitrary one if none is stored.
 abbrev place_or : Option Place → Place
 place_or None = some_place
 place_or (Some p) = p
@@ -127,7 +127,7 @@ spelled-append [] ys (t ∷ ts) us first second = absurd first
 spelled-append (x ∷ xs) ys [] us first second = absurd first
 spelled-append (x ∷ xs) ys (t ∷ ts) us (is, first) second = (is, spelled-append xs ys ts us first second)
 
--- the symbols before those that follow a yield
+-- If a yield's symbols come before `rest`, then the symbols before `rest` spell the yield.
 before_rest : (leaves : Yield) (ts rest : List Symbol) → Front leaves ts rest → (before : List Symbol) × (ts ≡ before ++ rest) × IsSpelled leaves before
 before_rest [] ts rest same = ([], same, tt)
 before_rest (leaf ∷ leaves) ts rest (t, more, e, is, front) =

@@ -1,4 +1,4 @@
--- The parsers of statements at a level of nesting that is not the last.
+-- Facts about the parsers of statements at a nesting level that is not the last.
 use Rattle.std.proofs.Common.{◌≡◌, ℕ, suc, ◌-◌, ◌<◌, true, List, refl, ap, arith}
 use Rattle.cyc_syntax.specs.declared.tokens.Sign.TheVariants as signs
 use Rattle.cyc_syntax.specs.Symbols.{Symbol}

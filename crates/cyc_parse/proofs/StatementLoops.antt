@@ -30,12 +30,12 @@ items_in_steps room inner = record {
 }
 
 module _ (room : ℕ) (inner : Nested) (ts : List Symbol) where
-  -- if no item begins here, the list ends
+  -- If no item begins at the next symbol, then the list of items ends.
   pub no_item : starts begins_item (next ts) ≡ false → one_item room inner ts ≡ Ok (None, ts)
   unfolding if_starts
   no_item ends = rw ends refl
 
-  -- an item that begins at the current symbol is read
+  -- If an item begins at the next symbol, then the list's step reads that item.
   pub an_item : starts begins_item (next ts) ≡ true → (i : Item) (us : List Symbol) → item room inner ts ≡ Ok (i, us) → one_item room inner ts ≡ Ok (Some i, us)
   unfolding if_starts bind
   an_item begins i us is = rw begins (rw is refl)
@@ -61,7 +61,8 @@ clauses_in_steps room inner = record {
 }
 
 module _ {X Y B : Type 0} (view : X → Y) (add : Y → B → B) (last : Parser B) (one : Parser (Option Y)) (many : ℕ → Parser B) (steps : Steps add last one many) where
-  -- the rejection by the parser that follows the last step
+  -- The parser that follows the last step of a loop rejects, and so does the parser of the whole
+  -- list.
   pub ends_badly : (e : Stop) (front : List X) (count i : ℕ) (ts us vs : List Symbol) (read : Option X) (whole : Outcome B) → i < count → one ts ≡ Ok (option_map view read, us) → read ≡ None → Stops e (last us) vs
       → with_front view add front (many (count - i) ts) ≡ whole → Stops e whole vs
   ends_badly stops.Memory front count i ts us vs read whole lt h is rest so_far = tt

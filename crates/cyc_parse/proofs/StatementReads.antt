@@ -1,4 +1,5 @@
--- Each production of statements is parsed back from its yield, given that its parts are.
+-- Each production of statements is parsed back from its yield if its parts are parsed back from
+-- theirs.
 use Rattle.std.proofs.Common.{◌≡◌, ℕ, suc, ◌≤◌, Bool, true, false, cond, ◌&&◌, List, [], ◌∷◌, ◌++◌, Option, Some, None, refl, sym, ap, subst, ◌∙◌, arith, append-nil}
 use Rattle.cyc_syntax.specs.declared.tokens.Keyword.TheVariants as words
 use Rattle.cyc_syntax.specs.declared.tokens.Sign.TheVariants as signs
@@ -21,21 +22,21 @@ use Rattle.cyc_parse.proofs.OperandReads.{nested_group_reads}
 use Rattle.cyc_parse.proofs.InitialReads.{all_read}
 use Rattle.cyc_parse.proofs.Openings.{looser}
 
--- no `else` follows a statement that would take it
+-- Says that no `else` follows a statement that would take it.
 pub record EndsStatement (wants : Bool) (ts : List Symbol) : Type 0 where
   pub no_else : wants ≡ true → starts is_else (next ts) ≡ false
 
--- the symbols that may follow the items of a block
+-- Conditions on the symbols that may follow the items of a block.
 pub record EndsBlock (ts : List Symbol) : Type 0 where
   pub item : starts begins_item (next ts) ≡ false
   pub no_else : starts is_else (next ts) ≡ false
 
--- the symbols that may follow the clauses of a catch
+-- Conditions on the symbols that may follow the clauses of a `catch`.
 pub record EndsClauses (ts : List Symbol) : Type 0 where
   pub clause : starts begins_clause (next ts) ≡ false
   pub block : EndsBlock ts
 
--- the symbols that may follow a returned value
+-- Says that a semicolon follows a returned value.
 pub record EndsValue (ts : List Symbol) : Type 0 where
   pub semicolon : sees signs.Semicolon ts ≡ true
   pub stops : Stops 11 ts
@@ -45,7 +46,7 @@ pub record EndsValue (ts : List Symbol) : Type 0 where
 pub expression_at : (room d : ℕ) → Fits room d → (e : Expression) → IsExpression 11 e → Reads (nested room).expression e (yields.expression d e) (Stops 11)
 expression_at room d fits e is = (all_read e).expression room d fits is
 
--- an operand is parsed as an expression
+-- An operand is also an expression of the loosest operator level.
 pub loosest : (e : Expression) → IsExpression 0 e → IsExpression 11 e
 loosest e is = looser 0 11 (omega arith) e is
 
@@ -54,7 +55,7 @@ is-unary (Binary e os) (below, less, limit, first, some, are) = absurd (omega ar
 is-unary (Assign a b) (most, is_a, is_b) = absurd (omega arith)
 is-unary _ is = refl
 
--- no colon follows a name at the start of an expression
+-- At the start of an expression, a name is not followed by a colon.
 high_not_colon : (t : Terminal) → binds_terminal t ≤ 11 → sees_terminal signs.Colon (Some t) ≡ false
 high_not_colon (Mark signs.Colon) h = absurd (omega arith)
 high_not_colon (Mark _) h = refl
@@ -65,7 +66,8 @@ no_colon ys more rest alone front after = after more rest front
 no_colon ys more rest (goes_on leaf zs binds plain) (u, us, e, is_leaf, front) after = ap (sees signs.Colon) e ∙ ap (λ (t : Terminal). sees_terminal signs.Colon (Some t)) is_leaf.terminal ∙ high_not_colon leaf.terminal binds
 
 module _ (room : ℕ) where
-  -- the parser of a name that is not a label
+  -- If no colon follows a name, then a statement that begins with the name begins with an
+  -- expression.
   on_name : (x : ℕ) (t : Symbol) (more : List Symbol) → t.terminal ≡ Identifier x → sees signs.Colon more ≡ false
       → statement room (nested_statements room) (t ∷ more) ≡ bind (statements.expression room (nested_statements room)) (following room (nested_statements room)) (t ∷ more)
   unfolding statement choose if_sees bind nested unary primary
@@ -114,13 +116,13 @@ module _ (room : ℕ) where
         subst (λ (w : List Symbol). statement room (nested_statements room) w ≡ bind (statements.expression room (nested_statements room)) (following room (nested_statements room)) w) (sym eq)
         (by_terminal ((expression_starts d e).first.terminal) refl t more rest is_leaf.terminal front)
 
-    -- a statement that begins with an expression
+    -- A statement that begins with an expression is parsed back from its yield.
     pub begun_reads : {x : Statement} {Ends : List Symbol → Type 0} → Reads (bind (statements.expression room (nested_statements room)) (following room (nested_statements room))) x (yields.expression d e ++ ys) Ends
         → Reads (statement room (nested_statements room)) x (yields.expression d e ++ ys) Ends
     begun_reads h = reads_instead (bind (statements.expression room (nested_statements room)) (following room (nested_statements room)))
         (λ ts rest front ends. at_first ts rest (subst (λ (zs : Yield). Front (zs ++ ys) ts rest) (expression_starts d e).are front)) h
 
--- blocks and inner statements are parsed back by the parsers one level deeper
+-- Says that a statement is parsed back from its yield by the parsers one nesting level deeper.
 pub record ReadsStatement (room d : ℕ) (s : Statement) : Type 0 where
   pub reads : Reads (nested_statements room).statement s (yields.statement d s) (EndsStatement (wants_else s))
 
@@ -178,7 +180,7 @@ module _ (room d : ℕ) (fits : Fits (suc room) d) where
   condition_reads : (c : Expression) → IsExpression 11 c → Reads (nested (suc room)).group c (leaf_of d (Mark signs.LeftParen) ∷ (yields.expression (suc d) c ++ leaf_of (suc d) (Mark signs.RightParen) ∷ [])) Always
   condition_reads c is = nested_group_reads (suc room) d fits c Always (all_read c) is
 
-  -- an `if` without `else`, after the condition and the statement
+  -- An `if` without `else` is parsed back from its yield.
   pub if_reads : (p : Place) (c : Expression) (s : Statement) → IsExpression 11 c → ReadsStatement room (suc d) s → Reads (statement room (nested_statements room)) (If p c s) (yields.statement d (If p c s)) (EndsStatement true)
   if_reads p c s is h = by_choice (leaf_at d (Word words.If) p) _ (advance_reads_at d (Word words.If) p _ (shallow room d fits)
       (between_then _ _ (yields.expression (suc d) c) (yields.statement (suc d) s) (then_reads _ (condition_reads c is)

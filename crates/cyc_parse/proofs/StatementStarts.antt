@@ -1,4 +1,4 @@
--- The first symbols of the yields of statements and items.
+-- Facts about the first symbols of the yields of statements and items.
 use Rattle.std.proofs.Common.{◌≡◌, ℕ, Bool, true, refl, zero-le}
 use Rattle.cyc_syntax.specs.declared.tokens.Keyword.{Keyword}
 use Rattle.cyc_syntax.specs.declared.tokens.Keyword.TheVariants as words
@@ -87,7 +87,7 @@ statement_starts d (Continue p) = record { first = _; others = _; are = refl; be
 statement_starts d (Throw p x v) = record { first = _; others = _; are = refl; begin = refl; nesting = refl; item = zero-le }
 statement_starts d (Try p s cs) = record { first = _; others = _; are = refl; begin = refl; nesting = refl; item = zero-le }
 
--- `char` at the start of a statement is followed by a parenthesis
+-- If a statement's yield begins with `char`, then a parenthesis follows the `char`.
 pub statement_char_opens : (d : ℕ) (s : Statement) → (statement_starts d s).first.terminal ≡ Word words.Char → OpensParen (statement_starts d s).others
 unfolding statement_starts starts_as starts_append
 statement_char_opens d (Block (Braces p is q)) h = absurd (cc)

@@ -15,7 +15,7 @@ use Rattle.cyc_parse.proofs.Rules.{Front, Reads, Fits, Starts, Always, leaf_of, 
 use Rattle.cyc_parse.proofs.Rules.{choose_reads, advance_reads, advance_reads_at, sees_reads, unseen_reads, starts_reads, unstarted_reads, is_reads, isnt_reads, long_leaf_reads}
 use Rattle.cyc_parse.proofs.RegionReads.{region_list_reads}
 
--- A name follows each type.
+-- Says that a name follows a type.
 pub record EndsType (ts : List Symbol) : Type 0 where
   pub name : ℕ
   pub comes : next ts ≡ Some (Identifier name)
@@ -24,7 +24,7 @@ pub record EndsType (ts : List Symbol) : Type 0 where
 pub record NoRegion (ts : List Symbol) : Type 0 where
   pub none : starts begins_region (next ts) ≡ false
 
--- no region arguments follow: no `<` comes next
+-- Says that no `<` comes next, so that no region arguments follow.
 pub record NotLess (ts : List Symbol) : Type 0 where
   pub less : sees signs.Less ts ≡ false
 

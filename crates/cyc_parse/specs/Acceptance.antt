@@ -1,5 +1,5 @@
--- The tokens that the parser accepts, and its faults with their places. (Programs are those of the Cyclone manual's grammar; limits, codes
--- and places are this project's own choice.)
+-- Defines the tokens that the parser accepts, and its faults with their source positions. (Programs are those of the Cyclone manual's
+-- grammar; limits, codes and positions are this project's own choice.)
 use Rattle.std.specs.Prelude.{◌≡◌, ℕ, List, ◌∷◌, ◌++◌, length}
 use Rattle.cyc_words.specs.declared.fault.Fault.{Fault}
 use Rattle.cyc_syntax.specs.Tokens.{Token}
@@ -11,18 +11,20 @@ use Rattle.cyc_parse.specs.Faults.{Refusal, end_of, fault_of}
 use Rattle.cyc_parse.specs.Refusals.{BreaksFirst}
 use Rattle.cyc_parse.specs.Refusals as symbols
 
--- The tokens are accepted with these declarations: by the grammar they are a tree of the tokens, and the tree is within the limits.
+-- Says that the tokens are accepted with the given declarations, which are their parse tree by the grammar and keep the limits.
 pub record IsAccepted (tokens : List Token) (tree : List Declaration) : Type 0 where
   pub has : HasTree (symbols_of tokens) tree
   pub within : IsWithinLimits tree
 
--- The tokens of the text are rejected with this fault: the meaning of its code holds at its place.
+-- Says that the tokens of a text are rejected with the given fault: the meaning of the fault's code
+-- holds at its source position.
 pub record IsRefused (text : List ℕ) (tokens : List Token) (fault : Fault) : Type 0 where
   pub refusal : Refusal
   pub refused : symbols.IsRefused (symbols_of tokens) refusal
   pub is : fault ≡ fault_of (end_of text) refusal
 
--- The tokens have a tree, and the given token is the first that breaks a limit, namely this limit.
+-- Says that the tokens have a parse tree, and that the given token is the first one to break the
+-- given limit.
 pub record BreaksLimit (tokens : List Token) (refusal : Refusal) : Type 0 where
   pub front : List Symbol
   pub symbol : Symbol
@@ -33,7 +35,7 @@ pub record BreaksLimit (tokens : List Token) (refusal : Refusal) : Type 0 where
   pub has : HasTree (symbols_of tokens) tree
   pub breaks : BreaksFirst refusal.reason (program tree) (length front)
 
--- The fault of a program that breaks a limit.
+-- Says that a fault is the right one for a program that breaks a limit.
 pub record IsFaulty (text : List ℕ) (tokens : List Token) (fault : Fault) : Type 0 where
   pub refusal : Refusal
   pub breaks : BreaksLimit tokens refusal

@@ -1,5 +1,5 @@
 -- THE MEANING OF A PARSE FAULT: why the symbols are rejected, and at which symbol. A fault states the reason by a code and the symbol by a
--- place. (The codes are this project's own choice.)
+-- source position. (The codes are this project's own choice.)
 use Rattle.std.specs.Prelude.{ℕ, List, [], ◌∷◌}
 use Rattle.cyc_words.specs.declared.fault.Code.{Code}
 use Rattle.cyc_words.specs.declared.fault.Code.TheVariants as codes
@@ -9,35 +9,37 @@ use Rattle.cyc_syntax.specs.Symbols.{Place, Symbol}
 
 -- the reasons for which symbols are rejected
 pub data Reason : Type 0 where
-  -- no program continues with this symbol, or no program ends here
+  -- No program continues with the rejected symbol, or no program ends at the end of the text.
   Unexpected : Reason
-  -- the symbol is nested too deep
+  -- The rejected symbol is nested too deep.
   TooDeep : Reason
-  -- the item that begins here is one too many of its list
+  -- The item that begins at the rejected symbol exceeds the maximal number of items of its list.
   TooLong : Reason
 
--- a rejection: its reason, and the symbols left; the place is the first symbol left, or the end of the text
+-- A rejection has a reason and the symbols left; it is located at the first symbol left, or at the end of
+-- the text.
 pub record Refusal : Type 0 where
   pub reason : Reason
   pub left : List Symbol
 
--- the code of a rejection at the first of these symbols
+-- Returns the fault code of a rejection at the first of the given symbols.
 abbrev pub code_of : Reason → List Symbol → Code
 code_of Unexpected [] = codes.UnexpectedEnd
 code_of Unexpected (t ∷ ts) = codes.UnexpectedToken
 code_of TooDeep ts = codes.NestingTooDeep
 code_of TooLong ts = codes.ListTooLong
 
--- the place of the first of these symbols, or the end of the text if there is none
+-- Returns the source position of the first of the given symbols, or the end of the text if there is
+-- none.
 abbrev pub place_at : Place → List Symbol → Place
 place_at end [] = end
 place_at end (t ∷ ts) = t.place
 
--- the place just past the last byte of a text
+-- Returns the position just past the last byte of a text.
 abbrev pub end_of : List ℕ → Place
 end_of text = record { line = line_after text; column = column_after text }
 
--- the fault of a rejection, in a text that ends at this place
+-- Returns the fault for a rejection, in a text that ends at the given position.
 abbrev pub fault_of : Place → Refusal → Fault
 fault_of end refusal = record {
   code = code_of refusal.reason refusal.left;

@@ -2,6 +2,6 @@
 pub mod Acceptance
 pub mod Refusals
 pub mod Faults
--- Contracts between this crate's functions, and statements of its proofs. No public contract of the product depends on these internal
--- definitions.
+-- Contracts between the parser crate's functions, and statements of its proofs. No public contract of the product depends on these
+-- internal definitions.
 pub mod inside

@@ -8,14 +8,16 @@ use Rattle.cyc_syntax.specs.Yields.{Leaf, Yield, program}
 use Rattle.cyc_syntax.specs.Grammar.{HasTree, IsWithin, max_nesting, max_items}
 use Rattle.cyc_parse.specs.Faults.{Reason, Unexpected, TooDeep, TooLong, Refusal}
 
--- The limit that a leaf breaks. If a leaf breaks both limits, the nesting is reported.
+-- Says that a leaf breaks the limit of the given reason. If a leaf breaks both limits, the nesting
+-- is reported.
 abbrev pub Breaks : Reason → Leaf → Type 0
 Breaks TooDeep leaf = max_nesting < leaf.nesting
--- the item of the leaf is one too many of its list or its chain
+-- The leaf's item exceeds the maximal number of items of its list or operator chain.
 Breaks TooLong leaf = (leaf.nesting ≤ max_nesting) × (max_items < leaf.item)
 Breaks Unexpected leaf = ⊥
 
--- The leaf after the first `count` leaves breaks the limit, and the leaves before it keep the limits.
+-- Says that the leaf after the first `count` leaves breaks the limit, and that the leaves before it
+-- keep the limits.
 pub record BreaksFirst (why : Reason) (leaves : Yield) (count : ℕ) : Type 0 where
   pub before : Yield
   pub leaf : Leaf
@@ -25,12 +27,12 @@ pub record BreaksFirst (why : Reason) (leaves : Yield) (count : ℕ) : Type 0 wh
   pub within : AllByRecursion IsWithin before
   pub breaks : Breaks why leaf
 
--- the terminal of the next symbol, if any
+-- Returns the terminal of the next symbol, if any symbol is left.
 abbrev pub next : List Symbol → Option Terminal
 next [] = None
 next (t ∷ ts) = Some t.terminal
 
--- true if there is a next terminal and it passes the test
+-- Returns true if there is a next terminal and it passes the given test.
 abbrev pub starts : (Terminal → Bool) → Option Terminal → Bool
 starts begins None = false
 starts begins (Some t) = begins t
@@ -50,31 +52,36 @@ begins_region t = is_some (region_of_terminal t)
 abbrev pub region_next : List Symbol → Bool
 region_next symbols = starts begins_region (next symbols)
 
--- After `new` and a name, `<` opens region arguments if a region follows; otherwise it is an operator. The meaning of a `<` after `new` and
--- a name depends on the symbol after it. Two symbols after it are alike if both are regions or neither is.
+-- After `new` and a name, `<` opens region arguments if a region follows the `<`; otherwise the `<` is an operator. The meaning of a `<`
+-- after `new` and a name depends on the symbol after the `<`. `IsAlike` says that the symbols after a `<` are both regions, or neither is
+-- one.
 abbrev pub IsAlike : Symbol → List Symbol → List Symbol → Type 0
 IsAlike symbol back more = symbol.terminal ≡ Mark signs.Less → region_next more ≡ region_next back
 
--- Some program begins with these symbols, followed by this one.
+-- Says that some program begins with the given symbols, followed by the given symbol.
 abbrev pub IsBegun : List Symbol → Symbol → Type 0
 IsBegun front symbol = (more : List Symbol) × (tree : List Declaration) × HasTree (front ++ symbol ∷ more) tree
 
--- The meaning of a reason, given the symbols before the place and the symbols left there.
+-- Defines the meaning of a rejection's reason, given the symbols before the rejected one and the
+-- symbols left.
 abbrev pub Holds : Reason → List Symbol → List Symbol → Type 0
--- no program ends at this point of the text
+-- If no symbol is left, `Unexpected` means that no program ends at the end of the text.
 Holds Unexpected front [] = (tree : List Declaration) → HasTree front tree → ⊥
--- the symbols up to and including this one begin no program
+-- If a symbol is left, `Unexpected` means that no program begins with the symbols up to and
+-- including it.
 Holds Unexpected front (symbol ∷ back) = (more : List Symbol) (tree : List Declaration) → HasTree (front ++ symbol ∷ more) tree → ⊥
--- no limit is broken at the end of the text
+-- At the end of the text no limit is broken.
 Holds TooDeep front [] = ⊥
--- Programs begin with the symbols up to this one. In each such program this symbol is the first to break a limit: it is nested too deep.
+-- `TooDeep` means that some programs begin with the symbols up to the rejected one. In each of these programs the rejected symbol is the
+-- first to break a limit: it is nested too deep.
 Holds TooDeep front (symbol ∷ back) = IsBegun front symbol × ((more : List Symbol) (tree : List Declaration) → HasTree (front ++ symbol ∷ more) tree → BreaksFirst TooDeep (program tree) (length front))
 Holds TooLong front [] = ⊥
--- Programs begin with the symbols up to this one. In each such program this symbol is the first to break a limit: it begins an item too
--- many.
+-- `TooLong` means that some programs begin with the symbols up to the rejected one. In each of these programs the rejected symbol is
+-- the first to break a limit: it begins an item too many.
 Holds TooLong front (symbol ∷ back) = IsBegun front symbol × ((more : List Symbol) (tree : List Declaration) → IsAlike symbol back more → HasTree (front ++ symbol ∷ more) tree → BreaksFirst TooLong (program tree) (length front))
 
--- The symbols are rejected at the first of the symbols left, or at their end.
+-- Says that the symbols are rejected at the first symbol left, or at their end, for a reason that
+-- holds.
 pub record IsRefused (symbols : List Symbol) (refusal : Refusal) : Type 0 where
   pub front : List Symbol
   pub are : symbols ≡ front ++ refusal.left

@@ -1,11 +1,11 @@
--- contracts between the functions of the crate: the parser as functions on lists of symbols
+-- Contracts between the functions of the parser crate: the parser as functions on lists of symbols.
 pub mod Parsing
 pub mod Types
 pub mod Expressions
 pub mod Statements
 pub mod Declarations
 pub mod Answers
--- the relation between the code and the parser of symbols
+-- Relates the parser's code to the specified parser of symbols.
 pub mod Code
 pub mod Boxes
 pub mod Steps

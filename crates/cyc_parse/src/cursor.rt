@@ -1,4 +1,4 @@
-//! The symbols left to parse, and the parsers of one symbol.
+//! The cursor holds the symbols left to parse; this file contains it and the parsers of one symbol.
 #![tactic(auto, unfolding(crate::specs::inside::Parsing::take))]
 
 ghost use Rattle.std.specs.Prelude.{◌≡◌, ℕ, suc, true, length, map, option_map, is_some, IfSome, IfNone, Ok, if◌then◌else◌};
@@ -18,7 +18,7 @@ use cyc_words::Span;
 use std::alloc::Global;
 use std::marker::Model;
 
-/// A recursive-descent parser. Contracts see it as the list of the symbols left.
+/// A recursive-descent parser. Contracts see a `Parser` as the list of the symbols left.
 #[derive(Drop)]
 pub(crate) struct Parser<'a> {
     alloc: Global,
@@ -45,7 +45,7 @@ impl<'a> Parser<'a> {
         }
     }
 
-    /// Returns the place of the next symbol, or the end of the text if there is none.
+    /// Returns the source position of the next symbol, or the end of the text if no symbol is left.
     pub(crate) fn place(&self, end: Span) -> Span
         ensures { place_of_span result ≡ place_at (place_of_span end) self.now }
     {
@@ -83,7 +83,7 @@ impl<'a> Parser<'a> {
         }
     }
 
-    /// Returns true if region arguments begin here: `<` and a region.
+    /// Returns true if region arguments begin at the next symbol, with `<` and a region.
     pub(crate) fn opens_regions(&self) -> bool
         ensures { result ≡ opens_regions self.now }
     {
@@ -96,8 +96,8 @@ impl<'a> Parser<'a> {
         }
     }
 
-    /// Returns true if `char` and a parenthesis come next: a conversion to a low byte. In a declaration, `char` is followed by a mark or a
-    /// name.
+    /// Returns true if `char` and a parenthesis come next, which begin a conversion to a low byte. In a declaration, `char` is followed by
+    /// a pointer mark or a name.
     pub(crate) fn opens_low_byte(&self) -> bool
         ensures { result ≡ opens_low_byte self.now }
     {
@@ -122,7 +122,7 @@ impl<'a> Parser<'a> {
         }
     }
 
-    /// Reads the next symbol, whatever it is, if there is one.
+    /// Reads the next symbol, of any kind; at least one symbol must be left.
     pub(crate) fn take_next(&mut self) -> Span
         requires { is_some (next self.old) ≡ true }
         ensures { advance self.old ≡ Ok (place_of_span result, self.new) }
@@ -136,7 +136,7 @@ impl<'a> Parser<'a> {
         }
     }
 
-    /// Reads the next symbol, whatever it is, unless it is nested too deep.
+    /// Reads the next symbol, of any kind, unless it is nested too deep.
     fn accept(&mut self, room: u32) -> Result<Span, Stop>
         ensures { Gives place_of_span result (accepted room self.old) self.new }
     {
@@ -157,7 +157,7 @@ impl<'a> Parser<'a> {
         self.advance()
     }
 
-    /// Reads this sign, if it comes next.
+    /// Reads the wanted sign (punctuation token), if it comes next.
     pub(crate) fn take_if(&mut self, wanted: Sign) -> Option<Span>
         ensures seen { sees wanted self.old ≡ is_some result }
         ensures taken { IfSome result (λ span. (room : ℕ) → sign (suc room) wanted self.old ≡ Ok (place_of_span span, self.new)) }
@@ -252,7 +252,7 @@ impl<'a> Parser<'a> {
         self.alloc
     }
 
-    /// Returns the number of symbols left.
+    /// Returns the number of symbols left to parse.
     pub(crate) fn len(&self) -> usize
         ensures { result ≡ length self.now }
     {
@@ -260,7 +260,8 @@ impl<'a> Parser<'a> {
     }
 }
 
-/// Returns the rejection for this reason if an item begins here; otherwise the symbol is unexpected.
+/// Returns the rejection for the given reason if an item begins at the next symbol; otherwise the
+/// symbol is unexpected.
 pub(crate) fn refusal(begins: bool, why: Reason) -> Stop
     ensures { result ≡ Refused (if begins then why else reasons.Unexpected) }
 {

@@ -1,4 +1,5 @@
-//! The parser of declarations and of programs. A declaration has no nesting: its brackets are the first level.
+//! The parser of declarations and of programs. A declaration stands at nesting depth zero, so its own brackets
+//! are the first nesting level.
 ghost use Rattle.std.specs.Prelude.{◌≡◌, ℕ, suc, map, option_map};
 ghost use Rattle.cyc_syntax.specs.inside.TreeView.{place_of_span, view_name, view_type, view_member, view_constructor, view_value, view_constraint};
 ghost use Rattle.cyc_syntax.specs.inside.TreeView.{view_list, view_parameters, view_declaration};
@@ -282,7 +283,7 @@ impl<'a> Parser<'a> {
         })
     }
 
-    /// Parses the rest of a declaration that begins with this type.
+    /// Parses the rest of a declaration, after its first type.
     fn parse_typed(&mut self, of_type: WrittenType) -> Result<Declaration, Stop>
         ensures { Gives view_declaration result (typed 200 (view_type of_type) self.old) self.new }
     {

@@ -1,4 +1,4 @@
-//! The parser of expressions: their first symbols, and the levels of nesting. `room` is the number of nesting levels left below the level
+//! The parser of expressions: their first symbols, and their nesting levels. `room` is the number of nesting levels left below the level
 //! at which a function reads.
 #![tactic(auto, unfolding(crate::specs::inside::Parsing::bind, crate::specs::inside::Parsing::choose, crate::specs::inside::Parsing::if_sees, crate::specs::inside::Parsing::if_starts, crate::specs::inside::Parsing::if_is, crate::specs::inside::Parsing::refuse_item, crate::specs::inside::Expressions::nested), using(crate::proofs::Levels::levels))]
 
@@ -94,7 +94,8 @@ impl<'a> Parser<'a> {
         self.parse_assignment(room, target)
     }
 
-    // An error path drops each value that the function holds. The expression is in a box, so one call drops it.
+    // If an error occurs, the compiled code drops each value that the function holds. The expression is in a
+    // box, so one call drops it.
 
     /// Puts an expression into a box.
     pub(crate) fn node(&self, value: Expr) -> Result<Box<Expr>, Stop>

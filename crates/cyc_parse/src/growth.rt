@@ -3,7 +3,8 @@ ghost use Rattle.std.specs.Prelude.{◌≡◌, [], ◌∷◌, ◌++◌, is_ok, i
 
 use std::alloc::AllocError;
 
-/// Appends an item. Most lists of a program are short, so a list first gets room for two items, and twice as much each time it is full.
+/// Appends an item to a list. Most lists of a program are short, so a list first gets capacity for two items, and twice as much each
+/// time it is full.
 pub(crate) fn append<T: Drop>(list: &mut Vec<T>, item: T) -> Result<(), AllocError>
     ensures items { list.new.items ≡ (if is_ok result then list.old.items ++ item ∷ [] else list.old.items) }
 {

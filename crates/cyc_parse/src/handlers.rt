@@ -59,7 +59,8 @@ impl<'a> Parser<'a> {
         Ok(Some(variable))
     }
 
-    /// Parses the start of a clause up to its colon, if one comes next: its exception, and its variable if it has one.
+    /// Parses the start of a catch clause up to its colon, if a clause comes next: its exception, and its variable if
+    /// it has one.
     fn parse_clause_head(&mut self, room: u32) -> Result<Option<(Ident, Option<Ident>)>, Stop>
         ensures { Gives (option_map view_clause_head) result (clause_head room (nested_statements room) self.old) self.new }
     {
@@ -74,7 +75,7 @@ impl<'a> Parser<'a> {
         Ok(Some((exception, variable)))
     }
 
-    /// Parses `case &exception(variable): ..`, if one comes next.
+    /// Parses a catch clause `case &exception(variable): ..`, if one comes next.
     #[cycle(statement)]
     fn parse_clause(&mut self, room: u32) -> Result<Option<Clause>, Stop>
         ensures { Gives (option_map then_clause) result (one_clause room (nested_statements room) self.old) self.new }

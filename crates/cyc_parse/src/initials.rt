@@ -100,7 +100,7 @@ impl<'a> Parser<'a> {
         self.end_values(room, name, regions, values)
     }
 
-    /// Parses, after a name, the fields of a struct with or without region arguments, or an expression that begins with the name.
+    /// Parses an initial value that begins with a name: a struct's fields, with or without region arguments, or an expression.
     #[cycle(expression)]
     fn parse_initial_from_name(&mut self, room: u32, name: Ident) -> Result<Box<Initial>, Stop>
         ensures { Gives view_boxed_initial result (initial_from_name room (nested room) (view_name name) self.old) self.new }

@@ -168,7 +168,7 @@ impl<'a> Parser<'a> {
         Ok(())
     }
 
-    /// Parses an alias declaration, after `let`.
+    /// Parses the declaration of a dynamic region and its key, after `let`.
     fn parse_dynamic_region(&mut self, room: u32) -> Result<Item, Stop>
         ensures { Gives view_item result (dynamic_region room (nested_statements room) self.old) self.new }
     {
@@ -181,7 +181,7 @@ impl<'a> Parser<'a> {
         Ok(Item::DynamicRegion { region, key })
     }
 
-    /// Parses an alias declaration, after `let`.
+    /// Parses an item after `let`: an alias declaration or the declaration of a dynamic region.
     fn parse_let_item(&mut self, room: u32) -> Result<Item, Stop>
         ensures { Gives view_item result (let_item room (nested_statements room) self.old) self.new }
     {

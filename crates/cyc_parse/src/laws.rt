@@ -1,4 +1,4 @@
-//! Laws of the grammar. Each function of this file does nothing, and its contract states one law.
+//! Laws of the grammar. Each function in this file does nothing, and its contract states one law.
 ghost use Rattle.std.specs.Prelude.{◌≡◌, List};
 ghost use Rattle.cyc_syntax.specs.Symbols.{Symbol};
 ghost use Rattle.cyc_syntax.specs.Trees.{Declaration};

@@ -23,7 +23,7 @@ use cyc_syntax::{Expr, Ident, Keyword, Postfix, PrefixOperator, Sign};
 use cyc_words::Span;
 
 impl<'a> Parser<'a> {
-    /// Returns an operand with the postfixes after it.
+    /// Returns the expression made of an operand and the postfixes after it.
     fn chained(&self, base: Box<Expr>, postfixes: Vec<Postfix>) -> Result<Box<Expr>, Stop>
         ensures { Gives view_boxed result (Ok (chained (view_boxed base) (postfixes_of postfixes.items), self.now)) self.now }
     {
@@ -89,7 +89,7 @@ impl<'a> Parser<'a> {
         self.node(call(name, arguments))
     }
 
-    /// Parses an expression that begins with this name: a call or a variable.
+    /// Parses an expression that begins with the given name: a call or a variable.
     #[cycle(expression)]
     pub(crate) fn parse_from_name(&mut self, room: u32, name: Ident) -> Result<Box<Expr>, Stop>
         ensures { Gives view_boxed result (from_name room (nested room) (view_name name) self.old) self.new }
@@ -204,7 +204,7 @@ impl<'a> Parser<'a> {
         }))
     }
 
-    /// Parses `->` and a field's name, if it comes next.
+    /// Parses `->` and a field's name, if `->` comes next.
     fn parse_field_postfix(&mut self) -> Result<Option<Postfix>, Stop>
         ensures { (room : ℕ) → Gives (option_map then_postfix) result (one_field (suc room) self.old) self.new }
     {
@@ -215,7 +215,7 @@ impl<'a> Parser<'a> {
         Ok(Some(Postfix::Field { name }))
     }
 
-    /// Parses a postfix `[..]` or `->` and a field's name, if one comes next.
+    /// Parses one postfix, if one comes next: `[..]`, or `->` and a field's name.
     #[cycle(expression)]
     fn parse_postfix(&mut self, room: u32) -> Result<Option<Postfix>, Stop>
         ensures { Gives (option_map then_postfix) result (one_postfix room (nested room) self.old) self.new }
@@ -325,7 +325,8 @@ impl<'a> Parser<'a> {
         })
     }
 
-    /// Parses an operand after a sign, which is this prefix operator or none.
+    /// Parses an operand, given the prefix operator that its first sign (punctuation token)
+    /// denotes, if any.
     #[cycle(expression)]
     fn parse_prefixed_by(
         &mut self,
@@ -387,7 +388,7 @@ impl<'a> Parser<'a> {
         self.parse_long_operand(room)
     }
 
-    /// Parses an operand with its prefixes and postfixes, part by part.
+    /// Parses an operand with its prefixes and postfixes, one part at a time.
     #[cycle(expression)]
     #[tactic(auto, unfolding(crate::specs::inside::Expressions::unary, crate::specs::inside::Parsing::choose, crate::specs::inside::Parsing::bind))]
     fn parse_long_operand(&mut self, room: u32) -> Result<Box<Expr>, Stop>

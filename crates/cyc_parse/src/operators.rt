@@ -23,7 +23,7 @@ use cyc_words::Span;
 pub(crate) const LEVELS: u32 = 10;
 
 impl<'a> Parser<'a> {
-    /// Returns a first operand with the operators of one level after it.
+    /// Returns the expression made of a first operand and the operators of one level after it.
     fn joined(&self, first: Box<Expr>, rest: Vec<Operation>) -> Result<Box<Expr>, Stop>
         ensures { Gives view_boxed result (Ok (binary_of (view_boxed first) (operations_of rest.items), self.now)) self.now }
     {
@@ -33,7 +33,7 @@ impl<'a> Parser<'a> {
         self.node(Expr::Binary { first, rest })
     }
 
-    /// Returns the next symbol, if it is a binary operator of the level above this one.
+    /// Returns the next symbol's binary operator, if its level is the next one above `below`.
     fn operator(&self, below: u32) -> Option<BinaryOperator>
         ensures { result ≡ operator_at (suc below) (next self.now) }
     {
@@ -57,8 +57,7 @@ impl<'a> Parser<'a> {
         level_between(sign, below, most)
     }
 
-    /// Returns true if an operand of the next level continues after its first symbol: by arguments, a postfix, or an operator up to this
-    /// level.
+    /// Returns true if an operand continues after its first symbol: by arguments, a postfix, or an operator up to the level `below`.
     fn is_continued(&self, below: u32) -> bool
         ensures { result ≡ is_continued below (following self.now) }
     {
@@ -71,7 +70,8 @@ impl<'a> Parser<'a> {
             || level_between(sign, 0, below).is_some()
     }
 
-    /// Takes an operand of the level above this one if it is a single number or name. Most operands are, and they need no box.
+    /// Takes an operand of the operator level above `below` if it is a single number or name. Most operands are single numbers
+    /// or names, and need no box.
     fn take_lone_operand(&mut self, below: u32) -> Option<Expr>
         requires { below < 10 }
         ensures taken { IfSome result (λ e. (room : ℕ) → operand room (nested room) below self.old ≡ Ok (view_expression e, self.new)) }
@@ -95,7 +95,7 @@ impl<'a> Parser<'a> {
         }
     }
 
-    /// Parses an operand for the operators of the level above this one.
+    /// Parses an operand for the operators of the level above `below`.
     #[cycle(expression)]
     fn parse_operand(&mut self, room: u32, below: u32) -> Result<Expr, Stop>
         requires { below < 10 }
@@ -109,7 +109,7 @@ impl<'a> Parser<'a> {
         Ok(Box::into_inner(operand))
     }
 
-    /// Reads the next symbol, if it is a binary operator of the level above this one.
+    /// Reads the next symbol, if it is a binary operator of the level above `below`.
     #[tactic(auto, unfolding(crate::specs::inside::Parsing::take), using(crate::proofs::Levels::operator_comes))]
     fn take_operator(&mut self, below: u32) -> Option<(BinaryOperator, Span)>
         ensures seen { option_map (λ taken. taken.0) result ≡ operator_at (suc below) (next self.old) }
@@ -152,7 +152,7 @@ impl<'a> Parser<'a> {
         Ok(operations)
     }
 
-    /// Extends a first operand by the operators of the levels up to this one.
+    /// Extends a first operand by the operators of all levels up to the given one.
     #[cycle(expression)]
     pub(crate) fn climb(
         &mut self,
@@ -166,7 +166,8 @@ impl<'a> Parser<'a> {
         self.climb_above(room, 0, level, first)
     }
 
-    /// Extends an operand by the operators of the levels above one, up to another. Levels without a next operator are skipped.
+    /// Extends an operand by the operators of the levels above `below`, up to another given level. Levels that the next
+    /// operator does not belong to are skipped.
     #[cycle(expression)]
     fn climb_above(
         &mut self,
@@ -184,7 +185,8 @@ impl<'a> Parser<'a> {
         self.climb_level(room, level - 1, most, first)
     }
 
-    /// Extends an operand by the operators of the level above this one, and then of the levels above that.
+    /// Extends an operand by the operators of the level above `below`, and then of the levels above that
+    /// one.
     #[cycle(expression)]
     fn climb_level(
         &mut self,
@@ -210,7 +212,7 @@ impl<'a> Parser<'a> {
     }
 }
 
-/// Returns the prefix operator that a sign denotes before an operand.
+/// Returns the prefix operator that a sign (punctuation token) denotes before an operand.
 pub(crate) fn prefix_operator(sign: Sign) -> Option<PrefixOperator>
     ensures { result ≡ prefix_operator sign }
 {
@@ -224,7 +226,7 @@ pub(crate) fn prefix_operator(sign: Sign) -> Option<PrefixOperator>
     }
 }
 
-/// Returns the binary operator that a sign denotes between two operands.
+/// Returns the binary operator that a sign (punctuation token) denotes between two operands.
 fn binary_operator(sign: Sign) -> Option<BinaryOperator>
     ensures { result ≡ binary_operator sign }
 {
@@ -251,7 +253,8 @@ fn binary_operator(sign: Sign) -> Option<BinaryOperator>
     }
 }
 
-/// Returns the level of the binary operator that a sign denotes, from the tightest; 0 if it denotes none.
+/// Returns the level of the binary operator that a sign (punctuation token) denotes, counted from the
+/// tightest; 0 if it denotes none.
 fn level_of(sign: Sign) -> u32
     ensures within { (below most : ℕ) → level_within below most (binary_operator sign)
         ≡ (if nat_lt below result && nat_le result most then Some result else None) }
@@ -272,7 +275,8 @@ fn level_of(sign: Sign) -> u32
     }
 }
 
-/// Returns the level of the binary operator that a sign denotes, if it is above `below` and at most `most`.
+/// Returns the level of the binary operator that a sign (punctuation token) denotes, if the level is above
+/// `below` and at most `most`.
 fn level_between(sign: Sign, below: u32, most: u32) -> Option<u32>
     ensures value { result ≡ level_within below most (binary_operator sign) }
     ensures within { IfSome result (λ k. (below < k) × (k ≤ most)) }

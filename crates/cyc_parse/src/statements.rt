@@ -55,7 +55,7 @@ impl<'a> Parser<'a> {
         Ok(Box::new(self.alloc(), statement)?)
     }
 
-    /// Reads a sign inside one more bracket.
+    /// Reads the wanted sign (punctuation token) inside one more bracket.
     pub(crate) fn take_sign_deeper(&mut self, room: u32, wanted: Sign) -> Result<Span, Stop>
         ensures { Gives place_of_span result (sign (inside room) wanted self.old) self.new }
     {
@@ -64,7 +64,8 @@ impl<'a> Parser<'a> {
 
     // ---- statements that begin with expressions
 
-    /// Reads the end of a swap. A `<` there may begin region arguments, and then the symbol after it is unexpected.
+    /// Reads the end of a swap statement. If `<` comes next, it may begin region arguments, and then the symbol
+    /// after the `<` is unexpected.
     fn end_swap(&mut self, right: &Expr) -> Result<Span, Stop>
         ensures { (room : ℕ) → Gives place_of_span result (end_of_swap (suc room) (view_expression right.now) self.old) self.new }
     {
@@ -89,7 +90,7 @@ impl<'a> Parser<'a> {
         })
     }
 
-    /// Parses the rest of a statement, after the expression that it begins with.
+    /// Parses the rest of a statement, after its first expression.
     fn parse_rest_of_statement(&mut self, room: u32, value: Box<Expr>) -> Result<Stmt, Stop>
         ensures { Gives view_statement result (following room (nested_statements room) (view_boxed value) self.old) self.new }
     {
@@ -102,7 +103,7 @@ impl<'a> Parser<'a> {
         })
     }
 
-    /// Parses an expression that begins with this name.
+    /// Parses an expression that begins with the given name.
     fn parse_expression_from(&mut self, room: u32, name: Ident) -> Result<Box<Expr>, Stop>
         ensures { Gives view_boxed result (expression_from room (nested_statements room) (view_name name) self.old) self.new }
     {
@@ -112,7 +113,7 @@ impl<'a> Parser<'a> {
         self.parse_assignment(room, target)
     }
 
-    /// Parses a statement that begins with an expression that begins with this name.
+    /// Parses a statement that begins with an expression whose first symbol is the given name.
     fn parse_statement_from(&mut self, room: u32, name: Ident) -> Result<Stmt, Stop>
         ensures { Gives view_statement result (statement_from room (nested_statements room) (view_name name) self.old) self.new }
     {
@@ -302,14 +303,15 @@ impl<'a> Parser<'a> {
     }
 }
 
-/// Returns the number of levels left inside one more bracket.
+/// Returns the number of nesting levels left inside one more bracket.
 pub(crate) fn inside(room: u32) -> u32
     ensures { result ≡ inside room }
 {
     room.saturating_sub(1)
 }
 
-/// Returns true if an expression is an operand with its prefixes and postfixes, as the sides of a swap must be.
+/// Returns true if an expression is an operand with its prefixes and postfixes; both sides of a swap must be
+/// such operands.
 fn is_unary(value: &Expr) -> bool
     ensures { result ≡ is_unary (view_expression value.now) }
 {

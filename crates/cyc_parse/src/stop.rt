@@ -1,17 +1,18 @@
-//! The reasons for which a parse stops.
+//! The reasons why a parse stops.
 ghost use Rattle.std.specs.Prelude.{◌≡◌};
 ghost use Rattle.cyc_parse.specs.declared.stop.Stop.TheVariants.{Memory};
 
 use std::alloc::{AllocError, AllocFailed};
 
-/// Why symbols are rejected. The place is that of the first symbol left, or the end of the text.
+/// The reason why symbols are rejected. The rejection is located at the first symbol left, or at
+/// the end of the text.
 #[derive(Clone, Copy)]
 pub(crate) enum Reason {
-    /// No program continues with this symbol, or no program ends here.
+    /// No program continues with the rejected symbol, or no program ends at the end of the text.
     Unexpected,
-    /// The symbol is nested too deep.
+    /// The rejected symbol is nested too deep.
     TooDeep,
-    /// The item that begins here is one too many of its list.
+    /// The item that begins at the rejected symbol exceeds the maximal number of items of its list.
     TooLong,
 }
 

@@ -1,9 +1,9 @@
-//! The parser's input: tokens whose names are numbers.
+//! The parser's input: tokens in which each name is replaced by a number.
 
 use cyc_syntax::{Keyword, Name, Sign};
 use cyc_words::Span;
 
-/// A token without its place in the text. A region name and an identifier with equal texts have equal names.
+/// A token without its source position. A region name and an identifier with equal texts have equal names.
 #[derive(Clone, Copy)]
 pub(crate) enum Terminal {
     Identifier(Name),

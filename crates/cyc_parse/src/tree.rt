@@ -1,4 +1,4 @@
-//! From the tokens of a text to its tree, or to its fault.
+//! Turns the tokens of a text into its tree, or into its fault.
 ghost use Rattle.std.specs.Prelude.{◌≡◌, ◌≤◌, ◌⊎◌, [], ◌∷◌, length, map, fold, All, Ok, IfOk, IfErr, OnOk};
 ghost use Rattle.cyc_words.specs.Decision.{Decides};
 ghost use Rattle.cyc_words.specs.Fault.{memory_fault};
@@ -23,13 +23,14 @@ use std::alloc::{AllocError, Global};
 
 /// Parses the tokens of a text into its tree, or returns its fault.
 ///
-/// A token is rejected if no program continues with it. A token is also rejected if it is nested too deep, or if it begins an item too many
-/// of its list. The end of the text is rejected if its tokens are not yet a program. Any growth of the tree may fail for lack of memory.
+/// A token is rejected if no program continues with it. A token is also rejected if it is nested too deep, or if it exceeds the maximal
+/// number of items of its list. The end of the text is rejected if its tokens are not yet a program. Any growth of the tree may fail for
+/// lack of memory.
 pub fn parse(alloc: Global, tokens: &[Token], text: &[u8]) -> Result<Tree, Fault>
     requires short { length text.now ≤ max_bytes }
     requires tokens { AreTokensOf text.now tokens.now }
-    // An accepted text has a tree, which is returned. A fault holds for the reason that its code gives, at its place. A program that breaks
-    // a limit is rejected for the first limit that it breaks.
+    // An accepted text has a tree, which `parse` returns. A fault holds for the reason that its code gives, at its source position. A
+    // program that breaks a limit is rejected for the first limit that it breaks.
     ensures decides { Decides (IsAccepted (map (token_of text.now) tokens.now)) (λ tree t. declarations_of t ≡ tree)
         (IsRefused text.now (map (token_of text.now) tokens.now)) (IsFaulty text.now (map (token_of text.now) tokens.now)) result }
     // Names are numbered in the order of the first occurrence of their texts.
@@ -40,7 +41,7 @@ pub fn parse(alloc: Global, tokens: &[Token], text: &[u8]) -> Result<Tree, Fault
     answer(alloc, tokens, text)
 }
 
-/// Returns the result of the parser of symbols, as a tree or a fault of the text.
+/// Returns the result of the parser of symbols, as the tree or the fault of a text.
 fn answer(alloc: Global, tokens: &[Token], text: &[u8]) -> Result<Tree, Fault>
     requires short { length text.now ≤ max_bytes }
     requires tokens { AreTokensOf text.now tokens.now }
@@ -99,7 +100,7 @@ fn symbols_of_tokens(
 
 // ---- from symbols to declarations
 
-/// Returns the declarations that the symbols spell, or their fault in this text.
+/// Returns the declarations that the symbols spell, or the fault in the given text.
 #[tactic(auto, using(crate::proofs::Ends::whole_ends))]
 fn declarations_of(
     alloc: Global,
@@ -122,7 +123,7 @@ fn declarations_of(
 }
 
 impl<'a> Parser<'a> {
-    /// Parses a program that uses up all symbols.
+    /// Parses a program that must consume all symbols.
     fn parse_whole_program(&mut self) -> Result<Vec<Declaration>, Stop>
         ensures { Gives (λ v. map view_declaration v.items) result (whole_program self.old) self.new }
     {
@@ -144,7 +145,8 @@ impl<'a> Parser<'a> {
         }
     }
 
-    /// Returns the fault of a rejection at the next symbol, in a text that ends at this place.
+    /// Returns the fault for a rejection at the next symbol, in a text that ends at the given
+    /// position.
     fn fault(&self, reason: Reason, end: Span) -> Fault
         ensures { result ≡ fault_of (place_of_span end) (record { reason = view_reason reason; left = self.now }) }
     {

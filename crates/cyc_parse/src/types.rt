@@ -94,7 +94,8 @@ impl<'a> Parser<'a> {
         Ok(Some(self.take_region_name()?))
     }
 
-    /// Returns the next symbol, if it is a pointer mark.
+    /// Returns the kind of pointer that the next symbol denotes, if it is a pointer mark such as
+    /// `*`.
     fn mark(&self) -> Option<PointerKind>
         ensures { result ≡ mark_at (next self.now) }
     {
@@ -126,7 +127,7 @@ impl<'a> Parser<'a> {
         }
     }
 
-    /// Parses the pointer marks of a type.
+    /// Parses the pointer marks of a type, such as `*` and `?`.
     fn parse_pointers(&mut self) -> Result<Vec<Pointer>, Stop>
         ensures { (room : ℕ) → Gives (λ v. map view_pointer v.items) result (pointers_of (suc room) 64 self.old) self.new }
     {

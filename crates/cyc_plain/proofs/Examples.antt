@@ -1,4 +1,4 @@
--- Worked examples of the plain machine, each proved by computation.
+-- Worked examples of runs of the plain machine, each proved by computation.
 use Rattle.std.proofs.Common.{◌≡◌, ℕ, List, [], ◌∷◌, pos, negsuc, refl}
 use Rattle.cyc_words.specs.Word.{slt_of, sar_of, div_of, rem_of}
 use Rattle.cyc_words.specs.Ending.{Returned, Uncaught, Full}
@@ -23,7 +23,7 @@ use Rattle.cyc_plain.specs.inside.State.{State, output_of, input_of, status_of, 
 use Rattle.cyc_plain.specs.inside.Step.{run, start}
 use Rattle.cyc_plain.proofs.RunLaws.{zeros}
 
--- A function with four slots, this many parameters and one result word.
+-- Returns an example function with four slots, this many parameters and one result word.
 abbrev function : ℕ → List Instruction → Routine
 function parameters code = record {
   name = record { line = 1; column = 1 };
@@ -40,11 +40,11 @@ program code = record { functions = function 0 code ∷ []; globals = 3 ∷ []; 
 abbrev empty_store : StoreState
 empty_store = stores.start 3 (λ (address : ℕ). 0)
 
--- The state of a program after `n` steps, with this limit of calls.
+-- Returns the state of a program after `steps` steps, with at most `calls` active calls.
 abbrev after : ℕ → ℕ → Program → List ℕ → State
 after steps calls p input = run p 3 calls zeros steps (start p 0x7ffff000 empty_store input)
 
--- The state after `n` steps from a store with a block of two words.
+-- A store (heap) with a single block of two words, in which the following examples start.
 abbrev two_words : StoreState
 two_words = stores.made_in empty_store 1 (record { address = 0x20000000; size = 2 })
 
@@ -136,7 +136,7 @@ plain_greater_or_equal = refl
 
 -- ---- branches
 
--- The program computes the sum 5 + 4 + .. + 1.
+-- An example program that computes the sum 5 + 4 + .. + 1 in a loop.
 abbrev sum_down : Program
 sum_down = program (
     Move 0 (Word 0) ∷ Move 1 (Word 5) ∷ Move 2 (Word 1)
@@ -158,7 +158,8 @@ runs_off_the_end = refl
 
 -- ---- calls
 
--- Function `f` prints `A` and calls `f` recursively with its argument minus 1, down to 0; `main` calls `f(3)`.
+-- An example program whose function `f` prints `A` and calls itself with its argument minus 1, down to
+-- 0; `main` calls `f(3)`.
 abbrev recursion : Program
 recursion = record {
   functions =
@@ -178,7 +179,8 @@ recursion_ends = refl
 recursion_prints : output_of (after 40 5 recursion []) ≡ 65 ∷ 65 ∷ 65 ∷ 65 ∷ []
 recursion_prints = refl
 
--- With a limit of four calls the fifth ends the run, and the output is as before it.
+-- If at most four calls may be active, the fifth call ends the run, and the output is as before
+-- this call.
 recursion_is_full : status_of (after 40 4 recursion []) ≡ Ended Full
 recursion_is_full = refl
 
@@ -193,7 +195,8 @@ call_counts_its_argument = refl
 
 -- ---- checks of stack room
 
--- `main` checks stack room for a recursive call and returns.
+-- An example program whose `main` checks that the stack has space for a recursive call, and
+-- returns.
 abbrev asking : Program
 asking = program (instructions.Enter 0 ∷ Move 0 (Word 7) ∷ Return 0 ∷ [])
 
@@ -240,7 +243,7 @@ plain_places = refl
 
 -- ---- comparisons of a branch, and constant operands
 
--- Returns 1 if the branch on these two words is taken, else 0.
+-- Runs a program that returns 1 if the branch on these two words is taken, otherwise 0.
 abbrev of_branch : Comparison → ℕ → ℕ → Status
 of_branch comparison a b =
     status_of (after 4 1 (program (Branch comparison (Word a) (Word b) 3 ∷ Move 0 (Word 0) ∷ Return 0 ∷ Move 0 (Word 1) ∷ Return 0 ∷ [])) [])
@@ -321,7 +324,8 @@ slot_is_loaded_by_its_address = refl
 slot_that_is_not_named_has_no_address : status_of (after 2 1 (program (instructions.AddressOf 0 2 1 ∷ instructions.Load 1 (Slot 0) 4 ∷ Return 1 ∷ [])) []) ≡ Failed
 slot_that_is_not_named_has_no_address = refl
 
--- `main` passes the address of its slot 2 to a function that stores a word there.
+-- An example program whose `main` passes the address of its slot 2 to a function that stores a word
+-- there.
 abbrev passes_an_address : Program
 passes_an_address = record {
   functions =
@@ -343,7 +347,8 @@ no_global_after_the_last = refl
 
 -- ---- requests to the store
 
--- The status after requests to a new store of three pages, where each block has this address and each region this handle.
+-- Returns the status after the code makes requests to a new store of three pages, which chooses the same address for each
+-- block and the same handle for each region.
 abbrev after_calls : (steps : ℕ) → List Instruction → Status
 after_calls steps code =
     status_of (run (program code) 3 1 (record { contents = λ (slot : ℕ). 0; base = 0; serving = record { handle = 7; address = 0x20000000; memory = λ (address : ℕ). 0 } }) steps (start (program code) 0x7ffff000 empty_store []))
@@ -416,7 +421,7 @@ block_is_freed_once = refl
 
 -- ---- handlers
 
--- The status of a program with handlers, if two calls are allowed at once.
+-- Returns the status of a program with exception handlers, if at most two calls may be active.
 abbrev after_throws : (steps : ℕ) → List Instruction → List Instruction → Status
 after_throws steps code callee =
     status_of (run (record { functions = function 0 code ∷ function 0 callee ∷ []; globals = []; main = 0 }) 3 2 zeros steps

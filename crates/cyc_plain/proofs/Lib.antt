@@ -1,4 +1,4 @@
--- laws of runs, slots and words, which `src/laws.rt` promises
+-- proofs of the laws of runs, slots and words that `src/laws.rt` states
 pub mod RunLaws
 pub mod SlotLaws
 pub mod Steps
@@ -7,9 +7,9 @@ pub mod WordLaws
 pub mod MemoryLaws
 pub mod CallLaws
 pub mod Straight
--- checks of stack room
+-- checks for stack space (`Enter`)
 pub mod Rooms
--- programs without checks of stack room
+-- programs without checks for stack space
 pub mod Uniform
 -- worked examples
 pub mod Examples

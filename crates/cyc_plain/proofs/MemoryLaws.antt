@@ -1,5 +1,5 @@
--- The words that loads and stores find. Each global, each word of a live block, and each slot whose address is taken has an address of its
--- own. The slots of different calls are disjoint, since those of each call lie below those of its caller.
+-- Each global, each word of a live block, and each slot whose address is taken has a memory address of its own. The slots of different
+-- calls are disjoint, since those of each call lie below those of its caller.
 use Rattle.std.proofs.Common.{◌≡◌, ◌≢◌, ℕ, zero, suc, ◌+◌, ◌-◌, ◌*◌, ◌/◌, ◌<◌, ◌≤◌, Bool, true, false, ◌&&◌, List, [], ◌∷◌, length, Option, None, Some, set, slice_get, refl, sym, ap, subst, ◌∙◌, arith, inl, inr}
 use Rattle.std.specs.Prelude.{◌==◌, nat_le, nat_lt, if◌then◌else◌}
 use Rattle.std.proofs.lemmas.Bool.{cond-true, cond-false, and_from, and_parts, eq-eqb, eqb-true, ltb-true, leb-true, lt-ltb, le-leb, le-ltb, or_left, or_right, or_cases}
@@ -43,7 +43,7 @@ numbered-none is_asked base a apart = go (numbered is_asked base a) refl
 
 -- ---- slots whose address is taken
 
--- An instruction of the code takes the address of the slot.
+-- `IsPinned` says that an instruction of the code takes the address of the slot.
 record IsPinned (code : List Instruction) (slot : ℕ) : Type 0 where
   index : ℕ
   destination : ℕ
@@ -71,7 +71,8 @@ pinned_is_pinned (i ∷ code) slot pinned = elim (or_cases (pins i slot) (is_pin
 address_of_pins : (destination first count slot : ℕ) → first ≤ slot → slot < first + count → pins (instructions.AddressOf destination first count) slot ≡ true
 address_of_pins destination first count slot from below = and_from (nat_le first slot) (nat_lt slot (first + count)) (le-leb first slot from) (lt-ltb slot (first + count) below)
 
--- The slots whose address an instruction takes are pinned.
+-- If an instruction takes the address of slots, these slots are pinned: loads and stores can access
+-- them.
 pub pinned-at : (code : List Instruction) (index destination first count slot : ℕ) → slice_get code index ≡ Some (instructions.AddressOf destination first count)
     → first ≤ slot → slot < first + count → is_pinned code slot ≡ true
 pinned-at [] index destination first count slot at from below = absurd (let e : None ≡ Some (instructions.AddressOf destination first count) = at in cc)
@@ -81,7 +82,7 @@ pinned-at (i ∷ code) zero destination first count slot at from below =
 pinned-at (i ∷ code) (suc index) destination first count slot at from below =
     or_right (pins i slot) (is_pinned code slot) (pinned-at code index destination first count slot at from below)
 
--- A pinned slot is a slot of the function.
+-- A slot whose address is taken is one of the function's slots.
 pub pinned-inside : (program : Program) → IsWellFormed program → (function slot : ℕ) → is_pinned (routine_at program function).code slot ≡ true → slot < (routine_at program function).slots
 pinned-inside program well function slot pinned =
     let p = pinned_is_pinned (routine_at program function).code slot pinned in
@@ -111,7 +112,7 @@ pub below-low : (program : Program) (function base : ℕ) (frames : List Frame) 
 below-low program function base [] below = below.low
 below-low program function base (f ∷ frames) (first, rest) = first.low
 
--- A waiting call lies below the calls that wait for it.
+-- The slots of a waiting call lie below the slots of the calls that wait for it.
 pub below-there : (program : Program) (function base : ℕ) (frames : List Frame) (k : ℕ) (f : Frame) → AreBelow program function base frames → slice_get frames k ≡ Some f
     → (others : List Frame) × AreBelow program f.caller.function f.caller.base others
 below-there program function base [] k f below at = absurd (let e : None ≡ Some f = at in cc)
@@ -120,7 +121,8 @@ below-there program function base (h ∷ frames) zero f (first, rest) at =
     (frames, subst (λ (g : Frame). AreBelow program g.caller.function g.caller.base frames) same rest)
 below-there program function base (h ∷ frames) (suc k) f (first, rest) at = below-there program h.caller.function h.caller.base frames k f rest at
 
--- A pinned slot of a waiting call is read and written at its address.
+-- Loads and stores at the address of a waiting call's slot access this slot, if its address is
+-- taken.
 waiting-hidden : (program : Program) → IsWellFormed program → (h : Frame) (a : ℕ) → h.caller.base + 4 * (routine_at program h.caller.function).slots ≤ a → slot_at program h.caller a ≡ None
 waiting-hidden program well h a past =
     numbered-none (is_pinned (routine_at program h.caller.function).code) h.caller.base a
@@ -140,7 +142,7 @@ found-waiting program well function base (h ∷ frames) (suc k) f slot (first, r
     ap (λ (o : Option ℕ). word_or o h.caller.slots (word_waiting program frames (f.caller.base + 4 * slot))) hidden
     ∙ found-waiting program well h.caller.function h.caller.base frames k f slot rest at pinned
 
--- The waiting call with one slot written.
+-- Returns the waiting call in which one slot contains a new word.
 abbrev pub with_slot_of : Frame → (slot word : ℕ) → Frame
 with_slot_of f slot word = record f { caller = record f.caller { slots = put f.caller.slots slot word } }
 
@@ -160,7 +162,7 @@ written-waiting program well function base (h ∷ frames) (suc k) f slot word (f
     ap (λ (o : Option ℕ). put_or o word h frames (with_waiting program frames a word)) hidden
     ∙ ap (λ (fs : List Frame). h ∷ fs) (written-waiting program well h.caller.function h.caller.base frames k f slot word rest at pinned)
 
--- A write to a slot keeps the addresses of the waiting calls.
+-- A write to a slot of a waiting call leaves the addresses of all calls' slots unchanged.
 pub waiting-below : (program : Program) (function base : ℕ) (frames : List Frame) (a word : ℕ) → AreBelow program function base frames → AreBelow program function base (with_waiting program frames a word)
 waiting-below program function base [] a word below = below
 waiting-below program function base (f ∷ frames) a word (first, rest) =
@@ -179,7 +181,8 @@ length-waiting program (f ∷ frames) a word = go (slot_at program f.caller a) (
     go (Some number) others = refl
     go None others = ap (λ (n : ℕ). suc n) others
 
--- The parts of a configuration that a store leaves unchanged, wherever its word is.
+-- `IsLeft` says that two configurations agree in everything that no store instruction can change,
+-- wherever it writes.
 pub record IsLeft (c d : Configuration) : Type 0 where
   pub function : d.active.function ≡ c.active.function
   pub next : d.active.next ≡ c.active.next
@@ -218,11 +221,11 @@ range-slots a from =
     cond-false (nat_lt a STORE_BASE) OfGlobals (if nat_lt a slots_base then OfStore else OfSlots) (le-ltb a STORE_BASE (omega (arith, from)))
     ∙ cond-false (nat_lt a slots_base) OfStore OfSlots (le-ltb a slots_base from)
 
--- An address in the store's range denotes a word of the store.
+-- If an address lies in the store's range, memory has the same word there as the store (the heap).
 pub memory-store : (program : Program) (c : Configuration) (a : ℕ) → STORE_BASE ≤ a → a < slots_base → memory_at program c a ≡ word_at c.store a
 memory-store program c a from below = ap (word_in program c a) (range-store a from below)
 
--- The word of a live block, if its address is in the store's range.
+-- Returns the word of a live block at an address, if the address lies in the store's range.
 abbrev pub store_word_in : StoreState → (address : ℕ) → Range → Option ℕ
 store_word_in s address OfGlobals = None
 store_word_in s address OfStore = word_at s address
@@ -242,7 +245,8 @@ stored-word s a word there = go (range_of a) there
     go OfStore found = found
     go OfSlots found = absurd (let e : None ≡ Some word = found in cc)
 
--- A word of a live block is read and written at its address, whatever else memory contains.
+-- Loads and stores at the address of a live block's word access this word, whatever else memory
+-- contains.
 module _ (program : Program) (c : Configuration) (a word : ℕ) (there : store_word c.store a ≡ Some word) where
   in-store : range_of a ≡ OfStore
   in-store = go (range_of a) refl there
@@ -259,7 +263,7 @@ module _ (program : Program) (c : Configuration) (a word : ℕ) (there : store_w
   written-stored new = ap (with_word program c a new) in-store
 
 module _ (program : Program) (well : IsWellFormed program) (c : Configuration) where
-  -- A global has its own address.
+  -- The address of each global belongs to this global only.
   global-there : (number : ℕ) → number < length program.globals → global_at program (GLOBALS_BASE + 4 * number) ≡ Some number
   global-there number below = numbered-there (λ (n : ℕ). nat_lt n (length program.globals)) GLOBALS_BASE number (lt-ltb number (length program.globals) below)
 
@@ -274,7 +278,8 @@ module _ (program : Program) (well : IsWellFormed program) (c : Configuration) w
       ∙ ap (λ (o : Option ℕ). with_global c o word) (global-there number below)
 
   module _ (lie : AreBelow program c.active.function c.active.base c.frames) where
-    -- A pinned slot of the active call has its own address.
+    -- The address of each slot of the active call belongs to this slot only, if the code takes its
+    -- address.
     active-there : (slot : ℕ) → is_pinned (routine_at program c.active.function).code slot ≡ true → slot_at program c.active (c.active.base + 4 * slot) ≡ Some slot
     active-there slot pinned = numbered-there (is_pinned (routine_at program c.active.function).code) c.active.base slot pinned
 
@@ -292,7 +297,8 @@ module _ (program : Program) (well : IsWellFormed program) (c : Configuration) w
         ap (with_word program c (c.active.base + 4 * slot) word) (active-range slot)
         ∙ ap (λ (o : Option ℕ). with_slot program c o (c.active.base + 4 * slot) word) (active-there slot pinned)
 
-    -- A pinned slot of a waiting call has its own address.
+    -- The module shows that the address of a waiting call's slot belongs to this slot only, if the
+    -- code takes its address.
     module _ (k : ℕ) (f : Frame) (at : slice_get c.frames k ≡ Some f) where
       above : c.active.base + 4 * (routine_at program c.active.function).slots ≤ f.caller.base
       above = below-waiting program c.active.function c.active.base c.frames k f lie at

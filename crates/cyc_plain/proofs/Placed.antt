@@ -1,4 +1,5 @@
--- In a run of a well-formed program every place is in its function's code.
+-- In every state of a run of a well-formed program, the next instruction of each call lies in its
+-- function's code.
 use Rattle.std.proofs.Common.{◌≡◌, ℕ, zero, suc, ◌+◌, ◌-◌, ◌%◌, ◌<◌, Bool, true, false, List, [], ◌∷◌, length, Option, None, Some, slice_get, refl, sym, ap, subst, ◌∙◌, arith, inl, inr}
 use Rattle.std.proofs.lemmas.Bool.{cases_lt}
 use Rattle.std.specs.Prelude.{IsSomeAnd, ◌==◌, if◌then◌else◌, ◌⊎◌}
@@ -36,7 +37,7 @@ routine_in program function well below =
 last_is_some : (r : Routine) → IsSomeAnd (slice_get r.code (length r.code - 1)) (λ i. leaves i ≡ true) → (i : Instruction) → slice_get r.code (length r.code - 1) ≡ Some i → leaves i ≡ true
 last_is_some r last i at = subst (λ (o : Option Instruction). IsSomeAnd o (λ j. leaves j ≡ true)) at last
 
--- A well-formed function has code.
+-- The code of a well-formed function is not empty.
 pub has_code : (program : Program) (r : Routine) → IsRoutine program r → 0 < length r.code
 has_code program r routine = go r.code routine.last
   where
@@ -44,7 +45,7 @@ has_code program r routine = go r.code routine.last
     go [] last = absurd last
     go (i ∷ code) last = omega arith
 
--- An instruction that may fall through is followed by another.
+-- In a well-formed function, an instruction that may fall through is followed by another one.
 pub goes_after : (program : Program) (r : Routine) (place : ℕ) (i : Instruction) → IsRoutine program r → slice_get r.code place ≡ Some i → leaves i ≡ false → place + 1 < length r.code
 goes_after program r place i routine at stays =
     elim (cases_lt (place + 1) (length r.code)) [
@@ -61,7 +62,8 @@ goes_after program r place i routine at stays =
 abbrev pub IsPlacedAt : Program → (function next : ℕ) → Type 0
 IsPlacedAt program function next = (function < length program.functions) × (next < length (routine_at program function).code)
 
--- The open handlers of a function have their places in its code.
+-- `ArePlaced` says that the instructions at which exceptions arrive at the open handlers lie in the
+-- function's code.
 abbrev pub ArePlaced : Program → (function : ℕ) → List Handler → Type 0
 ArePlaced program function [] = Unit {0}
 ArePlaced program function (Open index first contents ∷ handlers) =
@@ -71,7 +73,8 @@ ArePlaced program function (Caught ∷ handlers) = ArePlaced program function ha
 abbrev pub IsWaiting : Program → Frame → Type 0
 IsWaiting program f = IsPlacedAt program f.caller.function f.caller.next × ArePlaced program f.caller.function f.caller.handlers
 
--- The places of the active call and of the waiting calls are in the code.
+-- `IsPlaced` says that the next instructions of the active call and of each waiting call lie in
+-- their functions' code.
 abbrev pub IsPlaced : Program → State → Type 0
 IsPlaced program (Running c) =
     IsPlacedAt program c.active.function c.active.next × ArePlaced program c.active.function c.active.handlers × AllByRecursion (IsWaiting program) c.frames
@@ -82,7 +85,7 @@ return_is_placed : (program : Program) (c : Configuration) (value results : ℕ)
 return_is_placed program c value results [] waiting = tt
 return_is_placed program c value results (f ∷ frames) (first, rest) = (first.0, first.1, rest)
 
--- A store to a waiting call's slot keeps the call's place.
+-- A store to a waiting call's slot leaves the call's next instruction unchanged.
 waiting_written : (program : Program) (frames : List Frame) (address word : ℕ) → AllByRecursion (IsWaiting program) frames → AllByRecursion (IsWaiting program) (with_waiting program frames address word)
 waiting_written program [] address word waiting = tt
 waiting_written program (f ∷ frames) address word (first, rest) = go (slot_at program f.caller address) (waiting_written program frames address word rest)
@@ -98,7 +101,7 @@ module _ (program : Program) (well : IsWellFormed program) (choice : Choice) (c 
   routine : IsRoutine program here
   routine = routine_in program c.active.function well inside
 
-  -- The next place is in the code after an instruction that may fall through.
+  -- After an instruction that may fall through, the index of the next instruction lies in the code.
   following : (i : Instruction) → slice_get here.code c.active.next ≡ Some i → leaves i ≡ false → IsPlacedAt program c.active.function (c.active.next + 1)
   following i at stays = (inside, goes_after program here c.active.next i routine at stays)
 
@@ -218,7 +221,7 @@ module _ (program : Program) (well : IsWellFormed program) (choice : Choice) (c 
   executes (Some i) at = performs i at (All_at (IsInRange program here) here.code c.active.next i routine.instructions at)
   executes None at = tt
 
--- Each step from a place in the code leads to a place in the code.
+-- A step from a state whose next instructions lie in the code leads to another such state.
 pub placed_step : (program : Program) (choice : Choice) (s : State) → IsWellFormed program → IsPlaced program s → IsPlaced program (step program choice s)
 placed_step program choice (Running c) well ((inside, next), handling, waiting) = executes program well choice c inside next handling waiting (instruction_at program (place_of (Running c))) refl
 placed_step program choice (Ended ending output input) well placed = tt
@@ -240,7 +243,7 @@ placed_start program base store input well = ((well.main, has_code program (rout
 running_not_failed : (c : Configuration) → simulation.Running ≡ simulation.Failed → ⊥
 running_not_failed c e = cc
 
--- The reasons why a run gets stuck.
+-- `Stops` lists the four reasons for which a run can get stuck.
 abbrev Stops : Program → State → Type 0
 Stops program s = DividesByZero program s ⊎ (AsksForNoWord program s ⊎ (AsksInVain program s ⊎ AsksForHandlers program s))
 
@@ -250,13 +253,13 @@ divides : (program : Program) (c : Configuration) (operator : BinaryOperator) (d
 divides program c operator destination left right true is at failed = inl (operator, destination, left, right, at, is)
 divides program c operator destination left right false is at failed = absurd (running_not_failed c failed)
 
--- A load or a store gets stuck only if memory has no word at the address.
+-- A load or a store gets stuck only if memory has no word at its address.
 access_stops : (program : Program) (c : Configuration) (i : Instruction) (address : ℕ) (found : Option ℕ) (after : Option ℕ → State) → memory_at program c address ≡ found → instruction_at program (place_of (Running c)) ≡ Some i
     → AsksAt c address i → ((word : ℕ) → status_of (after (Some word)) ≡ simulation.Running) → status_of (after found) ≡ simulation.Failed → Stops program (Running c)
 access_stops program c i address None after is at asks goes failed = inr (inl (i, address, at, asks, is))
 access_stops program c i address (Some word) after is at asks goes failed = absurd (running_not_failed c (sym (goes word) ∙ failed))
 
--- A request gets stuck only if the store refuses it for a reason other than room.
+-- A request gets stuck only if the store refuses it for a reason other than lack of memory.
 asks_stop : (program : Program) (choice : Choice) (c : Configuration) (destination : ℕ) (call : Call) (o : Option Refusal) → refusal c.store call ≡ o → asked program (Running c) ≡ Some call
     → status_of (asks choice.serving c destination call o) ≡ simulation.Failed → Stops program (Running c)
 asks_stop program choice c destination call None is called failed = absurd (running_not_failed c failed)
@@ -321,8 +324,8 @@ fails_placed program choice (Running c) well ((inside, next), handling, waiting)
 fails_placed program choice (Ended ending output input) well placed running failed = absurd (let e : simulation.Ended ending ≡ simulation.Running = running in cc)
 fails_placed program choice (Stuck output input) well placed running failed = absurd (let e : simulation.Failed ≡ simulation.Running = running in cc)
 
--- A run of a well-formed program gets stuck only at a division by 0, an address without a word, a refused request, or an instruction for
--- handlers.
+-- A run of a well-formed program gets stuck only at a division by 0, an access to an address without a word, a refused request, or an
+-- instruction on exception handlers.
 pub few_get_stuck : (program : Program) (pages calls n base : ℕ) (store : StoreState) (input : List ℕ) (old new : State) → IsWellFormed program → Run (machine program pages calls) n (start program base store input) old
     → status_of old ≡ simulation.Running → Step program pages calls old new → status_of new ≡ simulation.Failed → Stops program old
 few_get_stuck program pages calls n base store input old new well run running (choice, allowed, is) failed =

@@ -1,4 +1,4 @@
--- Laws of the plain machine.
+-- General laws of steps and runs of the plain machine.
 use Rattle.std.proofs.Common.{◌≡◌, ℕ, zero, suc, ◌%◌, ◌≤◌, Bool, true, false, List, [], ◌∷◌, ◌++◌, drop, Option, Some, None, refl, sym, ap, subst, ◌∙◌, arith}
 use Rattle.std.specs.Prelude.{◌==◌, nat_le, if◌then◌else◌}
 use Rattle.std.proofs.lemmas.Bool.{le-leb, leb-true, and_from, and_parts}
@@ -25,7 +25,8 @@ use Rattle.cyc_plain.specs.inside.Step.{Choice, IsAllowed, MayServe, MayLie, giv
 use Rattle.cyc_plain.specs.inside.Step.{call_in, call_of, asked, callee_of, called, performed, executed, instruction_at, step, is_within, limit_of, limit_at, limited, limited_step, Step, start, machine}
 use Rattle.cyc_words.proofs.Simulation.{Run-grows, Run-stays}
 
--- An instruction that calls neither a function nor the store, and checks no stack room.
+-- Returns true if an instruction calls neither a function nor the store, and does not check for
+-- stack space.
 abbrev pub calls_nothing : Instruction → Bool
 calls_nothing (instructions.Ask request) = false
 calls_nothing (instructions.Call function arguments count result) = false
@@ -40,7 +41,8 @@ over_within pages calls ending output input = and_from _ _ (le-leb 0 pages (omeg
 pub stuck_within : (pages calls : ℕ) (output input : List ℕ) → is_within pages calls (Stuck output input) ≡ true
 stuck_within pages calls output input = and_from _ _ (le-leb 0 pages (omega arith)) (le-leb 0 calls (omega arith))
 
--- A state within a limit of calls is within any higher one, and no instruction raises the limit.
+-- A state that is within a limit of calls is within every higher limit. No instruction raises the
+-- limit.
 pub within_more : (pages less more : ℕ) (s : State) → less ≤ more → is_within pages less s ≡ true → is_within pages more s ≡ true
 within_more pages less more s over within =
     let (paged, some) = and_parts (nat_le (demand s) pages) (nat_le (depth s) less) within in
@@ -56,19 +58,21 @@ limit_at_most program (Running c) calls = limit_of_most (instruction_at program 
 limit_at_most program (Ended ending output input) calls = omega arith
 limit_at_most program (Stuck output input) calls = omega arith
 
--- An instruction that calls nothing does not lower the limit.
+-- An instruction that calls neither a function nor the store leaves the limit of calls unchanged.
 pub limit_free : (i : Instruction) (calls : ℕ) → calls_nothing i ≡ true → limit_of (Some i) calls ≡ calls
 limit_free (instructions.Enter function) calls free = absurd (let e : false ≡ true = free in cc)
 limit_free i calls free = refl
 
--- A step within the limits is the step without limits, and any other step ends the run.
+-- A step to a state within the limits is the step without limits. A step to any other state ends
+-- the run instead.
 pub limited-within : (pages calls : ℕ) (old new : State) → is_within pages calls new ≡ true → limited pages calls old new ≡ new
 limited-within pages calls old new within = ap (λ (b : Bool). if b then new else Ended Full (output_of old) (input_of old)) within
 
 pub limited-full : (pages calls : ℕ) (old new : State) → is_within pages calls new ≡ false → limited pages calls old new ≡ Ended Full (output_of old) (input_of old)
 limited-full pages calls old new within = ap (λ (b : Bool). if b then new else Ended Full (output_of old) (input_of old)) within
 
--- A property of the step and of the ended state holds for the step with limits.
+-- A property holds after a limited step if it holds after the step without limits and in the state
+-- that ends the run.
 pub limited_either : (P : State → Type 0) (pages calls : ℕ) (old new : State) → (is_within pages calls new ≡ true → P new) → P (Ended Full (output_of old) (input_of old)) → P (limited pages calls old new)
 limited_either P pages calls old new first second = go (is_within pages calls new) refl
   where
@@ -82,7 +86,8 @@ pub if_either : (P : State → Type 0) (b : Bool) (s t : State) → P s → P t 
 if_either P true s t first second = first
 if_either P false s t first second = second
 
--- An instruction that prints nothing keeps the output, and the remaining input is a rest of the former one.
+-- An instruction that prints nothing leaves the output unchanged, and the remaining input is a suffix of
+-- the input before.
 abbrev Shrinks : List ℕ → List ℕ → Type 0
 Shrinks old new = (read : List ℕ) × (old ≡ read ++ new)
 
@@ -215,7 +220,8 @@ limited_steps program pages calls old new (choice, allowed, is) =
 
 -- ---- ended runs
 
--- A choice of zeros, which will do for a step that calls nothing.
+-- Returns a choice of zeros, which is allowed for a step that calls neither a function nor the
+-- store.
 abbrev pub zeros : Choice
 zeros = record {
   contents = λ (slot : ℕ). 0;
@@ -231,7 +237,7 @@ lies_none : (program : Program) (base : ℕ) (callee : Option ℕ) (s : State) �
 lies_none program base None s none = tt
 lies_none program base (Some function) s none = absurd (let e : Some function ≡ None = none in cc)
 
--- An instruction that calls no function is allowed whatever address is chosen for a new call.
+-- An instruction that calls no function allows any choice of the address of a new call.
 pub lies_at : (program : Program) (c : Configuration) (i : Instruction) (base : ℕ) → instruction_at program (place_of (Running c)) ≡ Some i → callee_of (Some i) ≡ None
     → MayLie program base (called program (Running c)) (Running c)
 lies_at program c i base at free = lies_none program base (called program (Running c)) (Running c) (ap callee_of at ∙ free)
@@ -255,7 +261,7 @@ callee_none i free = refl
 pub zeros_at : (program : Program) (c : Configuration) (i : Instruction) → instruction_at program (place_of (Running c)) ≡ Some i → calls_nothing i ≡ true → IsAllowed program (Running c) zeros
 zeros_at program c i at free = zeros_allowed program (Running c) (ap (call_of c.active.slots) at ∙ asks_none c.active.slots i free) (ap callee_of at ∙ callee_none i free)
 
--- A state that has ended makes no request.
+-- A state that has ended makes no request to the store.
 over_asks : (program : Program) (s : State) (ending : Ending) → status_of s ≡ simulation.Ended ending → asked program s ≡ None
 over_asks program (Running c) ending ended = absurd (let e : simulation.Running ≡ simulation.Ended ending = ended in cc)
 over_asks program (Ended other output input) ending ended = refl
@@ -266,11 +272,11 @@ over_calls program (Running c) ending ended = absurd (let e : simulation.Running
 over_calls program (Ended other output input) ending ended = refl
 over_calls program (Stuck output input) ending ended = refl
 
--- A refused request allows any choice of the store.
+-- If the store refuses a request, any choice of the store is allowed.
 refused_serves : (serving : services.Choice) (call : Call) (why : Refusal) (c : Configuration) → refusal c.store call ≡ Some why → MayServe serving (Some call) (Running c)
 refused_serves serving call why c refused none = absurd (let e : Some why ≡ None = sym refused ∙ none in cc)
 
--- An instruction that makes a request calls no function.
+-- An instruction that makes a request to the store calls no function.
 asking_calls : (slots : Words) (o : Option Instruction) (call : Call) → call_of slots o ≡ Some call → callee_of o ≡ None
 asking_calls slots None call asks = refl
 asking_calls slots (Some (instructions.Call function arguments count result)) call asks = absurd (let e : None ≡ Some call = asks in cc)
@@ -284,13 +290,14 @@ zeros_refused program c call why asks refused = record {
   serves = subst (λ (o : Option Call). MayServe zeros.serving o (Running c)) (sym asks) (refused_serves zeros.serving call why c refused);
 }
 
--- An instruction that calls a function makes no request.
+-- An instruction that calls a function makes no request to the store.
 calling_asks : (slots : Words) (o : Option Instruction) (function : ℕ) → callee_of o ≡ Some function → call_of slots o ≡ None
 calling_asks slots None function calls = refl
 calling_asks slots (Some (instructions.Ask request)) function calls = absurd (let e : None ≡ Some function = calls in cc)
 calling_asks slots (Some i) function calls = refl
 
--- A call of a function is allowed at any address with room for its slots.
+-- A call of a function allows the choice of any address below the caller's slots with space for the
+-- callee's slots.
 pub called_at : (program : Program) (c : Configuration) (function : ℕ) (choice : Choice) → called program (Running c) ≡ Some function → AreWords choice.contents
     → IsBelow program function choice.base c.active.base → IsAllowed program (Running c) choice
 called_at program c function choice calls contents below = record {
@@ -323,7 +330,8 @@ output_grows program pages calls n old new run = (Run-grows (machine program pag
 pub input_shrinks : (program : Program) (pages calls n : ℕ) (old new : State) → Run (machine program pages calls) n old new → (read : List ℕ) × (input_of old ≡ read ++ input_of new)
 input_shrinks program pages calls n old new run = (Run-grows (machine program pages calls) (lawful program pages calls) n old new run).1
 
--- A step exists if the instruction calls no function, if the callee has room, or if the store refuses the request.
+-- A step exists if the instruction calls no function and makes no request, if the stack has space for the callee's
+-- slots, or if the store refuses the request.
 pub goes_on : (program : Program) (pages calls : ℕ) (old : State) → asked program old ≡ None → called program old ≡ None → (new : State) × Step program pages calls old new
 goes_on program pages calls old none nobody = (limited_step program pages calls zeros old, (zeros, zeros_allowed program old none nobody, refl))
 
@@ -338,7 +346,7 @@ pub goes_on_refused : (program : Program) (pages calls : ℕ) (c : Configuration
 goes_on_refused program pages calls c call why asks refused =
     (limited_step program pages calls zeros (Running c), (zeros, zeros_refused program c call why asks refused, refl))
 
--- A run that starts within its limits stays within them.
+-- A run that starts within its limits of pages and calls stays within them.
 pub stays_within : (program : Program) (pages calls n : ℕ) (old new : State) → is_within pages calls old ≡ true → Run (machine program pages calls) n old new → is_within pages calls new ≡ true
 stays_within program pages calls zero old new within run = ap (is_within pages calls) run ∙ within
 stays_within program pages calls (suc n) old new within (mid, (choice, allowed, is), rest) =

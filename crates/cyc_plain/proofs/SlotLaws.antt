@@ -1,4 +1,4 @@
--- The contents of slots after one or several words are written to the slots.
+-- The contents of slots after one word or several words are written.
 use Rattle.std.proofs.Common.{◌≡◌, ◌≢◌, ℕ, ◌+◌, ◌-◌, ◌≤◌, ◌<◌, Bool, true, false, ◌&&◌, refl, ap, ◌∙◌, arith}
 use Rattle.std.specs.Prelude.{◌==◌, nat_le, nat_lt, if◌then◌else◌}
 use Rattle.std.proofs.lemmas.Bool.{eq-eqb, le-leb, lt-ltb, and_from, and_left, and_right, false_from_ne_true, eqb-true, ltb-true, leb-true}
@@ -14,7 +14,7 @@ pub put-other : (words : Words) (number other word : ℕ) → other ≢ number �
 put-other words number other word apart =
     chosen_alike (other == number) false word (words other) (false_from_ne_true (other == number) (λ h. apart (eqb-true other number h)))
 
--- A copied word is at its destination.
+-- After words are copied between slots, each destination slot contains the word of its source slot.
 pub copied-inside : (from to : Words) (source count destination k : ℕ) → k < count → copied from source count to destination (destination + k) ≡ from (source + k)
 copied-inside from to source count destination k below =
     let inside : (nat_le destination (destination + k) && nat_lt (destination + k) (destination + count)) ≡ true =

@@ -1,4 +1,4 @@
--- Steps of the plain machine whose instruction is known.
+-- The effect of a step of the plain machine whose instruction is known.
 use Rattle.std.proofs.Common.{◌≡◌, ℕ, zero, suc, ◌+◌, ◌<◌, true, List, [], ◌∷◌, length, map, Option, Some, None, slice_get, sym, ap, subst, ◌∙◌, arith, inl, inr}
 use Rattle.std.specs.Prelude.{Contains}
 use Rattle.std.proofs.lemmas.Bool.{cases_lt}
@@ -20,7 +20,8 @@ use Rattle.cyc_plain.specs.inside.State.{Configuration, State, Running, Ended, p
 use Rattle.cyc_plain.specs.inside.Step.{Choice, IsAllowed, IsServed, MayServe, call_in, call_of, served_to, asks, performed, executed, instruction_at, step, is_within, limit_of, limit_at, limited, limited_step, Step}
 use Rattle.cyc_plain.proofs.RunLaws.{limited-within, over_within}
 
--- If the instruction is known and its effect is within the limits, a step has that effect.
+-- If the instruction is known and its effect is within the limits for every choice, each step has
+-- this effect.
 pub step_performs : (program : Program) (pages calls : ℕ) (c : Configuration) (i : Instruction) (new : State)
     → instruction_at program (place_of (Running c)) ≡ Some i
     → ((choice : Choice) → is_within pages (limit_of (Some i) calls) (performed program choice c i) ≡ true)
@@ -32,7 +33,8 @@ step_performs program pages calls c i new at within (choice, allowed, is) =
     let limit : limit_at program (Running c) calls ≡ limit_of (Some i) calls = ap (λ (o : Option Instruction). limit_of o calls) at in
     (choice, allowed, is ∙ ap (λ (n : ℕ). limited pages n (Running c) (step program choice (Running c))) limit ∙ limited-within pages (limit_of (Some i) calls) (Running c) (step program choice (Running c)) keeps ∙ does)
 
--- A step that makes a request serves it by a choice that the store allows, or ends the run for lack of room.
+-- The module shows that a step with a request to the store serves it by a choice that the store allows, or
+-- ends the run if memory is lacking.
 module _ (program : Program) (pages calls : ℕ) (c : Configuration) (request : Request) (new : State)
     (at : instruction_at program (place_of (Running c)) ≡ Some (instructions.Ask request)) (stepped : Step program pages calls (Running c) new) where
   abbrev call : Call
@@ -61,7 +63,7 @@ module _ (program : Program) (pages calls : ℕ) (c : Configuration) (request : 
       let keeps : is_within pages calls (step program choice (Running c)) ≡ true = ap (is_within pages calls) does ∙ over_within pages calls Full c.output c.input in
       stepped.2 ∙ same_limit choice ∙ limited-within pages calls (Running c) (step program choice (Running c)) keeps ∙ does
 
--- An instruction belongs to an existing function.
+-- If a code position has an instruction, its function exists in the program.
 pub function_known : (program : Program) (place : CodePlace) (i : Instruction) → instruction_at program place ≡ Some i → place.function < length program.functions
 function_known program place i at = elim (cases_lt place.function (length program.functions)) [
   | inl below ↦ below
@@ -91,7 +93,7 @@ in_functions first (suc k) i (s ∷ routines) r at below =
     Contains-append_right _ (places_from (suc first) routines) _
     (subst (λ (f : ℕ). Contains (places_from (suc first) routines) (record { function = f; index = i })) next (in_functions (suc first) k i routines r at below))
 
--- The place of an instruction is among the program's places.
+-- Each code position with an instruction is among the positions that `places_of` lists.
 pub place_known : (program : Program) (place : CodePlace) (i : Instruction) → instruction_at program place ≡ Some i → Contains (places_of program) place
 place_known program place i at =
     let known = slice_get-get_or program.functions place.function no_routine (function_known program place i at) in

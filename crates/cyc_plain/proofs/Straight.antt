@@ -1,4 +1,5 @@
--- Straight-line code runs to the configuration that it determines, and visits no place twice.
+-- Straight-line code runs to the configuration that the code determines, and executes no
+-- instruction twice.
 use Rattle.std.proofs.Common.{◌≡◌, ◌≢◌, ℕ, zero, suc, ◌+◌, ◌<◌, true, false, List, [], ◌∷◌, ◌++◌, length, Some, slice_get, refl, sym, ap, subst, ◌∙◌, arith, length-append, append_assoc}
 use Rattle.std.specs.List.{AllByRecursion}
 use Rattle.cyc_words.specs.Distinct.{IsDistinct}
@@ -39,20 +40,21 @@ has_from front (i ∷ code) =
           (subst (λ l. HasAt l (length (front ++ i ∷ [])) code) (append_assoc front (i ∷ []) code) (has_from (front ++ i ∷ []) code)),
     )
 
--- Every code contains the whole code at index 0.
+-- Every code contains itself at index 0.
 pub has_whole : (code : List Instruction) → HasAt code 0 code
 has_whole code = has_from [] code
 
 -- ---- one instruction
 
--- The parts of a configuration that a straight-line instruction keeps.
+-- `Keeps` says that a straight-line instruction leaves everything unchanged except slots, globals
+-- and memory, and advances to the next instruction.
 record Keeps (c d : Configuration) : Type 0 where
   pub function : d.active.function ≡ c.active.function
   pub next : d.active.next ≡ c.active.next + 1
   pub frames : d.frames ≡ c.frames
   pub store : d.store ≡ c.store
 
--- A straight-line instruction leads to one configuration, for every choice.
+-- `IsOne` says that a straight-line instruction leads to the same configuration for every choice.
 record IsOne (program : Program) (choice : Choice) (c : Configuration) (i : Instruction) : Type 0 where
   pub gives : (other : Choice) → performed program other c i ≡ Running (configuration_or (performed program choice c i) c)
   pub keeps : Keeps c (configuration_or (performed program choice c i) c)
@@ -80,7 +82,7 @@ is_one program choice c i straight = absurd (let e : false ≡ true = straight i
 abbrev place_at : (function index : ℕ) → CodePlace
 place_at function index = record { function = function; index = index }
 
--- A place before a range of places differs from each place in the range.
+-- A code position before a range of positions differs from each position in the range.
 greater : (function index first count : ℕ) → index < first → AllByRecursion (λ p. place_at function index ≢ p) (places_after function first count)
 greater function index first zero less = tt
 greater function index first (suc count) less =
@@ -116,12 +118,14 @@ module _ (program : Program) (pages calls : ℕ) (choice : Choice) where
   places_same c d count k =
       ap (λ f. places_after f d.active.next count) k.function ∙ ap (λ n. places_after c.active.function n count) k.next
 
-  -- A straight-line instruction checks no stack room.
+  -- A straight-line instruction does not check for stack space, so it leaves the limit of calls
+  -- unchanged.
   no_more : (i : Instruction) → is_straight i ≡ true → limit_of (Some i) calls ≡ calls
   no_more (instructions.Enter function) straight = absurd (let e : false ≡ true = straight in cc)
   no_more i straight = refl
 
-  -- A step leads to the configuration that the instruction determines.
+  -- A step with a straight-line instruction leads to the configuration that the instruction
+  -- determines.
   goes : (c : Configuration) (i : Instruction) (new : State) → is_straight i ≡ true → At (routine_at program c.active.function).code c.active.next i → IsWithin c
       → Step program pages calls (Running c) new → new ≡ Running (after c i)
   goes c i new straight at within step =
@@ -129,7 +133,7 @@ module _ (program : Program) (pages calls : ℕ) (choice : Choice) where
       let (other, allowed, is) = step_performs program pages calls c i new at (λ x. ap (λ (n : ℕ). is_within pages n (performed program x c i)) (no_more i straight) ∙ ap (is_within pages calls) (one.gives x) ∙ same_limits c (after c i) one.keeps ∙ within) step in
       is ∙ one.gives other
 
-  -- Each run through straight-line code reaches the configuration that it determines.
+  -- Each run through straight-line code reaches the configuration that the code determines.
   pub runs : (is : List Instruction) (c : Configuration) (new : State) → AreStraight is → Stands c is → IsWithin c
       → Path (machine program pages calls) (places_after c.active.function c.active.next (length is)) (Running c) new → new ≡ Running (executed_in program choice c is)
   runs [] c new straight has within path = path

@@ -1,4 +1,5 @@
--- Steps of the machine with equal limits of calls at each instruction. A program without `Enter` has the same steps on both machines.
+-- On the uniform machine, the limit of calls is the same at each instruction. A program without `Enter` has the same steps on the
+-- uniform machine and on the plain machine.
 use Rattle.std.proofs.Common.{◌≡◌, ℕ, true, List, [], ◌∷◌, Option, Some, None, refl, sym, ap, subst, ◌∙◌, inl, inr}
 use Rattle.std.specs.Prelude.{◌⊎◌}
 use Rattle.cyc_words.specs.Ending.{Full}
@@ -16,7 +17,8 @@ use Rattle.cyc_plain.specs.inside.Step.{Choice, IsAllowed, IsServed, MayServe, c
 use Rattle.cyc_plain.specs.inside.Uniform.{AsksNoRoom, UniformStep, uniform_machine}
 use Rattle.cyc_plain.proofs.RunLaws.{limited-within, over_within, lawful}
 
--- If the instruction is known and its effect is within the limits, a step has that effect.
+-- On the uniform machine, if the instruction is known and its effect is within the limits for every
+-- choice, each step has this effect.
 pub uniform_performs : (program : Program) (pages calls : ℕ) (c : Configuration) (i : Instruction) (new : State)
     → instruction_at program (place_of (Running c)) ≡ Some i
     → ((choice : Choice) → is_within pages calls (performed program choice c i) ≡ true)
@@ -27,7 +29,8 @@ uniform_performs program pages calls c i new at within (choice, allowed, is) =
     let keeps : is_within pages calls (step program choice (Running c)) ≡ true = ap (is_within pages calls) does ∙ within choice in
     (choice, allowed, is ∙ limited-within pages calls (Running c) (step program choice (Running c)) keeps ∙ does)
 
--- A step that makes a request serves it by a choice that the store allows, or ends the run for lack of room.
+-- The module shows that a step of the uniform machine with a request serves it by a choice that the store
+-- allows, or ends the run if memory is lacking.
 module _ (program : Program) (pages calls : ℕ) (c : Configuration) (request : Request) (new : State)
     (at : instruction_at program (place_of (Running c)) ≡ Some (instructions.Ask request)) (stepped : UniformStep program pages calls (Running c) new) where
   abbrev call : Call
@@ -87,6 +90,7 @@ module _ (program : Program) (none : AsksNoRoom program) (pages calls : ℕ) whe
     way met now (inl u) = inl (record { places = u.places; state = u.state; path = u.path; running = u.running; goes_on = u.goes_on; ahead = u.ahead; following = u.following; cost = u.cost })
     way met now (inr o) = inr (record { places = o.places; state = o.state; path = o.path; ending = o.ending; ended = o.ended; over = o.over; seen = o.seen })
 
-    -- A simulation proved for the machine with uniform limits holds for the program's own machine.
+    -- A simulation proved for the machine with uniform limits of calls also holds for the plain
+    -- machine itself.
     pub follows_uniform : Follows above (uniform_machine program pages calls) before own start from → Follows above (machine program pages calls) before own start from
     follows_uniform f = record { runs = λ met now path. way met now (f.runs met now (path_uniform met from now path)) }

@@ -1,4 +1,4 @@
--- Every value in a run is a word.
+-- Every value in a run of a plain program is a machine word.
 use Rattle.std.proofs.Common.{◌≡◌, ℕ, zero, suc, ◌+◌, ◌-◌, ◌*◌, ◌%◌, ◌^◌, ◌<◌, Bool, true, false, not, ◌&&◌, List, [], ◌∷◌, length, drop, Option, Some, None, slice_get, refl, sym, subst, arith, inl, inr}
 use Rattle.std.specs.Prelude.{◌==◌, if◌then◌else◌, nat_le, nat_lt, int_le, slice_index, unwrap_or}
 use Rattle.std.specs.List.{AllByRecursion}
@@ -110,7 +110,7 @@ or_word : (number : Option ℕ) (words : Words) (other : Option ℕ) → AreWord
 or_word (Some number) words other all rest = all number
 or_word None words other all rest = rest
 
--- A slot of a waiting call that is read or written holds a word.
+-- A load from a slot of a waiting call reads a machine word.
 waiting_word : (program : Program) (frames : List Frame) (address : ℕ) → AreFrames frames → AreWordsOf (word_waiting program frames address)
 waiting_word program [] address all = tt
 waiting_word program (f ∷ frames) address (first, rest) =
@@ -140,7 +140,7 @@ module _ (program : Program) (choice : Choice) (allowed : AreWords choice.conten
   returned value results [] all = tt
   returned value results (f ∷ waiting) (first, rest) = (copied_words c.active.slots f.caller.slots value results f.result slots first, rest, globals, store, input)
 
-  -- A load finds a word: of the store, of a global, or of a slot.
+  -- A load reads a machine word, from the store, from a global or from a slot.
   stored_word : (address : ℕ) (aligned : Bool) (found : Option Holder) → AreWordsOf (if aligned then stores.word_in found c.store.memory address else None)
   stored_word address false found = tt
   stored_word address true None = tt
@@ -281,7 +281,8 @@ words_step program choice (Running c) words allowed (slots, frames, globals, sto
 words_step program choice (Ended ending output input) words allowed holds = tt
 words_step program choice (Stuck output input) words allowed holds = tt
 
--- Every value in a run is a word.
+-- If the program, the store and the input contain only machine words, every value in a run is a
+-- machine word.
 pub words_stay : (program : Program) (pages calls n : ℕ) (old new : State) → HasWords program → HoldsWords old → Run (machine program pages calls) n old new → HoldsWords new
 words_stay program pages calls zero old new words holds run = subst HoldsWords (sym run) holds
 words_stay program pages calls (suc n) old new words holds (mid, (choice, allowed, is), rest) =

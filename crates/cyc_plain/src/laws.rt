@@ -1,5 +1,5 @@
-//! Laws of the definitions in `specs/`. Each function of this file is empty, and its contract states one law, which is proved with the
-//! crate. The lemmas that other proofs cite are in `proofs/`.
+//! Laws of the definitions in `specs/`. Each function of this file is empty, and the function's contract states one law, which is
+//! proved with the crate. The lemmas that other proofs cite are in `proofs/`.
 
 ghost use Rattle.std.specs.Prelude.{◌≡◌, ◌≢◌, ◌⊎◌, ℕ, ◌+◌, ◌*◌, ◌<◌, ◌≤◌, List, length, ◌++◌, true, false, Some, None, slice_get, Contains};
 ghost use Rattle.std.specs.List.{AllByRecursion};
@@ -29,13 +29,13 @@ ghost use Rattle.cyc_plain.specs.inside.Straight.{HasAt, AreStraight, executed_i
 ghost use Rattle.cyc_plain.specs.inside.Uniform.{AsksNoRoom, UniformStep};
 ghost use Rattle.cyc_plain.specs.inside.WellFormed.{IsWellFormed, HasWords, DividesByZero, AsksForNoWord, AsksInVain, AsksForHandlers};
 
-/// A run that has ended stays as it is.
+/// A run of a plain program that has ended stays in its state.
 pub fn ended_stays()
     ensures { (program : Program) (pages calls count : ℕ) (old new : State) (ending : Ending) → status_of old ≡ simulation.Ended ending
         → Run (machine program pages calls) count old new → new ≡ old }
 {}
 
-/// Output only grows, and input is consumed from its front.
+/// In a run of a plain program, output only grows, and input is consumed from its front.
 pub fn output_grows()
     ensures output { (program : Program) (pages calls count : ℕ) (old new : State) → Run (machine program pages calls) count old new
         → IsPrefix (output_of old) (output_of new) }
@@ -43,8 +43,9 @@ pub fn output_grows()
         → (read : List ℕ) × (input_of old ≡ read ++ input_of new) }
 {}
 
-/// From every state there is a step unless the instruction calls a function without room for its slots or makes a request that the store
-/// serves. (For such a request the relation describes the allowed choices, and the store promises that one exists.)
+/// From every state there is a step, with two exceptions: the instruction calls a function and the stack has no space for its slots, or
+/// it makes a request that the store serves. (For a request, the relation describes the allowed choices, and the store promises that one
+/// exists.)
 pub fn steps_go_on()
     ensures free { (program : Program) (pages calls : ℕ) (old : State) → asked program old ≡ None → called program old ≡ None
         → (new : State) × Step program pages calls old new }
@@ -55,8 +56,8 @@ pub fn steps_go_on()
         → (new : State) × Step program pages calls (state.Running c) new }
 {}
 
-/// Every state of a limited run is within the limits. A step within them is the program's own step; any other step ends the run with
-/// `Full`, with output and input as before it. For `Enter` the limit of calls is one less.
+/// Every state of a limited run is within the limits. A step to a state within the limits is the program's own step; any other step
+/// ends the run with `Full`, and output and input are as before this step. For `Enter` the limit of calls is one less.
 pub fn limits_are_kept()
     ensures starts { (program : Program) (pages calls base : ℕ) (store : StoreState) (input : List ℕ) → IsNew pages store → 1 ≤ pages → 1 ≤ calls
         → is_within pages calls (start program base store input) ≡ true }
@@ -70,7 +71,8 @@ pub fn limits_are_kept()
         → limited_step program pages calls choice old ≡ state.Ended Full (output_of old) (input_of old) }
 {}
 
-/// `Enter` continues without further effect if one more call is allowed, and else ends the run, exactly when a call of the function would.
+/// `Enter` continues without further effect if one more call is allowed; otherwise `Enter` ends the run, exactly when a call of the
+/// function would.
 pub fn room_is_asked()
     ensures room { (program : Program) (pages calls : ℕ) (c : Configuration) (function : ℕ) (new : State)
         → instruction_at program (place_of (state.Running c)) ≡ Some (instructions.Enter function)
@@ -85,7 +87,8 @@ pub fn room_is_asked()
         ≡ is_within pages calls (performed program other c (instructions.Call function arguments count result)) }
 {}
 
-/// A program without `Enter` has the same steps as on the machine with the same limits at each instruction.
+/// A program without `Enter` has the same steps as on the machine whose limit of calls is the same at each
+/// instruction.
 pub fn room_is_not_asked()
     ensures uniform { (program : Program) (pages calls : ℕ) (old new : State) → AsksNoRoom program
         → Step program pages calls old new → UniformStep program pages calls old new }
@@ -93,8 +96,8 @@ pub fn room_is_not_asked()
         → UniformStep program pages calls old new → Step program pages calls old new }
 {}
 
-/// A request that the store does not refuse is served by a choice that it allows, and the run continues with the result. If there is no
-/// room, the run ends.
+/// A request that the store does not refuse is served by a choice that the store allows, and the run continues with the result. If
+/// memory is lacking, the run ends.
 pub fn calls_are_served()
     ensures served { (program : Program) (pages calls : ℕ) (c : Configuration) (request : Request) (new : State)
         → instruction_at program (place_of (state.Running c)) ≡ Some (instructions.Ask request)
@@ -111,7 +114,7 @@ pub fn calls_are_served()
 {}
 
 /// A run of a well-formed program gets stuck only in four cases. The program divides by 0, accesses an address without a word, or makes a
-/// request that the store refuses for a reason other than room. A program also gets stuck if its instruction closes a handler, throws, or
+/// request that the store refuses for a reason other than lack of memory. In the fourth case, an instruction closes a handler, throws, or
 /// returns from a function with handlers.
 pub fn few_get_stuck()
     ensures { (program : Program) (pages calls count base : ℕ) (store : StoreState) (input : List ℕ) (old new : State) → IsWellFormed program
@@ -120,21 +123,23 @@ pub fn few_get_stuck()
         → DividesByZero program old ⊎ (AsksForNoWord program old ⊎ (AsksInVain program old ⊎ AsksForHandlers program old)) }
 {}
 
-/// If the numbers of a program, its store and its input are words and bytes, every value in its runs is a word.
+/// If all numbers of a program, its store and its input are machine words and bytes, every value in a run of
+/// the program is a machine word.
 pub fn values_are_words()
     ensures { (program : Program) (pages calls count base : ℕ) (store : StoreState) (input : List ℕ) (new : State) → HasWords program
         → stores.AreWords store.memory → AllByRecursion (λ b. b < 256) input → Run (machine program pages calls) count (start program base store input) new
         → HoldsWords new }
 {}
 
-/// In each state of a run, the slots of each call lie below those of its caller, if those of `main` lie in the range of slots.
+/// In each state of a run, the slots of each call lie below those of its caller, if the slots of `main` lie in the range of
+/// slots.
 pub fn calls_lie_apart()
     ensures { (program : Program) (pages calls count base : ℕ) (store : StoreState) (input : List ℕ) (new : State)
         → IsBelow program program.main base slots_end → Run (machine program pages calls) count (start program base store input) new → LieBelow program new }
 {}
 
-/// Each word of memory is found at its address: globals, words of the store, and the slots of active and waiting calls whose address is
-/// taken.
+/// Loads and stores access each word of memory at its address: globals, words of the store, and the slots of active and waiting calls
+/// whose address is taken.
 pub fn words_have_addresses()
     ensures global { (program : Program) (c : Configuration) (number : ℕ) → IsWellFormed program → number < length program.globals
         → memory_at program c (GLOBALS_BASE + 4 * number) ≡ Some (c.globals number) }
@@ -148,13 +153,14 @@ pub fn words_have_addresses()
         → memory_at program c (f.caller.base + 4 * slot) ≡ Some (f.caller.slots slot) }
 {}
 
-/// The place of each instruction is among the program's places.
+/// The code position of each instruction is among the program's listed positions.
 pub fn places_are_listed()
     ensures { (program : Program) (place : CodePlace) (i : Instruction) → instruction_at program place ≡ Some i
         → Contains (places_of program) place }
 {}
 
-/// Each run through straight-line code reaches the configuration that the code determines, for every choice, and visits no place twice.
+/// Each run through straight-line code reaches the configuration that the code determines, for every choice, and executes no
+/// instruction twice.
 pub fn straight_code_runs()
     ensures runs { (program : Program) (pages calls : ℕ) (choice : Choice) (is : List Instruction) (c : Configuration) (new : State) → AreStraight is
         → HasAt (routine_at program c.active.function).code c.active.next is → is_within pages calls (state.Running c) ≡ true
@@ -163,7 +169,7 @@ pub fn straight_code_runs()
     ensures distinct { (function index count : ℕ) → IsDistinct (places_after function index count) }
 {}
 
-/// A slot holds the word last written or copied to it.
+/// A slot contains the word that was last written or copied to it.
 pub fn slots_hold()
     ensures same { (words : Words) (number word : ℕ) → put words number word number ≡ word }
     ensures other { (words : Words) (number other word : ℕ) → other ≢ number → put words number word other ≡ words other }

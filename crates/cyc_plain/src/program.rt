@@ -7,24 +7,24 @@ use crate::instruction::Instruction;
 use cyc_words::Span;
 use std::marker::Model;
 
-/// A function. A function's first slots are its parameters.
+/// A function of a plain program. The first slots of a function are its parameters.
 #[derive(Drop)]
 pub struct Function {
     /// The position of the function's name in the source.
     pub name: Span,
-    /// The number of parameter words.
+    /// The number of the function's parameter words.
     pub parameters: usize,
-    /// The number of result words.
+    /// The number of the function's result words.
     pub results: usize,
-    /// The number of slots.
+    /// The number of the function's slots.
     pub slots: usize,
-    /// The most words of the function's frame.
+    /// The most words that the function's stack frame may have.
     pub frame_count: usize,
     pub code: Vec<Instruction>,
 }
 
-/// A plain program. A plain program is well-formed, its numbers are words, and its code is not too large. The code that constructs a
-/// `Plain` proves this, and every user may rely on it.
+/// A plain program is well-formed, its numbers are words, and the size of its code is within the limit. The code that constructs a
+/// `Plain` proves this invariant, and every user may rely on it.
 #[derive(Drop)]
 pub struct Plain {
     functions: Vec<Function>,
@@ -32,7 +32,7 @@ pub struct Plain {
     main: usize,
 }
 
-/// The parts of a plain program.
+/// The parts of a plain program: its functions, its globals and the number of `main`.
 #[derive(Drop)]
 pub struct Parts {
     pub functions: Vec<Function>,
@@ -52,7 +52,8 @@ impl Model for Plain {
 }
 
 impl Plain {
-    /// Returns the program with these functions, the initial word of each global, and the number of the function that is called first.
+    /// Returns the plain program with these functions, the initial words of its globals, and the number of the function that is called
+    /// first.
     pub fn new(functions: Vec<Function>, globals: Vec<u32>, main: usize) -> Plain
         requires { IsPlain (program_of functions.items globals.items main) }
         ensures { result ≡ program_of functions.items globals.items main }
@@ -64,7 +65,7 @@ impl Plain {
         }
     }
 
-    /// Returns the parts of the program, from which a pass builds another one.
+    /// Returns the parts of a plain program, from which a pass builds another program.
     pub fn into_parts(self) -> Parts
         ensures value { program_of result.functions.items result.globals.items result.main ≡ self }
         ensures plain { IsPlain self }
@@ -76,7 +77,7 @@ impl Plain {
         }
     }
 
-    /// Returns the functions, in the order of their numbers.
+    /// Returns the functions of the program, in the order of their numbers.
     pub fn functions(&self) -> &[Function]
         ensures value { map routine_of result.now ≡ self.now.functions }
         ensures plain { IsPlain self.now }
@@ -84,7 +85,7 @@ impl Plain {
         &self.functions
     }
 
-    /// Returns the function of this number.
+    /// Returns the function with this number.
     pub fn function(&self, number: usize) -> &Function
         requires { number < length self.now.functions }
         ensures { routine_of result.now ≡ routine_at self.now number }
@@ -108,7 +109,8 @@ impl Plain {
     }
 }
 
-/// Returns true if a program is well-formed. Every `Plain` is, by its invariant.
+/// Returns true if a program is well-formed, which the invariant of `Plain` implies for every
+/// program.
 pub fn well_formed(program: &Plain) -> bool
     ensures { IsTrue result ↔ IsWellFormed program.now }
 {

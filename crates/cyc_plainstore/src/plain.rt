@@ -1,4 +1,4 @@
-//! A store on an array of words, which grows by pages.
+//! A heap store on an array of words, which grows by pages.
 
 ghost use Rattle.std.specs.Prelude.{◌≡◌, ◌≢◌, ◌+◌, ◌*◌, ◌%◌, ◌^◌, ◌<◌, ◌≤◌, ◌⊎◌, IfErr, IfOk, IsTrue, MatchOption, OnErr, OnOk, true, false, None};
 ghost use Rattle.std.specs.Prelude.{Some, length, is_some};
@@ -19,7 +19,8 @@ use cyc_store::{
 use std::alloc::{AllocError, Global};
 use std::marker::Model;
 
-/// A store on an array of words, which grows by pages. The store allocates memory for a page only when the page is used.
+/// A heap store on an array of words, which grows by pages. The store allocates memory for a page only when the page is
+/// used.
 #[derive(Drop)]
 pub struct PlainStore {
     table: PageTable,
@@ -42,7 +43,8 @@ impl Model for PlainStore {
     ghost invariant = { λ s. IsKept s.table s.lexicals.items s.classes s.ledger.blocks };
 }
 
-/// Returns the number of the word at an address, if it is among the store's first `count` words.
+/// Returns the index of the word at an address, if the word is among the store's first `count`
+/// words.
 #[inline]
 fn number_below(count: usize, address: u32) -> Option<usize>
     requires { count ≤ 0x400_0000 }
@@ -59,7 +61,7 @@ fn number_below(count: usize, address: u32) -> Option<usize>
     Some(word)
 }
 
-/// Returns the first free slot of a class, and the remaining free slots.
+/// Returns the first free slot of a size class, and the slots that remain free.
 #[inline]
 fn next_slot(slots: ClassSlots, words: &Vec<u32>, class: u32) -> (u32, ClassSlots)
     requires class { class ≤ 10 }
@@ -85,7 +87,7 @@ fn next_slot(slots: ClassSlots, words: &Vec<u32>, class: u32) -> (u32, ClassSlot
 }
 
 impl PlainStore {
-    /// Returns a new store of `pages` pages, in which only the heap is open.
+    /// Returns a new store with `pages` pages, in which only the heap region is open.
     pub fn new(alloc: Global, pages: u32) -> Result<PlainStore, AllocError>
         requires least { LEAST_PAGES ≤ pages }
         requires most { pages ≤ MOST_PAGES }
@@ -113,7 +115,8 @@ impl PlainStore {
         })
     }
 
-    /// Law: the blocks lie in pages, so there is an address for each call within demand, by [`choices_exist`].
+    /// Law: the blocks of the store lie within pages. Because blocks lie within pages, each permitted call can
+    /// choose an address, by [`choices_exist`].
     ///
     /// [`choices_exist`]: cyc_store::runs::choices_exist
     pub fn lies_in_pages(&self)
@@ -136,7 +139,7 @@ impl PlainStore {
         self.table.live[word]
     }
 
-    /// Returns the number of the word with this address, if it belongs to a live block.
+    /// Returns the index of the word at an address, if the word belongs to a live block.
     #[inline]
     fn word_of(&self, address: u32) -> Option<usize>
         ensures { MatchOption result (word_at (held_of self.now) address ≡ None)
@@ -148,7 +151,7 @@ impl PlainStore {
         if self.is_live(word) { Some(word) } else { None }
     }
 
-    /// Returns the first page of the open region with this handle.
+    /// Returns the first page of the open region with the given handle.
     fn root_of(&self, handle: u32) -> Option<u32>
         ensures { MatchOption result (lookup handle_of self.now.blocks.regions handle ≡ None)
             (λ root. (handle ≡ 2 * root + 1) × (is_some (lookup handle_of self.now.blocks.regions handle) ≡ true)) }
@@ -175,7 +178,7 @@ impl PlainStore {
         self.lexicals.len() as u32
     }
 
-    /// Closes the newest lexical region.
+    /// Closes the lexical region that was opened last.
     fn close_newest(&mut self)
         requires { 0 < lexical_count self.old.blocks.regions }
         ensures { Unwinds self.old self.new }
@@ -188,7 +191,7 @@ impl PlainStore {
         self.ledger = Ledger::with(&self.ledger, &Change::Closed(handle));
     }
 
-    /// Allocates a block of `words` words in the region with this first page.
+    /// Allocates a block of `words` words in the region whose first page is `root`.
     fn alloc_in(&mut self, root: u32, words: u32) -> Result<u32, No>
         requires named { is_some (lookup handle_of self.old.blocks.regions (2 * root + 1)) ≡ true }
         requires least { 1 ≤ words }
@@ -228,7 +231,7 @@ impl PlainStore {
         Ok(address)
     }
 
-    /// Splits a free page into slots of the class.
+    /// Splits a free page into slots of the given size class.
     fn stock(&mut self, class: u32) -> Result<(), No>
         requires class { class ≤ 10 }
         requires none { ¬ HasSlot (held_of self.old) class }
@@ -258,7 +261,8 @@ impl PlainStore {
         Ok(())
     }
 
-    /// Allocates a unique block in a slot of the class, and returns its address.
+    /// Allocates a unique block in a free slot of the given size class, and returns the block's
+    /// address.
     fn fill(&mut self, class: u32) -> u32
         requires class { class ≤ 10 }
         requires some { HasSlot (held_of self.old) class }
@@ -273,7 +277,7 @@ impl PlainStore {
         address
     }
 
-    /// Allocates a unique block of `words` words.
+    /// Allocates a unique block with `words` words.
     fn alloc_unique(&mut self, words: u32) -> Result<u32, No>
         requires least { 1 ≤ words }
         requires most { words ≤ MOST_BLOCK_WORDS }
@@ -288,7 +292,8 @@ impl PlainStore {
         Ok(self.fill(class))
     }
 
-    /// Returns the first word and the class of the live unique block that begins at this address.
+    /// Returns the first word and the size class of the live unique block that begins at the given
+    /// address.
     fn slot_of(&self, address: u32) -> Option<(u32, u32)>
         ensures { MatchOption result (lookup address_of self.now.blocks.unique address ≡ None)
             (λ slot. (address ≡ STORE_BASE + 4 * slot.0) × (lookup address_of self.now.blocks.unique address
@@ -316,7 +321,7 @@ impl PlainStore {
         }
     }
 
-    /// Frees the live unique block of this class that begins at this word.
+    /// Frees the live unique block of the given size class that begins at the given word.
     fn empty(&mut self, word: u32, class: u32)
         requires { lookup address_of self.old.blocks.unique (STORE_BASE + 4 * word) ≡ Some (record { address = STORE_BASE + 4 * word; size = 2 ^ class }) }
         ensures { Serves (held_of self.old) (Free (STORE_BASE + 4 * word)) Done (held_of self.new) }

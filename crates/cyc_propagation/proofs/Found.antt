@@ -1,4 +1,4 @@
--- A fact that is in the list follows from it, and so does the extra fact.
+-- Each fact in a list of facts follows from the list, and so does the extra fact.
 use Rattle.std.proofs.Common.{◌≡◌, ℕ, zero, suc, true, ◌||◌, List, [], ◌∷◌, Option, Some, None, slice_get, ap, ◌∙◌}
 use Rattle.std.proofs.lemmas.Bool.{or_left, or_right}
 use Rattle.cyc_propagation.specs.declared.fact.Fact.{Fact}

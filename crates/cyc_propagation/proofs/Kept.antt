@@ -1,4 +1,4 @@
--- In a run of a simplified program the facts of its tables stay true, step by step.
+-- In a run of a simplified program, the facts that its tables state stay true, step by step.
 use Rattle.std.proofs.Common.{◌≡◌, ℕ, suc, ◌+◌, ◌-◌, ◌*◌, ◌%◌, ◌^◌, ◌<◌, Bool, true, false, List, [], ◌∷◌, ◌++◌, drop, length, slice_get, Option, Some, None, refl, sym, ap, subst, ◌∙◌, arith, inl, inr}
 use Rattle.std.specs.Prelude.{◌==◌, if◌then◌else◌, unwrap_or}
 use Rattle.std.proofs.lemmas.Bool.{cases_Bool, eq-eqb, or_left, or_right, cond_both, false≢true, not_from_false}
@@ -66,7 +66,7 @@ module _ (program simplified : Program) (replaced : (function : ℕ) → IsRepla
     abbrev slots_free : List Bool
     slots_free = pins_in c.active.function
 
-    -- The facts at the next place are true in a scene that the instruction leads to.
+    -- The facts in the table of the next instruction are true in the state after an instruction.
     goes : (next : ℕ) (new : Scene) → leads i c.active.next next ≡ true → AreTrueIn new (kept (written program i) (touched slots_free i) here)
         → IsMade new slots_free i c.active.next next → AreTrueIn new (facts_in c.active.function next)
     goes next new led keeps makes = (replaced c.active.function).is_table.edges c.active.next next i at led new keeps makes
@@ -86,7 +86,7 @@ module _ (program simplified : Program) (replaced : (function : ℕ) → IsRepla
         left next (scene_of program d) led (λ slot leaves. ap (λ (slots : Words). slots slot) same)
         (subst (IsUntouched (scene_of program c) (scene_of program d)) (sym none) (same_memory d alike same)) makes
 
-    -- The facts stay true if a slot receives a word.
+    -- The preserved facts stay true if an instruction writes a word to a slot.
     by_slot : (d : Configuration) (destination word : ℕ) → IsAlike c d → d.active.slots ≡ put old destination word
         → IsUntouched (scene_of program c) (scene_of program d) (touched_by slots_free destination)
     by_slot d destination word alike is =
@@ -98,7 +98,7 @@ module _ (program simplified : Program) (replaced : (function : ℕ) → IsRepla
         other free slot named same =
             false≢true (sym (states.free_unnamed program simplified replaced c.active.function destination free) ∙ ap (is_pinned (routine_at program c.active.function).code) (sym same) ∙ named)
 
-    -- The facts stay true if consecutive slots receive words.
+    -- The preserved facts stay true if an instruction writes words to consecutive slots.
     by_slots : (d : Configuration) (source count destination : ℕ) → IsAlike c d → d.active.slots ≡ copied old source count old destination
         → IsUntouched (scene_of program c) (scene_of program d) (touched_by_words slots_free destination count)
     by_slots d source count destination alike is =
@@ -141,12 +141,13 @@ module _ (program simplified : Program) (replaced : (function : ℕ) → IsRepla
         go (Some number) goes_on = (goes_on, handling, waiting)
         go None goes_on = (goes_on, handling, states.waiting_written program simplified replaced c.active.function c.frames address word waiting)
 
-    -- A store changes memory, and at most one slot of the active call, whose address is taken.
+    -- A store instruction changes memory, and at most one slot of the active call, whose address is
+    -- taken.
     module _ (address word : ℕ) where
       abbrev after_store : Configuration
       after_store = advanced (with_memory program c address word)
 
-      -- The slots before the store, with the memory after it.
+      -- Combines the slots before a store instruction with the memory after it.
       abbrev between : Scene
       between = record { slots = old; memory = memory_at program after_store }
 
@@ -167,7 +168,7 @@ module _ (program simplified : Program) (replaced : (function : ℕ) → IsRepla
           (kept_true (scene_of program c) between (written program i) (λ slot leaves. refl) (touched slots_free i) untouched here holds))
           makes
 
-      -- After a store, memory has the stored word at its address.
+      -- After a store instruction, memory has the stored word at the address of the store.
       stored_there : (base : Operand) (offset before : ℕ) (source : Operand) → address ≡ add_of (operand_word old base) offset → word ≡ operand_word old source
           → memory_at program c address ≡ Some before → IsTrueIfAny (scene_of program after_store) (held slots_free base offset source)
       stored_there base offset before source is_address is_word there =
@@ -177,7 +178,8 @@ module _ (program simplified : Program) (replaced : (function : ℕ) → IsRepla
           fact_free between (scene_of program after_store) slots_free free_left (λ other. refl) fact suits
           (ap (memory_at program after_store) (sym is_address) ∙ memory_after address ∙ memory_there program c address word before there ∙ ap Some is_word))
 
-    -- A return to the newest waiting call writes its result slots.
+    -- A return writes the result slots of the newest waiting call, and the facts of this call are
+    -- true afterwards.
     returned : (value results : ℕ) (frames : List Frame) → results ≡ (routine_at program c.active.function).results → AreWaiting c.active.function frames → IsKnown (returns c value results frames)
     returned value results [] same calls = tt
     returned value results (f ∷ frames) same (stands, rest) =
@@ -219,7 +221,7 @@ module _ (program simplified : Program) (replaced : (function : ℕ) → IsRepla
         (goes_on handlers, all.1, waiting) tt)
         (closed goes_on first handlers all.1)
 
-    -- The state with one more open handler.
+    -- Returns the configuration in which the active call has one more open handler.
     abbrev opened : (first : ℕ) → Configuration
     opened first = record c {
       active = record c.active {
@@ -229,7 +231,8 @@ module _ (program simplified : Program) (replaced : (function : ℕ) → IsRepla
       };
     }
 
-    -- No fact is required at an open handler, either before or after the handler is opened.
+    -- No fact is required where an exception reaches a handler, so `Try` keeps all facts of the
+    -- tables true.
     tried : (first handler : ℕ) (handlers : List Handler) → AreOpen c.active.function handlers → here ≡ []
         → ((new : Scene) → AreTrueIn new (facts_in c.active.function (c.active.next + 1))) → ((new : Scene) → AreTrueIn new (facts_in c.active.function handler))
         → IsKnown (tries choice c first handler handlers)
@@ -268,7 +271,7 @@ module _ (program simplified : Program) (replaced : (function : ℕ) → IsRepla
     abbrev led : (suc c.active.next == c.active.next + 1) ≡ true
     led = eqb_next c.active.next
 
-    -- The facts stay true if a slot receives a word.
+    -- The facts known after an instruction are true if the instruction writes a word to a slot.
     gets : (i : Instruction) → here_at i → (d : Configuration) (destination word : ℕ) → IsAlike c d → d.active.slots ≡ put words destination word
         → leads i c.active.next (c.active.next + 1) ≡ true → written program i ≡ record { first = destination; count = 1 } → touched pins i ≡ touched_by pins destination
         → IsMade (scene_of program d) pins i c.active.next (c.active.next + 1) → AreTrueIn (scene_of program d) (facts_in c.active.function (c.active.next + 1))
@@ -342,14 +345,16 @@ module _ (program simplified : Program) (replaced : (function : ℕ) → IsRepla
         goes choice c i at holds handling waiting next new led
         (subst (λ (facts : List Fact). AreTrueIn new (kept (written program i) (touched pins i) facts)) (sym ((replaced c.active.function).is_table.tries c.active.next first handler at)) tt) tt
 
-    -- The facts stay true if a slot receives an unknown word.
+    -- The facts known after an instruction are true if the instruction writes an unknown word to a
+    -- slot.
     gets_any : (i : Instruction) → here_at i → (d : Configuration) (destination word : ℕ) → IsAlike c d → d.active.slots ≡ put words destination word
         → leads i c.active.next (c.active.next + 1) ≡ true → written program i ≡ record { first = destination; count = 1 } → touched pins i ≡ touched_by pins destination
         → IsMade (scene_of program d) pins i c.active.next (c.active.next + 1) → AreTrueIn (scene_of program d) (facts_in c.active.function (c.active.next + 1))
     gets_any i at d destination word same is led writes touches makes =
         gets i at d destination word same is led writes touches makes
 
-    -- The facts stay true if only the output and the open handlers change.
+    -- The facts known after an instruction are true if the instruction changes only the output and
+    -- the open handlers.
     goes_by : (i : Instruction) → here_at i → (d : Configuration) → leads i c.active.next (c.active.next + 1) ≡ true → IsAlike c d → d.active.slots ≡ words → touched pins i ≡ touches.Nothing
         → IsMade (scene_of program d) pins i c.active.next (c.active.next + 1) → AreTrueIn (scene_of program d) (facts_in c.active.function (c.active.next + 1))
     goes_by i at d led same is nothing makes =
@@ -392,7 +397,7 @@ module _ (program simplified : Program) (replaced : (function : ℕ) → IsRepla
         (λ slot named. put-other words destination slot word (λ same. false≢true (sym (states.free_unnamed program simplified replaced c.active.function destination free) ∙ ap (is_pinned (routine_at program c.active.function).code) (sym same) ∙ named))) a
         ∙ there)))
 
-    -- The facts stay true if a slot receives the word of a global.
+    -- The facts known after a load of a global are true.
     from_global : IsWellFormed program → (destination global : ℕ) → global < length program.globals → here_at (instructions.LoadGlobal destination global)
         → IsKnown (performed program choice c (instructions.LoadGlobal destination global))
     from_global well destination global below at = (
@@ -411,7 +416,8 @@ module _ (program simplified : Program) (replaced : (function : ℕ) → IsRepla
             (λ free. ap (memory_at program following) (global_at_offset global offset is) ∙ memory-global program well following global below)
         makes None is = tt
 
-    -- A store to a global is a store to its address.
+    -- A store to a global has the same effect as a store to the global's address, so the facts
+    -- known after it are true.
     to_global : IsWellFormed program → (global : ℕ) (source : Operand) → global < length program.globals → here_at (instructions.StoreGlobal global source)
         → IsKnown (performed program choice c (instructions.StoreGlobal global source))
     to_global well global source below at = (
@@ -508,7 +514,7 @@ module _ (program simplified : Program) (replaced : (function : ℕ) → IsRepla
     performs well (instructions.Uncaught tag value) has at = tt
     performs well (instructions.Enter function) has at = (goes_by (instructions.Enter function) at (advanced c) led (record { function = refl; base = refl; frames = refl; globals = refl; store = refl }) refl refl tt, handling, waiting)
 
-  -- The known facts are true after each step.
+  -- If the known facts are true before a step, the facts known after this step are true.
   pub known_after : IsWellFormed program → (choice : Choice) (c : Configuration) (i : Instruction) → HasGlobal program i → At (routine_at simplified c.active.function) c.active.next i
       → IsKnown (Running c) → IsKnown (performed program choice c i)
   known_after well choice c i has at (holds, handling, waiting) = performs choice c holds handling waiting well i has at

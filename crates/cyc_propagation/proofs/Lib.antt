@@ -1,29 +1,30 @@
 -- changes of memory
 pub mod Memory
--- preserved facts stay true
+-- the proof that preserved facts stay true
 pub mod Truth
 pub mod Trailing
 pub mod States
 pub mod Kept
--- replacements have the effect of the original instructions
+-- the proof that replacements have the effect of the original instructions
 pub mod Same
 pub mod Steps
--- checked tables are right
+-- the proof that the facts of checked tables are true
 pub mod Tables
--- each run of a simplified program is one of the given program
+-- the proof that each run of a simplified program is a run of the original program
 pub mod Alike
 pub mod Runs
--- the result is a plain program that is not larger
+-- the proof that the simplified program is a plain program that is not larger
 pub mod Suited
 pub mod Words
 pub mod Sizes
 pub mod Routines
 pub mod Plain
--- facts about room are true, and dropping redundant checks keeps the behaviour
+-- the proof that facts about stack space are true, and that dropping redundant checks for stack
+-- space keeps the behaviour
 pub mod Rooms
 pub mod Spared
 pub mod Sparing
--- the contracts of the functions
+-- the contracts of the functions of this crate
 pub mod Keeping
 pub mod Found
 pub mod Marked

@@ -1,4 +1,4 @@
--- The mask of copies contains each slot that holds a copy.
+-- The bit mask of copies contains each slot that is known to equal another slot.
 use Rattle.std.proofs.Common.{◌≡◌, ℕ, ◌-◌, ◌^◌, ◌%◌, ◌<◌, true, false, List, [], ◌∷◌, drop, length, Some, None, refl, ap, ◌∙◌, arith}
 use Rattle.std.specs.Prelude.{◌==◌, ◌&&◌, bit_and, bit_or, if◌then◌else◌, nat_lt, unwrap_or}
 use Rattle.std.specs.Int.{bit_at}
@@ -58,7 +58,7 @@ remembered_marked copies facts fact are is =
     after_first [] are = tt
     after_first (other ∷ facts) (first, rest) = rest
 
--- A slot outside the mask is no copy.
+-- If a slot is outside the bit mask of copies, no fact says that the slot equals another operand.
 pub no_copy : (copies bit slot : ℕ) → bit_and copies bit ≡ 0 → bit_at bit (slot % 64) ≡ 1 → (facts : List Fact) → AreMarked copies facts
     → simplified_operand facts (operands.Slot slot) ≡ operands.Slot slot
 no_copy copies bit slot none its [] are = refl

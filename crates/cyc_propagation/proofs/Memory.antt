@@ -1,4 +1,4 @@
--- The effect on memory of a store and of a write to a slot.
+-- The effect of a store instruction, and of a write to a slot, on memory.
 use Rattle.std.proofs.Common.{◌≡◌, ◌≢◌, ℕ, ◌+◌, ◌*◌, ◌<◌, Bool, true, false, List, [], ◌∷◌, length, Option, None, Some, refl, sym, ap, ◌∙◌, arith}
 use Rattle.std.specs.Prelude.{nat_lt, if◌then◌else◌}
 use Rattle.std.proofs.lemmas.Bool.{ltb-true, false≢true}
@@ -16,12 +16,12 @@ use Rattle.cyc_propagation.specs.inside.Facts.{global_offset}
 -- ---- consecutive words
 
 module _ (is_asked : ℕ → Bool) (base : ℕ) where
-  -- Two different addresses belong to two different words.
+  -- Two different addresses in a range of words belong to two different words.
   words_apart : (a b m n : ℕ) → numbered is_asked base a ≡ Some m → numbered is_asked base b ≡ Some n → b ≢ a → n ≢ m
   words_apart a b m n at other apart same =
       apart ((numbered-from is_asked base b n other).0 ∙ ap (λ (k : ℕ). base + 4 * k) same ∙ sym (numbered-from is_asked base a m at).0)
 
-  -- A read from another address does not see the written word.
+  -- A read from an address is not affected by a write to another address.
   read_other : (a b m word : ℕ) (words : Words) (rest : Option ℕ) → numbered is_asked base a ≡ Some m → b ≢ a
       → word_or (numbered is_asked base b) (put words m word) rest ≡ word_or (numbered is_asked base b) words rest
   read_other a b m word words rest at apart = go (numbered is_asked base b) refl
@@ -60,7 +60,7 @@ module _ (program : Program) where
     abbrev read_in : Range → Configuration → (address : ℕ) → Option ℕ
     read_in range d address = word_in program d address range
 
-    -- A word at another address is unchanged by the store.
+    -- A store instruction leaves the words at all other addresses unchanged.
     pub memory_other : (b : ℕ) → b ≢ a → memory_at program (with_memory program c a word) b ≡ memory_at program c b
     memory_other b apart = go (range_of a) (range_of b)
       where
@@ -87,7 +87,8 @@ module _ (program : Program) where
         go OfStore OfSlots = refl
         go OfSlots other = slots_other (slot_at program c.active a) refl other
 
-    -- An address that has a word has the stored word after the store.
+    -- If memory has a word at an address, it has the stored word there after a store to this
+    -- address.
     pub memory_there : (old : ℕ) → memory_at program c a ≡ Some old → memory_at program (with_memory program c a word) a ≡ Some word
     memory_there old found = go (range_of a) found
       where
@@ -108,7 +109,7 @@ module _ (program : Program) where
         go OfStore is = saved-same c.store a word old is
         go OfSlots is = slots_there (slot_at program c.active a) refl is
 
--- A slot whose address is not taken is unchanged by the store.
+-- A store instruction leaves a slot unchanged whose address is not taken.
 pub unnamed_left : (program : Program) (c : Configuration) (a word slot : ℕ) → is_pinned (routine_at program c.active.function).code slot ≡ false
     → (with_memory program c a word).active.slots slot ≡ c.active.slots slot
 unnamed_left program c a word slot free = go (range_of a)
@@ -133,7 +134,8 @@ unnamed_left program c a word slot free = go (range_of a)
 
 -- ---- slots
 
--- Two configurations with equal globals, blocks and calls, except for the slots of the active call.
+-- `IsAlike` says that two configurations have equal globals, blocks and calls, except for the slots
+-- of the active call.
 pub record IsAlike (c d : Configuration) : Type 0 where
   pub function : d.active.function ≡ c.active.function
   pub base : d.active.base ≡ c.active.base
@@ -177,7 +179,7 @@ offset_is global offset is = go (nat_lt global MOST_GLOBALS) refl is
 pub global_at_offset : (global offset : ℕ) → global_offset global ≡ Some offset → add_of GLOBALS_BASE offset ≡ GLOBALS_BASE + 4 * global
 global_at_offset global offset is = let (few, same) = offset_is global offset is in omega (arith, few, same)
 
--- A load from the address of a global reads that global.
+-- A load from the address of a global reads this global.
 pub global_found : (program : Program) (c : Configuration) (global offset word : ℕ) → global_offset global ≡ Some offset
     → memory_at program c (add_of GLOBALS_BASE offset) ≡ Some word → word ≡ c.globals global
 global_found program c global offset word is found =

@@ -1,4 +1,5 @@
--- A simplified program is a plain program: it is well-formed, its numbers are words, and it is not larger.
+-- A simplified program is a plain program: it is well-formed, its numbers are words, and its size does not
+-- grow.
 use Rattle.std.proofs.Common.{◌≡◌, ℕ, ◌<◌, ◌≤◌, List, length, Some, slice_get, sym, ap, subst, ◌∙◌, arith}
 use Rattle.std.specs.Prelude.{All, sum_by, slice_index_or}
 use Rattle.std.proofs.lemmas.Option.{slice_get-get_or, get_or_from_slice_get}
@@ -18,7 +19,7 @@ module _ (program simplified : Program) (are : AreReplaced program simplified) w
   here_at : (functions : List Routine) (k : ℕ) (r : Routine) → slice_get functions k ≡ Some r → slice_index_or functions k no_routine ≡ r
   here_at functions k r at = get_or_from_slice_get functions k r no_routine at
 
-  -- A property of each replaced function holds for all functions.
+  -- If each replaced function has a property, all functions of the simplified program have it.
   all_functions : (P Q : Routine → Type 0) → ((r s : Routine) → IsReplaced program r s → P r → Q s) → All P program.functions → All Q simplified.functions
   all_functions P Q each all = All_by_number Q simplified.functions (λ k s at.
       let within : k < length program.functions = (let b = below_from_slice_get simplified.functions k s at in let l = are.as_many in omega (arith, b, l)) in
@@ -51,7 +52,8 @@ module _ (program simplified : Program) (are : AreReplaced program simplified) w
             (are.each k within).small,
       ))
 
-  -- A simplified program is a plain program.
+  -- If a program is a plain program (well-formed, with numbers that are words), so is the
+  -- simplified program.
   pub is_plain : IsPlain program → IsPlain simplified
   is_plain plain = record {
     well_formed = well_formed plain.well_formed;
@@ -59,7 +61,7 @@ module _ (program simplified : Program) (are : AreReplaced program simplified) w
     small = (let a = plain.small in omega (arith, a, all_smaller));
   }
 
-  -- A simplified program satisfies the promise of value propagation.
+  -- A simplified program satisfies `IsSimplified`, the contract of value propagation.
   pub is_simplified : IsPlain program → IsSimplified program simplified
   is_simplified plain = record {
     plain = is_plain plain;

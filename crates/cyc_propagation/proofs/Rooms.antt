@@ -1,4 +1,4 @@
--- Facts about room stay true, for the active call and for the waiting ones.
+-- In a run, the facts about stack space stay true for the active call and for the waiting calls.
 use Rattle.std.proofs.Common.{◌≡◌, ℕ, zero, suc, ◌+◌, ◌*◌, ◌%◌, ◌≤◌, Bool, true, false, List, [], ◌∷◌, length, Option, Some, None, refl, sym, subst, arith}
 use Rattle.std.specs.Prelude.{◌==◌, if◌then◌else◌, nat_lt}
 use Rattle.std.proofs.lemmas.Bool.{cond_both, eq-eqb, or_left, or_right}
@@ -35,13 +35,14 @@ room_greater calls one other base depth first second =
 module _ (program : Program) (rooms : (function index : ℕ) → ℕ) (tables : (function : ℕ) → IsRoomTable (slots_in program) (routine_at program function).code (rooms function)) (calls : ℕ) where
   -- ---- states
 
-  -- The room known at each open handler is available.
+  -- `AreOpened` says that the stack space that the tables state for each open handler is available.
   abbrev AreOpened : (function base depth : ℕ) → List Handler → Type 0
   AreOpened function base depth [] = Unit {0}
   AreOpened function base depth (Open index first contents ∷ handlers) = HasRoom calls (rooms function index) base depth × AreOpened function base depth handlers
   AreOpened function base depth (Caught ∷ handlers) = AreOpened function base depth handlers
 
-  -- A call has the room that is known at its place and at its handlers.
+  -- `IsRoomy` says that a call has the stack space that the tables state for its next instruction
+  -- and for its handlers.
   abbrev IsRoomy : Activation → (depth : ℕ) → Type 0
   IsRoomy a depth = HasRoom calls (rooms a.function a.next) a.base depth × AreOpened a.function a.base depth a.handlers
 
@@ -163,7 +164,8 @@ module _ (program : Program) (rooms : (function index : ℕ) → ℕ) (tables : 
     branched true target there next = ((there, handling), waiting)
     branched false target there next = ((next, handling), waiting)
 
-    -- The room known at the next place is available there.
+    -- If an instruction falls through, the stack space stated for the next instruction is available
+    -- there.
     on : (i : Instruction) → StandsHere i → room_of (slots_in program) i ≡ 0 → leads i c.active.next (c.active.next + 1) ≡ true → HasRoomAt (c.active.next + 1)
     on i at none led = room_led i at (subst (λ (room : ℕ). HasRoom calls room c.active.base (suc (length c.frames))) (sym none) tt) (c.active.next + 1) led
 

@@ -1,4 +1,5 @@
--- A function whose instructions are replaced is well-formed, and its numbers are words.
+-- A function remains well-formed when its instructions are replaced, and its numbers are still
+-- words.
 use Rattle.std.proofs.Common.{◌≡◌, ℕ, ◌+◌, ◌-◌, ◌<◌, Bool, true, false, List, length, Option, Some, None, slice_get, refl, sym, subst, ◌∙◌, arith}
 use Rattle.std.specs.Prelude.{All, IsSomeAnd, nat_lt}
 use Rattle.std.proofs.lemmas.Bool.{cond_both, ltb-true, false≢true}
@@ -28,7 +29,7 @@ use Rattle.cyc_propagation.proofs.Runs.{each_replaced}
 use Rattle.cyc_propagation.proofs.Suited.{free_below, operand_has, IsFreeIfAny, holder_in_free, SuitsIfAny, value_in_suits, global_suits}
 use Rattle.cyc_propagation.proofs.Words.{has_word}
 
--- Exactly the returns are replaced by returns.
+-- The replacement of an instruction is a return exactly if the instruction is a return.
 same_return : (facts : List Fact) (i : Instruction) → is_return (simplified_instruction facts i) ≡ is_return i
 same_return facts (instructions.Move destination source) = go (is_known facts (facts_are.Equal destination (simplified_operand facts source)))
   where
@@ -64,7 +65,7 @@ same_return facts (instructions.LoadGlobal destination global) = go (global_valu
     go None = refl
 same_return facts i = refl
 
--- The replacement of an instruction that never falls through never falls through.
+-- If an instruction never falls through, its replacement never falls through.
 still_leaves : (facts : List Fact) (i : Instruction) → leaves i ≡ true → leaves (simplified_instruction facts i) ≡ true
 still_leaves facts (instructions.Move destination source) is = absurd (false≢true is)
 still_leaves facts (instructions.Binary operator destination left right) is = absurd (false≢true is)
@@ -74,13 +75,14 @@ still_leaves facts (instructions.Load destination address offset) is = absurd (f
 still_leaves facts (instructions.LoadGlobal destination global) is = absurd (false≢true is)
 still_leaves facts i is = is
 
--- The next place is in the code.
+-- The target of the jump that replaces an unreachable instruction is in the code.
 after_below : (index count : ℕ) → index < count → place_after index count < count
 after_below index count below =
     cond_both (nat_lt (index + 1) count) (index + 1) index (λ (place : ℕ). place < count) (λ is. ltb-true (index + 1) count is) (λ last. below)
 
 module _ (program simplified : Program) (are : AreReplaced program simplified) (r s : Routine) (replaced : IsReplaced program r s) where
-  -- The replacement of an instruction of the given function.
+  -- `IsPut` says that the instruction `j` is the replacement of the original function's instruction
+  -- at `index`.
   record IsPut (index : ℕ) (j : Instruction) : Type 0 where
     pub instruction : Instruction
     pub at : At r index instruction
@@ -99,7 +101,8 @@ module _ (program simplified : Program) (are : AreReplaced program simplified) (
         all = replaced.is_table.suited index within;
       }
 
-  -- A property of each replacement, and of jumps into the code, holds for the whole code.
+  -- If each replacement has a property, and each jump into the code has it, then all instructions
+  -- of the new code have it.
   all_put : (P Q : Instruction → Type 0) → ((facts : List Fact) → are_suited replaced.pinned facts ≡ true → (i : Instruction) → P i → Q (simplified_instruction facts i))
       → ((target : ℕ) → target < length r.code → Q (instructions.Jump target)) → All P r.code → All Q s.code
   all_put P Q each jump all = All_by_number Q s.code (λ index j at.

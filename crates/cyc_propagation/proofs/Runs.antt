@@ -1,4 +1,5 @@
--- The simplified program runs in lockstep with the given one: their states are equal, and the known facts are true in them.
+-- The simplified program runs in lockstep with the original one: their states are equal, and the known facts are true in
+-- them.
 use Rattle.std.proofs.Common.{◌≡◌, ℕ, ◌+◌, ◌*◌, ◌≤◌, Bool, true, false, List, [], ◌∷◌, length, Option, Some, None, refl, sym, ap, subst, ◌∙◌, arith, inl, inr}
 use Rattle.std.proofs.lemmas.Bool.{cases_lt, and_parts, cond_both, false≢true}
 use Rattle.std.proofs.lemmas.List.{get_or_past}
@@ -37,7 +38,8 @@ use Rattle.cyc_propagation.proofs.Tables.{unchanged, put_reached}
 
 -- ---- corresponding functions
 
--- Every function number is replaced, even a number without a function.
+-- For every function number, even one without a function, the simplified function replaces the
+-- original one.
 pub each_replaced : (program simplified : Program) → AreReplaced program simplified → (k : ℕ) → IsReplaced program (routine_at program k) (routine_at simplified k)
 each_replaced program simplified are k = elim (cases_lt k (length program.functions)) [
   | inl below ↦ are.each k below
@@ -86,7 +88,8 @@ simplified_pins_same facts (instructions.LoadGlobal destination global) slot = g
     go None = refl
 simplified_pins_same facts i slot = refl
 
--- A dropped instruction takes no address.
+-- The replacement of an instruction takes the addresses of the same slots, since only instructions
+-- that take no address are dropped.
 put_pins_same : (facts : List Fact) (index count : ℕ) (i : Instruction) (slot : ℕ) → pins (put_at facts index count i) slot ≡ pins i slot
 put_pins_same facts index count i slot =
     cond_both (vanishes facts i) (instructions.Jump (place_after index count)) (simplified_instruction facts i) (λ j. pins j slot ≡ pins i slot)
@@ -99,7 +102,7 @@ put_pins_same facts index count i slot =
 
 -- ---- globals
 
--- A named global exists.
+-- If the global that an instruction names exists, so does the global that its replacement names.
 still_has : (program : Program) (facts : List Fact) (i : Instruction) → HasGlobal program i → HasGlobal program (simplified_instruction facts i)
 still_has program facts (instructions.Move destination source) has = go (is_known facts (facts_are.Equal destination (simplified_operand facts source)))
   where
@@ -170,7 +173,7 @@ module _ (program simplified : Program) (are : AreReplaced program simplified) w
     abbrev facts : List Fact
     facts = facts_in program simplified (each_replaced program simplified are) c.active.function c.active.next
 
-    -- The corresponding instructions of both programs at this place.
+    -- `AreBoth` relates the corresponding instructions of the two programs at the next position.
     abbrev AreBoth : Option Instruction → Option Instruction → Type 0
     AreBoth (Some i) other = other ≡ Some (put_at facts c.active.next (length (routine_at program c.active.function).code) i)
     AreBoth None other = other ≡ None
@@ -187,7 +190,8 @@ module _ (program simplified : Program) (are : AreReplaced program simplified) w
           | inr end ↦ (let l = (each_replaced program simplified are c.active.function).as_many in omega (arith, end, l))
         ]
 
-    -- A step of the simplified program is one of the given program, and the facts known after it are true.
+    -- `IsSame` says that a step of the simplified program has the same result as in the original one, and
+    -- that the facts known after it are true.
     record IsSame (o other : Option Instruction) : Type 0 where
       pub does : executed simplified choice c other ≡ executed program choice c o
       pub knows : IsKnown program simplified (each_replaced program simplified are) (executed program choice c o)
@@ -219,7 +223,8 @@ module _ (program simplified : Program) (are : AreReplaced program simplified) w
     same_step : IsSame (instruction_at program place) (instruction_at simplified place)
     same_step = executes_same (instruction_at program place) (instruction_at simplified place) refl refl (both (instruction_at program place) refl)
 
-    -- The choices allowed are equal in both programs.
+    -- A choice that a step of the simplified program allows is also allowed in the original
+    -- program.
     lies_same : (base : ℕ) (o : Option ℕ) → MayLie simplified base o (Running c) → MayLie program base o (Running c)
     lies_same base None may = may
     lies_same base (Some function) may = record {
@@ -280,7 +285,7 @@ module _ (program simplified : Program) (are : AreReplaced program simplified) w
   start_same : (base : ℕ) (store : StoreState) (input : List ℕ) → start simplified base store input ≡ start program base store input
   start_same base store input = λ i. start (record program { main = are.main i; globals = are.globals i }) base store input
 
-  -- Each run of the simplified program is one of the given program.
+  -- Each run of the simplified program is a run of the original program.
   pub follows : IsWellFormed program → (pages calls base : ℕ) (store : StoreState) (input : List ℕ) → NeverFails (machine program pages calls) (start program base store input)
       → Follows (machine program pages calls) (machine simplified pages calls) [] (λ place. place ∷ []) (start program base store input) (start simplified base store input)
   follows well pages calls base store input never =

@@ -1,4 +1,4 @@
--- If the facts are true, a replacement has the effect of the original instruction.
+-- If the known facts are true, a replacement has the effect of the original instruction.
 use Rattle.std.proofs.Common.{◌≡◌, ℕ, zero, suc, ◌<◌, Bool, true, false, ◌&&◌, List, [], ◌∷◌, Option, Some, None, refl, sym, ap, subst, ◌∙◌, arith}
 use Rattle.std.specs.Prelude.{◌==◌, not, nat_lt, if◌then◌else◌, unwrap_or}
 use Rattle.std.proofs.lemmas.Bool.{and_parts, eqb-true, ltb-true, cond_both, not-true}
@@ -60,7 +60,7 @@ implied known asked a b is holds = ap (λ (c : Comparison). compares c a b) (sym
 -- ---- the meaning of facts
 
 module _ (scene : Scene) where
-  -- The operand that replaces another denotes the word of the replaced operand.
+  -- If a fact replaces an operand by another one, the new operand denotes the same word.
   instead_word : (fact : Fact) (operand : Operand) (rest : Operand) → IsTrueIn scene fact → operand_word scene.slots rest ≡ operand_word scene.slots operand
       → operand_word scene.slots (unwrap_or (instead fact operand) rest) ≡ operand_word scene.slots operand
   instead_word (facts_are.Computed slot operator left right) operand rest holds other = other
@@ -77,7 +77,7 @@ module _ (scene : Scene) where
   operand_same (fact ∷ facts) operand (first, rest) =
       instead_word fact operand (simplified_operand facts operand) first (operand_same facts operand rest)
 
-  -- The word that a fact gives for an operand is the operand's word.
+  -- `IsItsWord` says that the word that a fact states for an operand is the operand's word.
   abbrev pub IsItsWord : Operand → Option ℕ → Type 0
   IsItsWord operand (Some word) = operand_word scene.slots operand ≡ word
   IsItsWord operand None = Unit {0}
@@ -110,7 +110,8 @@ module _ (scene : Scene) where
       go None is = refl
       go (Some word) is = cond_both (nat_lt word 32768) (operands.Word word) operand (λ o. operand_word scene.slots o ≡ operand_word scene.slots operand) (λ small. sym is) (λ large. refl)
 
-  -- The folded result of two known words is the operator's result, which exists.
+  -- `IsFolded` says that the word that constant folding computes is the operator's result, and that
+  -- the result is defined.
   abbrev pub IsFolded : BinaryOperator → (left right : Operand) → Option ℕ → Type 0
   IsFolded operator left right (Some word) =
       (word ≡ binary_result operator (operand_word scene.slots left) (operand_word scene.slots right)) × (has_no_result operator (operand_word scene.slots right) ≡ false)
@@ -156,12 +157,13 @@ module _ (scene : Scene) where
       cond_both (may_fold destination left right) (folded_in facts operator left right) None (IsFolded operator left right)
       (λ may. folded_in_true facts operator left right holds) (λ stays. tt)
 
-  -- The slot that a fact gives for a result holds the result.
+  -- `HoldsResult` says that the slot that a fact states for the result of an operator contains this
+  -- result.
   abbrev pub HoldsResult : BinaryOperator → (left right : Operand) → Option ℕ → Type 0
   HoldsResult operator left right (Some slot) = IsTrueIn scene (facts_are.Computed slot operator left right)
   HoldsResult operator left right None = Unit {0}
 
-  -- Comparing a truth value with 0 by `!=` gives the truth value.
+  -- If a word is 0 or 1, comparing it with 0 by `!=` yields the same word.
   truth_same : (a : ℕ) → a < 2 → a ≡ binary_result binary.NotEqual a 0
   truth_same zero below = refl
   truth_same (suc zero) below = refl
@@ -208,7 +210,8 @@ module _ (scene : Scene) where
       go (Some slot) holds others = holds
       go None holds others = others
 
-  -- If the comparison is decided, the decision is its result.
+  -- `IsDecidedRight` says that if facts decide a comparison, the decision is the comparison's
+  -- result.
   abbrev pub IsDecidedRight : Comparison → (left right : Operand) → Option Bool → Type 0
   IsDecidedRight comparison left right (Some holds) = compares comparison (operand_word scene.slots left) (operand_word scene.slots right) ≡ holds
   IsDecidedRight comparison left right None = Unit {0}
@@ -248,7 +251,7 @@ module _ (scene : Scene) where
       go (Some holds) right others = right
       go None right others = others
 
-  -- The word that a fact gives for an address is the one in memory.
+  -- `IsFound` says that the word that a fact states for an address is the word in memory.
   abbrev pub IsFound : (address : Operand) → (offset : ℕ) → Option Operand → Type 0
   IsFound address offset (Some value) = IsTrueIn scene (facts_are.Held address offset value)
   IsFound address offset None = Unit {0}

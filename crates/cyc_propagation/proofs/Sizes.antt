@@ -1,4 +1,4 @@
--- A replacement is no larger than the instruction that it replaces.
+-- The size of a replacement is at most the size of the instruction that it replaces.
 use Rattle.std.proofs.Common.{◌≡◌, ℕ, ◌≤◌, Bool, true, false, List, Option, Some, None, refl, arith}
 use Rattle.std.proofs.lemmas.Bool.{cond_both}
 use Rattle.cyc_plain.specs.declared.instruction.Instruction.{Instruction}
@@ -17,7 +17,7 @@ use Rattle.cyc_propagation.specs.inside.Replacement.{vanishes, place_after, put_
 use Rattle.cyc_propagation.specs.inside.Replacement.{folded_at, holder_in, simplified_binary, simplified_move, decision_in, simplified_branch, value_in, simplified_load, global_value, simplified_global, simplified_request, simplified_instruction}
 use Rattle.cyc_propagation.proofs.Same.{passed_either}
 
--- The least size of an operator.
+-- The size of each operator is at least 11.
 eleven : (operator : BinaryOperator) → 11 ≤ operator_size operator
 eleven binary.Divide = omega arith
 eleven binary.Remainder = omega arith
@@ -31,7 +31,7 @@ same_request_size facts (requests.CloseDynamic handle) = refl
 same_request_size facts (requests.Allocate destination handle words) = refl
 same_request_size facts (requests.Free address) = refl
 
--- The size of one instruction is at most that of another.
+-- `IsNoLarger` says that the size of the new instruction is at most that of the original one.
 abbrev IsNoLarger : (given put : Instruction) → Type 0
 IsNoLarger i j = instruction_size j ≤ instruction_size i
 
@@ -83,7 +83,7 @@ not_larger facts (instructions.Unary operator destination operand) = go (folded_
 not_larger facts (instructions.Ask request) = omega (arith, same_request_size facts request)
 not_larger facts i = omega arith
 
--- A jump is no larger than any instruction that it replaces.
+-- The size of a jump is at most that of any instruction that it replaces.
 jump_not_larger : (i : Instruction) (target : ℕ) → IsNoLarger i (instructions.Jump target)
 jump_not_larger (instructions.Binary operator destination left right) target = omega (arith, eleven operator)
 jump_not_larger i target = omega arith

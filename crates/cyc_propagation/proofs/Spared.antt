@@ -1,4 +1,5 @@
--- A program without redundant checks of room is a plain program, no larger, and each of its runs is one of the given program.
+-- A program without its redundant checks for stack space is a plain program and not larger, and each of its runs is a run of
+-- the original program.
 use Rattle.std.proofs.Common.{◌≡◌, ℕ, suc, ◌+◌, ◌-◌, ◌*◌, ◌<◌, ◌≤◌, Bool, true, false, ◌&&◌, List, [], ◌∷◌, length, Option, Some, None, slice_get, refl, sym, ap, subst, ◌∙◌, arith, inl, inr}
 use Rattle.std.specs.Prelude.{All, IsSomeAnd, sum_by, nat_le, nat_lt, if◌then◌else◌}
 use Rattle.std.proofs.lemmas.Bool.{cases_lt, cond_both, cond-true, and_parts, le-leb, leb-true, lt-ltb, ltb-false}
@@ -37,20 +38,21 @@ use Rattle.cyc_propagation.proofs.Rooms.{HaveRoom, room_less, room_after_it}
 
 -- ---- one instruction
 
--- A property of an instruction and of a jump to the next place holds for its replacement.
+-- If an instruction has a property, and a jump to the next instruction has it, then so has the
+-- instruction's replacement.
 spared_either : (P : Instruction → Type 0) (slots : ℕ → ℕ) (room index : ℕ) (i : Instruction) → P i → ((function : ℕ) → i ≡ instructions.Enter function → P (nothing_at index))
     → P (spared_instruction slots room index i)
 spared_either P slots room index (instructions.Enter function) has nothing =
     cond_both (nat_lt room (suc (slots function))) (instructions.Enter function) (nothing_at index) P (λ asks. has) (λ known. nothing function refl)
 spared_either P slots room index i has nothing = has
 
--- If no room is known, an instruction is its own replacement.
+-- If no stack space is known to be available, no instruction is replaced.
 unspared_instruction : (slots : ℕ → ℕ) (index : ℕ) (i : Instruction) → spared_instruction slots 0 index i ≡ i
 unspared_instruction slots index (instructions.Enter function) =
     cond-true (nat_lt 0 (suc (slots function))) (instructions.Enter function) (nothing_at index) (lt-ltb 0 (suc (slots function)) (omega arith))
 unspared_instruction slots index i = refl
 
--- Code whose instructions are all unchanged satisfies `IsSparedCode`.
+-- Unchanged code satisfies `IsSparedCode`.
 pub code_unspared : (slots : ℕ → ℕ) (code : List Instruction) → IsSparedCode slots code code
 code_unspared slots code = record {
   as_many = refl;
@@ -104,7 +106,8 @@ module _ (program spared : Program) (are : AreSpared program spared) where
     abbrev stands : CodePlace
     stands = place_of (Running c)
 
-    -- A step of the given program with an equal result, after which the facts about room are true.
+    -- `IsStepOf` says that the original program has a step with an equal result, after which the
+    -- facts about stack space are true.
     record IsStepOf (next : State) : Type 0 where
       pub other : Choice
       pub may : IsAllowed program (Running c) other
@@ -122,7 +125,7 @@ module _ (program spared : Program) (are : AreSpared program spared) where
       high = subst (λ (n : ℕ). base + 4 * n ≤ c.active.base) (ap (λ (r : Routine). r.slots) (spared_at function).same) may.high;
     }
 
-    -- The step of an instruction that is the same in both programs.
+    -- A step of an instruction that is the same in both programs is a step of the original program.
     by_itself : instruction_at spared stands ≡ instruction_at program stands → IsStepOf (limited_step spared pages calls choice (Running c))
     by_itself same = record {
       other = choice;
@@ -136,7 +139,8 @@ module _ (program spared : Program) (are : AreSpared program spared) where
           ∙ ap (limited pages (limit_at program (Running c) calls) (Running c)) (executed_alike (instruction_at program stands));
     }
 
-    -- The step of an instruction that replaces a redundant check of stack room.
+    -- A step of the jump that replaces a redundant check for stack space has the result of the
+    -- check.
     by_nothing : (function : ℕ) → instruction_at program stands ≡ Some (instructions.Enter function) → instruction_at spared stands ≡ Some (nothing_at c.active.next)
         → HasRoom calls (suc (slots_in program function)) c.active.base (suc (length c.frames)) → IsStepOf (limited_step spared pages calls choice (Running c))
     by_nothing function at there (low, few) =
@@ -156,7 +160,7 @@ module _ (program spared : Program) (are : AreSpared program spared) where
               ∙ ap (λ (o : Option Instruction). limited pages (limit_of o calls) (Running c) (executed program (record choice { base = slots_base }) c o)) (sym at);
         }
 
-    -- The corresponding instructions of both programs at this place.
+    -- `AreThere` relates the corresponding instructions of the two programs at the next position.
     abbrev AreThere : Option Instruction → Option Instruction → Type 0
     AreThere (Some i) other = other ≡ Some (spared_instruction (slots_in program) (rooms_in c.active.function c.active.next) c.active.next i)
     AreThere None other = other ≡ None
@@ -187,7 +191,7 @@ module _ (program spared : Program) (are : AreSpared program spared) where
     step_of (Some i) at there = by_itself (there ∙ sym at)
     step_of None at there = by_itself (there ∙ sym at)
 
-    -- The facts about room are true after a step of the given program.
+    -- The facts about stack space are true after each step of the original program.
     room_executed : (other : Choice) → IsAllowed program (Running c) other → (o : Option Instruction) → instruction_at program stands ≡ o
         → depth (executed program other c o) ≤ limit_of o calls → Rooms calls (executed program other c o)
     room_executed other may None at within = tt
@@ -246,7 +250,8 @@ module _ (program spared : Program) (are : AreSpared program spared) where
     abbrev made : Routine
     made = with_code r s.code
 
-    -- The replacement of an instruction of the given function.
+    -- `IsSparedOf` says that the instruction `j` is the replacement of the original function's
+    -- instruction at `index`.
     record IsSparedOf (index : ℕ) (j : Instruction) : Type 0 where
       pub instruction : Instruction
       pub at : slice_get r.code index ≡ Some instruction
@@ -261,7 +266,8 @@ module _ (program spared : Program) (are : AreSpared program spared) where
           stands = (let e : Some j ≡ Some (spared_instruction (slots_in program) (is.code.rooms index) index i) = sym at ∙ is.code.each index i there in cc);
         }
 
-    -- A property of each instruction, and of a jump to the next place, holds for the whole code.
+    -- If each instruction has a property, and each jump to the next instruction has it, then all
+    -- instructions of the new code have it.
     all_spared : (P Q : Instruction → Type 0) → ((i : Instruction) → P i → Q i) → ((index : ℕ) (function : ℕ) → slice_get r.code index ≡ Some (instructions.Enter function) → Q (nothing_at index))
         → All P r.code → All Q s.code
     all_spared P Q each nothing all = All_by_number Q s.code (λ index j at.
@@ -397,7 +403,8 @@ module _ (program spared : Program) (are : AreSpared program spared) where
     small = omega (arith, like.small, spared_smaller program spared are r s is);
   }
 
-  -- Dropping redundant checks keeps the promise of value propagation.
+  -- If a program satisfies the contract of value propagation, it still does after its redundant
+  -- checks for stack space are dropped.
   pub spared_simplified : (given : Program) → IsSimplified given program → IsSimplified given spared
   spared_simplified given by = record {
     plain = spared_plain by.plain;

@@ -1,4 +1,5 @@
--- Code that passed the check has no redundant checks of room, and so have functions and programs made of it.
+-- Code that passed the check is free of redundant checks for stack space, and so are functions and programs
+-- with this code.
 use Rattle.std.proofs.Common.{◌≡◌, ℕ, suc, ◌+◌, ◌^◌, ◌<◌, ◌≤◌, true, ◌&&◌, ◌||◌, List, [], ◌∷◌, ◌++◌, length, map, Some, slice_get, refl, sym, ap, subst, ◌∙◌, arith, inl, inr}
 use Rattle.std.specs.Prelude.{◌==◌, slice_index_or}
 use Rattle.std.proofs.lemmas.Bool.{cases_lt, and_parts, eqb-true, leb-true, or_cases, false≢true}
@@ -22,7 +23,8 @@ use Rattle.cyc_propagation.proofs.Walks.{get_before, get_last, next_replaced, ro
 
 -- ---- sizes
 
--- The number of a function's slots plus one fits a machine word, as the number of words of its frame does.
+-- The number of a function's slots plus one fits a machine word, since the number of words of its frame
+-- does.
 pub slots_and_one_fit : (program : Program) (function : ℕ) (f : Function) → IsPlain program → function < length program.functions → routine_of f ≡ routine_at program function → f.frame_count < 2 ^ 64
     → f.slots + 1 < 2 ^ 64
 slots_and_one_fit program function f plain below same few =
@@ -168,6 +170,6 @@ module _ (program : Program) (given functions : List Function) (number : ℕ) (g
   pub made_simplified : IsPlain program → IsSimplified program (program_of functions globals main)
   made_simplified plain = spared_simplified middle (program_of functions globals main) middle_spared program (is_simplified program middle middle_replaced plain)
 
--- The code of a function, simplified and without redundant checks of room.
+-- A simplified function without redundant checks for stack space satisfies `IsMadeFunction`.
 pub code_made : (program : Program) (r : Routine) (code spared : List Instruction) → IsReplaced program r (with_code r code) → IsSparedCode (slots_in program) code spared → IsMadeFunction program r (with_code r spared)
 code_made program r code spared replaced is = record { between = with_code r code; replaced = replaced; spared = record { same = refl; code = is } }

@@ -1,4 +1,5 @@
--- States in which the facts of the tables are true, for the active call and for the waiting ones.
+-- States of a run in which the facts of the tables are true, for the active call and for the
+-- waiting calls.
 use Rattle.std.proofs.Common.{◌≡◌, ℕ, suc, ◌<◌, Bool, true, false, List, [], ◌∷◌, length, Option, Some, None, refl, sym, ap, subst, ◌∙◌}
 use Rattle.std.specs.Prelude.{slice_index}
 use Rattle.cyc_words.proofs.Items.{below_from_slice_get}
@@ -18,27 +19,28 @@ use Rattle.cyc_propagation.specs.inside.Facts.{scene_of, AreTrueIn, is_free, are
 use Rattle.cyc_propagation.specs.inside.Table.{IsReplaced}
 use Rattle.cyc_propagation.proofs.Truth.{suited_true, kept_suited, AreTrueAlone}
 
--- The global that an instruction loads or stores exists.
+-- `HasGlobal` says that the global that an instruction loads or stores exists.
 abbrev pub HasGlobal : Program → Instruction → Type 0
 HasGlobal program (instructions.LoadGlobal destination global) = global < length program.globals
 HasGlobal program (instructions.StoreGlobal global source) = global < length program.globals
 HasGlobal program i = Unit {0}
 
 module _ (program simplified : Program) (replaced : (function : ℕ) → IsReplaced program (routine_at program function) (routine_at simplified function)) where
-  -- The facts known at a place of a function.
+  -- Returns the facts known at a position of a function's code.
   abbrev pub facts_in : (function index : ℕ) → List Fact
   facts_in function index = (replaced function).table index
 
   abbrev pub pins_in : (function : ℕ) → List Bool
   pins_in function = (replaced function).pinned
 
-  -- No fact is required at the entries of open handlers.
+  -- `AreOpen` says that no fact is required where exceptions reach the open handlers.
   abbrev pub AreOpen : (function : ℕ) → List Handler → Type 0
   AreOpen function [] = Unit {0}
   AreOpen function (Open index first contents ∷ handlers) = (facts_in function index ≡ []) × AreOpen function handlers
   AreOpen function (Caught ∷ handlers) = AreOpen function handlers
 
-  -- A call that waits at a call of this function, in whose slots the facts known there are true.
+  -- `Stands` describes a call that waits for this callee: the facts known at its call instruction
+  -- are true in its slots.
   pub record Stands (callee : ℕ) (f : Frame) : Type 0 where
     pub index : ℕ
     pub arguments : ℕ
@@ -66,7 +68,7 @@ module _ (program simplified : Program) (replaced : (function : ℕ) → IsRepla
   pub free_unnamed : (function slot : ℕ) → is_free (pins_in function) slot ≡ true → is_pinned (routine_at program function).code slot ≡ false
   free_unnamed function slot free = (replaced function).pins.right slot free
 
-  -- A store to a slot whose address is taken preserves the facts.
+  -- A store to a slot whose address is taken preserves the facts known in the function.
   pinned_put : (function : ℕ) (slots : Words) (slot word : ℕ) → is_pinned (routine_at program function).code slot ≡ true → (index : ℕ) (i : Instruction)
       → At (routine_at simplified function) index i → AreTrueAlone slots (facts_in function index) → AreTrueAlone (put slots slot word) (facts_in function index)
   pinned_put function slots slot word pinned index i at holds = λ memory.
@@ -104,7 +106,7 @@ module _ (program simplified : Program) (replaced : (function : ℕ) → IsRepla
       )
       go None at others = (first, others)
 
-  -- The initial state of a run.
+  -- Returns the initial configuration of a run.
   abbrev beginning : (base : ℕ) → StoreState → List ℕ → Configuration
   beginning base store input = record {
     active = record { function = program.main; next = 0; base = base; slots = λ (slot : ℕ). 0; handlers = [] };
@@ -115,7 +117,7 @@ module _ (program simplified : Program) (replaced : (function : ℕ) → IsRepla
     input = input;
   }
 
-  -- The facts known at the entry are true in the initial state.
+  -- The facts known at the entry of `main` are true in the initial state.
   pub known_start : (base : ℕ) (store : StoreState) (input : List ℕ) → IsKnown (start program base store input)
   known_start base store input = (
     subst (AreTrueIn (scene_of program (beginning base store input))) (sym (replaced program.main).is_table.first) tt,

@@ -1,4 +1,5 @@
--- If the facts are true, a replacement has exactly the effect of the original instruction, for every choice.
+-- If the known facts are true, a replacement has exactly the effect of the original instruction, for every
+-- choice.
 use Rattle.std.proofs.Common.{◌≡◌, ℕ, ◌%◌, ◌++◌, Bool, true, false, List, [], ◌∷◌, Option, Some, None, refl, sym, ap, ◌∙◌}
 use Rattle.std.specs.Prelude.{◌==◌, if◌then◌else◌}
 use Rattle.std.proofs.lemmas.Bool.{eqb-true, cond_both}
@@ -32,7 +33,7 @@ use Rattle.cyc_propagation.proofs.Truth.{known_true}
 use Rattle.cyc_propagation.proofs.Same.{passed_either, operand_same, second_same, IsFoldedUnary, folded_unary_true, IsFolded, folded_at_true, HoldsResult, holder_in_true, IsDecidedRight, decision_in_right, IsFound, value_in_true}
 
 module _ (scene : Scene) (facts : List Fact) (holds : AreTrueIn scene facts) where
-  -- A simplified request makes the store call of the original request.
+  -- A simplified request makes the same call of the store as the original request.
   pub call_same : (request : Request) → call_in scene.slots (simplified_request facts request) ≡ call_in scene.slots request
   call_same (requests.OpenLexical destination) = refl
   call_same (requests.CloseTo mark) = ap services.CloseTo (operand_same scene facts mark holds)
@@ -101,7 +102,7 @@ module _ (program : Program) (choice : Choice) (c : Configuration) (facts : List
       (folded_at_true (scene_of program c) facts operator destination (other left) (right_operand facts operator (other right)) holds)
       (holder_in_true (scene_of program c) facts operator (other left) (right_operand facts operator (other right)) holds)
     where
-      -- A folded word is the operator's result, if the operator has one.
+      -- If an operator has a result, the word that constant folding computes is this result.
       is_result : (w : ℕ) → w ≡ binary_result operator (word (other left)) (word (right_operand facts operator (other right)))
           → has_no_result operator (word (right_operand facts operator (other right))) ≡ false → gives c destination w ≡ performed program choice c (instructions.Binary operator destination left right)
       is_result w result some =
@@ -121,7 +122,7 @@ module _ (program : Program) (choice : Choice) (c : Configuration) (facts : List
   branch_same comparison left right =
       ap (λ (a : ℕ). compares comparison a (word (other right))) (same left) ∙ ap (compares comparison (word left)) (same right)
 
-  -- A move from a slot to that slot has no effect.
+  -- A move from a slot to the same slot has no effect.
   itself_same : (slot : ℕ) → gives c slot (c.active.slots slot) ≡ Running (advanced c)
   itself_same slot = ap (λ (slots : Words). Running (advanced (with_slots c slots))) (fun_ext (λ (number : ℕ).
       cond_both (number == slot) (c.active.slots slot) (c.active.slots number) (λ w. w ≡ c.active.slots number)
@@ -142,7 +143,7 @@ module _ (program : Program) (choice : Choice) (c : Configuration) (facts : List
           passed_either (λ (i : Instruction). performed program choice c i ≡ branches c false target) (other left) (other right) target itself_same refl
           ∙ ap (λ (b : Bool). branches c b target) (sym right_so ∙ branch_same comparison left right)
 
-  -- A load of a known word equals a move.
+  -- A load of a known word has the effect of a move.
   loaded_same : (destination : ℕ) (address : Operand) (offset : ℕ)
       → performed program choice c (simplified_load (value_in facts (other address) offset) destination (other address) offset)
       ≡ performed program choice c (instructions.Load destination address offset)
@@ -153,7 +154,7 @@ module _ (program : Program) (choice : Choice) (c : Configuration) (facts : List
       go (Some value) is = sym (ap (loads c destination) is) ∙ ap (λ (w : ℕ). loads c destination (memory_at program c (add_of w offset))) (same address)
       go None nothing = ap (λ (w : ℕ). loads c destination (memory_at program c (add_of w offset))) (same address)
 
-  -- A load of a global with a known word equals a move.
+  -- A load of a global whose word is known has the effect of a move.
   global_same : (destination global : ℕ) → performed program choice c (simplified_instruction facts (instructions.LoadGlobal destination global))
       ≡ performed program choice c (instructions.LoadGlobal destination global)
   global_same destination global = by_offset (global_offset global) refl
@@ -234,7 +235,7 @@ callee_same facts (instructions.LoadGlobal destination global) = go (global_valu
     go None = refl
 callee_same facts i = refl
 
--- The replacement has the limit of active calls of the original instruction.
+-- The replacement has the same limit of active calls as the original instruction.
 pub limit_same : (calls : ℕ) (facts : List Fact) (i : Instruction) → limit_of (Some (simplified_instruction facts i)) calls ≡ limit_of (Some i) calls
 limit_same calls facts (instructions.Move destination source) = go (is_known facts (facts_are.Equal destination (simplified_operand facts source)))
   where

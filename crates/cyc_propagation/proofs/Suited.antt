@@ -1,4 +1,5 @@
--- Facts mention only free slots and words, and so do the operands that they supply.
+-- Facts mention only free slots (slots whose address is not taken) and words, and so do the
+-- operands that facts supply.
 use Rattle.std.proofs.Common.{◌≡◌, ℕ, ◌<◌, Bool, true, ◌&&◌, List, [], ◌∷◌, length, Option, Some, None, sym, ap, ◌∙◌, inl, inr}
 use Rattle.std.specs.Prelude.{not, unwrap_or}
 use Rattle.std.proofs.lemmas.Bool.{and_parts, cases_lt, cond_both, false≢true}
@@ -34,7 +35,7 @@ module _ (pinned : List Bool) where
         let (first, rest) = and_parts (suits pinned fact) (are_suited pinned facts) all in
         instead_has fact operand (simplified_operand facts operand) first (operand_has facts operand rest has)
 
-  -- The slot that a fact gives for a result is free.
+  -- If a fact states that a slot contains a result, the address of this slot is not taken.
   abbrev pub IsFreeIfAny : Option ℕ → Type 0
   IsFreeIfAny (Some slot) = is_free pinned slot ≡ true
   IsFreeIfAny None = Unit {0}
@@ -63,7 +64,8 @@ module _ (pinned : List Bool) where
       go (Some slot) free others = free
       go None free others = others
 
--- The operand that a fact gives for a word of memory is a free slot or a word.
+-- If a fact states an operand for a word of memory, the operand is a slot whose address is not
+-- taken, or a word.
 module _ (pinned : List Bool) where
   abbrev pub SuitsIfAny : Option Operand → Type 0
   SuitsIfAny (Some value) = suits_operand pinned value ≡ true

@@ -1,4 +1,4 @@
--- A checked table is right: its facts are true at each place, whatever path the run took.
+-- The facts of a checked table are true at each code position, whatever path the run took.
 use Rattle.std.proofs.Common.{◌≡◌, ℕ, zero, suc, ◌+◌, ◌<◌, ◌≤◌, Bool, true, ◌&&◌, ◌||◌, List, [], ◌∷◌, ◌++◌, length, drop, Option, Some, None, slice_get, refl, sym, ap, subst, ◌∙◌, arith, inl, inr}
 use Rattle.std.specs.Prelude.{◌==◌, not, nat_lt, if◌then◌else◌}
 use Rattle.std.proofs.lemmas.Bool.{and_parts, and_from, or_cases, eqb-true, ltb-true, false≢true, cond_both, cond-true}
@@ -51,7 +51,7 @@ unaltered_second operator operand =
     go (operands.Slot number) = refl
     go (operands.Word word) = cond_both (nat_lt word 32768) (operands.Word word) (operands.Word word) (λ o. o ≡ operands.Word word) (λ small. refl) (λ large. refl)
 
--- Without facts an instruction is its own replacement.
+-- If no fact is known, an instruction is its own replacement.
 unaltered : (i : Instruction) → simplified_instruction [] i ≡ i
 unaltered (instructions.Binary operator destination left right) =
     let second : Operand = right_operand [] operator right in
@@ -70,7 +70,7 @@ pub unaltered_without : (facts : List Fact) (i : Instruction) → (length facts 
 unaltered_without [] i none = sym (unaltered i)
 unaltered_without (fact ∷ facts) i none = absurd (omega (arith, eqb-true (length (fact ∷ facts)) 0 none))
 
--- A function is its own replacement.
+-- An unchanged function is a valid replacement of itself.
 pub unchanged : (program : Program) (r : Routine) (pinned : List Bool) → ArePins r pinned → IsReplaced program r r
 unchanged program r pinned pins = record {
   name = refl;
@@ -94,12 +94,12 @@ unchanged program r pinned pins = record {
 
 -- ---- unreachable places
 
--- The fact `never` is not among true facts.
+-- The fact `never` is in no list of true facts.
 pub reached : (scene : Scene) (facts : List Fact) → AreTrueIn scene facts → is_unreached facts ≡ true → ⊥
 reached scene [] holds is = false≢true is
 reached scene (fact ∷ facts) (first, rest) is = false≢true (same_fact scene fact never is first)
 
--- At a reachable place the replacement is the simplified instruction.
+-- The replacement of a reachable instruction is its simplified instruction.
 pub put_reached : (scene : Scene) (facts : List Fact) (index count : ℕ) (i : Instruction) → AreTrueIn scene facts → put_at facts index count i ≡ simplified_instruction facts i
 put_reached scene facts index count i holds =
     cond_both (vanishes facts i) (instructions.Jump (place_after index count)) (simplified_instruction facts i) (λ j. j ≡ simplified_instruction facts i)
@@ -121,7 +121,8 @@ module _ (scene : Scene) (facts : List Fact) (more : Option Fact) (holds : AreTr
     | inr last ↦ more_true fact last
   ]
 
-  -- A comparison that holds after operands are replaced by equal ones holds.
+  -- If a comparison holds after its operands are replaced by equal ones, the original comparison
+  -- holds.
   resolved_true : (fact : Fact) → IsTrueIn scene (resolved_fact facts fact) → IsTrueIn scene fact
   resolved_true (facts_are.Equal slot operand) is = is
   resolved_true (facts_are.Computed slot operator left right) is = is
@@ -130,7 +131,7 @@ module _ (scene : Scene) (facts : List Fact) (more : Option Fact) (holds : AreTr
       ap (λ (a : ℕ). compares comparison a (operand_word scene.slots right)) (sym (operand_same scene facts left holds))
       ∙ ap (compares comparison (operand_word scene.slots (simplified_operand facts left))) (sym (operand_same scene facts right holds)) ∙ is
 
-  -- A comparison of known words that is computed to hold holds.
+  -- If a comparison of two known words is computed to hold, it holds.
   below_true : (fact : Fact) → is_below facts fact ≡ true → IsTrueIn scene fact
   below_true (facts_are.Equal slot operand) is = absurd (false≢true is)
   below_true (facts_are.Computed slot operator left right) is = absurd (false≢true is)
@@ -272,7 +273,8 @@ module _ (program : Program) (r s : Routine) (pinned : List Bool) (entry : ℕ �
   abbrev table : ℕ → List Fact
   table index = facts_at program pinned entry r.code index
 
-  -- The replacement of the instruction at a place.
+  -- `StandsFor` says that the instruction `j` is the replacement of the original function's
+  -- instruction at `index`.
   record StandsFor (index : ℕ) (j : Instruction) : Type 0 where
     pub instruction : Instruction
     pub at : At r index instruction
@@ -292,7 +294,8 @@ module _ (program : Program) (r s : Routine) (pinned : List Bool) (entry : ℕ �
         well = subst (λ (x : Instruction). is_checked_at program pinned entry (table index) x index ≡ true) (sym same) (checked index i there);
       }
 
-  -- The facts of the table at the next place.
+  -- The facts of the table at the next position are those required there, or those after the
+  -- replaced instruction.
   next_table : (index : ℕ) (j : Instruction) → StandsFor index j → table (suc index) ≡ entered_or (entry (suc index)) (after_put program pinned (table index) j index)
   next_table index j stands =
       ap (λ (o : Option Instruction). entered_or (entry (suc index)) (facts_after_place program pinned (table index) o index (length r.code))) stands.at
@@ -314,7 +317,7 @@ module _ (program : Program) (r s : Routine) (pinned : List Bool) (entry : ℕ �
       go (Some facts) others entry_is others_are = entry_is
       go None others entry_is others_are = others_are
 
-  -- The facts at a jump target are true after the jump.
+  -- After a jump, the facts required at the jump target are true.
   jumped : (scene : Scene) (target : ℕ) (facts : List Fact) (more : Option Fact) → may_jump (entry target) facts more ≡ true → AreTrueIn scene facts → IsTrueIfAny scene more
       → AreTrueIn scene (table target)
   jumped scene zero facts more may holds one = tt
@@ -325,7 +328,8 @@ module _ (program : Program) (r s : Routine) (pinned : List Bool) (entry : ℕ �
       go (Some asked) others may = asked_true scene facts more holds one asked may
       go None others may = absurd (false≢true may)
 
-  -- The facts at the next place are true, even if it is a jump target.
+  -- The facts in the table of the next instruction are true, even if that instruction is a jump
+  -- target.
   went_on : (scene : Scene) (index : ℕ) (j : Instruction) → StandsFor index j → (facts : List Fact) → may_go_on (entry (index + 1)) facts None ≡ true → AreTrueIn scene facts
       → AreTrueIn scene (after_put program pinned (table index) j index) → AreTrueIn scene (table (suc index))
   went_on scene index j stands facts may holds following =
@@ -338,7 +342,7 @@ module _ (program : Program) (r s : Routine) (pinned : List Bool) (entry : ℕ �
       go None others may following = following
 
   module _ (index next : ℕ) (scene : Scene) where
-    -- The facts at the next place are true if control falls through.
+    -- The facts in the table of the next instruction are true if control falls through.
     falls : (j : Instruction) → StandsFor index j → (facts : List Fact) → may_go_on (entry (index + 1)) facts None ≡ true → AreTrueIn scene facts
         → AreTrueIn scene (after_put program pinned (table index) j index) → (suc index == next) ≡ true → AreTrueIn scene (table next)
     falls j stands facts may holds following led =
@@ -423,7 +427,8 @@ module _ (program : Program) (r s : Routine) (pinned : List Bool) (entry : ℕ �
         edge index next scene i (stands_for index i at) (well_led index i (stands_for index i at)) led keeps makes;
   }
 
-  -- The function with each instruction replaced satisfies `IsReplaced`.
+  -- If each instruction of a function is replaced under the facts of a checked table, the result
+  -- satisfies `IsReplaced`.
   pub replaced : ArePins r pinned → s.name ≡ r.name → s.parameters ≡ r.parameters → s.results ≡ r.results → s.slots ≡ r.slots → s.frame_count ≡ r.frame_count → size s ≤ size r → IsReplaced program r s
   replaced pins name parameters results slots frame_count small = record {
     name = name;

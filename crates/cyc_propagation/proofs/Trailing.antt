@@ -1,4 +1,4 @@
--- The facts about a call's slots that an instruction preserves and makes true.
+-- The facts about a call's slots that an instruction preserves, and those that it establishes.
 use Rattle.std.proofs.Common.{◌≡◌, ◌≢◌, ℕ, suc, ◌+◌, ◌-◌, ◌≤◌, ◌<◌, Bool, true, false, ◌&&◌, ◌||◌, List, Option, Some, None, refl, sym, ap, subst, ◌∙◌, arith, inl, inr}
 use Rattle.std.specs.Prelude.{◌==◌, not, nat_le, nat_lt, int_le, int_lt, if◌then◌else◌}
 use Rattle.std.proofs.lemmas.Bool.{or_parts, or_cases, and_parts, and_from, and_left, and_right, eqb-true, eq-eqb, eqb-false, cond-true, cond-false, cond_both, not-true, le-leb, leb-true, lt-leb, lt-ltb, le-ltb, false≢true, not_from_false}
@@ -49,7 +49,7 @@ left_slot_differs destination slot leaves same =
 pub put_left : (old : Words) (destination word : ℕ) → IsLeft old (put old destination word) (range destination 1)
 put_left old destination word = λ slot leaves. put-other old destination slot word (left_slot_differs destination slot leaves)
 
--- A write of a slot's own word changes no slot.
+-- Writing to a slot the word that it already contains changes no slot.
 pub put_itself : (old : Words) (destination word : ℕ) → word ≡ old destination → (w : Written) → IsLeft old (put old destination word) w
 put_itself old destination word is w = λ slot leaves. go slot
   where
@@ -60,7 +60,7 @@ pub copied_left : (from old : Words) (source count destination : ℕ) → IsLeft
 copied_left from old source count destination = λ slot leaves.
     cond-false (is_among destination count slot) (from (source + (slot - destination))) (old slot) (left_is_not_among destination count slot leaves)
 
--- Writes to two adjacent slots change only these.
+-- Writes to two adjacent slots change only these two slots.
 two_left : (old : Words) (destination one other : ℕ) → IsLeft old (put (put old destination one) (suc destination) other) (range destination 2)
 two_left old destination one other = λ slot leaves.
     put-other (put old destination one) (suc destination) slot other (outside slot leaves (suc destination) (omega arith) (omega arith))
@@ -72,7 +72,8 @@ two_left old destination one other = λ slot leaves.
         and_from _ _ (le-leb destination slot (omega (arith, same, low))) (lt-ltb slot (destination + 2) (omega (arith, same, high))) in
         false≢true (sym (left_is_not_among destination 2 slot leaves) ∙ inside)
 
--- The store's result changes only the destination slots.
+-- The result of a request to the store (the heap of regions) changes only the request's destination
+-- slots.
 pub reported_left : (store : StoreState) (old read : Words) (request : Request) (choice : services.Choice)
     → IsLeft old (reported (answer store (call_in read request) choice) (destination_of request) old) (range (destination_of request) (answer_count request))
 reported_left store old read (requests.OpenLexical destination) choice = two_left old destination _ _
@@ -84,7 +85,7 @@ reported_left store old read (requests.Free address) choice = nothing_left old (
 
 -- ---- facts made true
 
--- An operand denotes an unchanged word after a write to another slot.
+-- If a write goes to a slot other than an operand's, the operand still denotes the same word.
 other_word : (old : Words) (destination word : ℕ) (operand : Operand) → is_slot operand destination ≡ false
     → operand_word (put old destination word) operand ≡ operand_word old operand
 other_word old destination word (operands.Word number) other = refl
@@ -97,7 +98,8 @@ moved_made old memory pinned destination source other =
     suited_any (record { slots = put old destination (operand_word old source); memory = memory }) pinned (facts_are.Equal destination source)
     (put-same old destination (operand_word old source) ∙ sym (other_word old destination (operand_word old source) source other))
 
--- Words moved to slots that are no sources equal their sources.
+-- If the destination slots of a move are not source slots, each of them equals its source slot
+-- after the move.
 pub copied_made : (old : Words) (pinned : List Bool) (source count destination : ℕ) → are_copied pinned destination source count ≡ true → (k : ℕ) → k < count
     → copied old source count old destination (destination + k) ≡ copied old source count old destination (source + k)
 copied_made old pinned source count destination copies k below =
@@ -138,7 +140,7 @@ computed_made old memory pinned operator destination left right some =
       ap (has_no_result operator) by_right ∙ some,
     ))
 
--- A truth value is below 2.
+-- A truth value (1 or 0) is less than 2.
 truth_below : (holds : Bool) → nat_lt (truth holds) 2 ≡ true
 truth_below true = refl
 truth_below false = refl
@@ -158,7 +160,7 @@ not_below unary.Not a is = truth_below (a == 0)
 not_below operator a is = absurd (false≢true is)
 
 module _ (old : Words) (memory : ℕ → Option ℕ) (pinned : List Bool) (destination : ℕ) where
-  -- The slot received a truth value, if the fact says so.
+  -- If a fact states that a slot contains a truth value, the slot contains 0 or 1.
   truth_there : (is_said : Bool) (word : ℕ) → (is_said ≡ true → nat_lt word 2 ≡ true)
       → IsTrueIfAny (record { slots = put old destination word; memory = memory }) (if is_said then suited pinned (truth_in destination) else None)
   truth_there true word below =
@@ -177,7 +179,7 @@ module _ (old : Words) (memory : ℕ → Option ℕ) (pinned : List Bool) (desti
       (tested pinned (instructions.Unary operator destination operand))
   not_made operator operand = truth_there (is_not operator) (unary_result operator (operand_word old operand)) (not_below operator (operand_word old operand))
 
--- The loaded word is the word in memory.
+-- After a load, memory has the word of the destination slot at the loaded address.
 pub loaded_made : (old : Words) (memory : ℕ → Option ℕ) (pinned : List Bool) (address : Operand) (offset destination word : ℕ)
     → (is_free pinned destination ≡ true → memory (add_of (operand_word old address) offset) ≡ Some word)
     → IsTrueIfAny (record { slots = put old destination word; memory = memory }) (loaded pinned address offset destination)
@@ -193,7 +195,7 @@ loaded_made old memory pinned address offset destination word there =
     ∙ there (and_parts (suits_operand pinned address) (is_free pinned destination) suits).1
     ∙ ap Some (sym (put-same old destination word))))
 
--- The fact that a branch shows is true, taken or not.
+-- The fact that a branch establishes is true, if the branch is taken and if it is not.
 pub shown_true : (scene : Scene) (pinned : List Bool) (comparison : Comparison) (left right : Operand) (target index : ℕ) (taken : Bool)
     → compares comparison (operand_word scene.slots left) (operand_word scene.slots right) ≡ taken
     → IsTrueIfAny scene (shown pinned comparison left right target index (if taken then target else index + 1))

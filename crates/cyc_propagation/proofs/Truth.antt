@@ -1,4 +1,4 @@
--- Truth of facts: equal facts, preserved facts, and facts that follow from known ones.
+-- The truth of facts: of equal facts, of preserved facts, and of facts that follow from known ones.
 use Rattle.std.proofs.Common.{◌≡◌, ◌≢◌, ℕ, zero, suc, ◌+◌, ◌-◌, ◌^◌, ◌<◌, ◌≤◌, Bool, true, false, ◌&&◌, List, [], ◌∷◌, drop, length, Option, Some, None, refl, sym, ap, subst, ◌∙◌, arith, inl, inr}
 use Rattle.std.specs.Prelude.{◌==◌, not, nat_le, nat_lt, if◌then◌else◌}
 use Rattle.std.proofs.lemmas.Bool.{and_parts, and_from, and_right, or_cases, eqb-true, eq-eqb, ltb-true, leb-true, le-ltb, cases_lt, not_from_false, false≢true, cond_both, cond-true}
@@ -100,14 +100,14 @@ same_operand (operands.Word word) (operands.Word other) same = ap operands.Word 
 same_operand (operands.Slot number) (operands.Word word) same = absurd (false≢true same)
 same_operand (operands.Word word) (operands.Slot number) same = absurd (false≢true same)
 
--- Equal references find equal words.
+-- Equal references to memory read equal words.
 pub found_same : (scene : Scene) (address : Operand) (offset : ℕ) (other : Operand) (further : ℕ) → is_same_word address offset other further ≡ true
     → found scene other further ≡ found scene address offset
 found_same scene address offset other further same =
     let (a, o) = and_parts (is_same_operand address other) (offset == further) same in
     ap (λ (x : Operand). found scene x further) (sym (same_operand address other a)) ∙ ap (found scene address) (sym (eqb-true offset further o))
 
--- Equal facts are equally true.
+-- If two facts are equal and one is true, the other is true.
 pub same_fact : (scene : Scene) (one other : Fact) → is_same_fact one other ≡ true → IsTrueIn scene one → IsTrueIn scene other
 same_fact scene (facts_are.Equal slot operand) (facts_are.Equal slot_2 operand_2) same holds =
     let (s, o) = and_parts (slot == slot_2) (is_same_operand operand operand_2) same in
@@ -140,7 +140,7 @@ same_fact scene (facts_are.Held address offset value) (facts_are.Held address_2 
     found_same scene address offset address_2 offset_2 w ∙ holds ∙ ap (λ (x : Operand). Some (operand_word scene.slots x)) (same_operand value value_2 v)
 same_fact scene one other same holds = absurd (false≢true same)
 
--- A member of a list of true facts is true.
+-- If all facts in a list are true, each fact that the list contains is true.
 pub known_true : (scene : Scene) (facts : List Fact) (fact : Fact) → AreTrueIn scene facts → is_known facts fact ≡ true → IsTrueIn scene fact
 known_true scene [] fact holds known = absurd (false≢true known)
 known_true scene (other ∷ facts) fact (first, rest) known = elim (or_cases (is_same_fact other fact) (is_known facts fact) known) [
@@ -167,11 +167,11 @@ offsets_apart address offset other apart same =
     let equal : offset ≡ other = omega (arith, one, two, same) in
     false≢true (sym (ap not (eq-eqb offset other equal)) ∙ differ)
 
--- All slots except the written ones are unchanged.
+-- `IsLeft` says that all slots except the written ones are unchanged.
 abbrev pub IsLeft : (old new : Words) → Written → Type 0
 IsLeft old new w = (slot : ℕ) → leaves_slot w slot ≡ true → new slot ≡ old slot
 
--- Memory is unchanged except for the part that may be changed.
+-- `IsUntouched` says that memory is unchanged except for the part that the instruction may change.
 abbrev pub IsUntouched : (old new : Scene) → Touched → Type 0
 IsUntouched old new touches.Nothing = (address : ℕ) → new.memory address ≡ old.memory address
 IsUntouched old new (touches.Word address offset) =
@@ -179,7 +179,7 @@ IsUntouched old new (touches.Word address offset) =
 IsUntouched old new touches.All = Unit {0}
 
 module _ (old new : Scene) where
-  -- A fact stays true if the words that it mentions are unchanged.
+  -- A fact stays true if all words that it mentions are unchanged.
   same_equal : (slot : ℕ) (operand : Operand) → new.slots slot ≡ old.slots slot → operand_word new.slots operand ≡ operand_word old.slots operand
       → IsTrueIn old (facts_are.Equal slot operand) → IsTrueIn new (facts_are.Equal slot operand)
   same_equal slot operand at by_operand holds = at ∙ holds ∙ sym by_operand
@@ -246,7 +246,7 @@ module _ (old new : Scene) where
         cond_both (keeps w t fact) (fact ∷ kept w t facts) (kept w t facts) (AreTrueIn new)
         (λ keeps. (fact_left t untouched fact keeps first, kept_true t untouched facts rest)) (λ not_kept. kept_true t untouched facts rest)
 
-  -- The facts stay true if free slots and memory are unchanged.
+  -- The facts stay true if memory and all slots whose address is not taken are unchanged.
   module _ (pinned : List Bool) (free_left : (slot : ℕ) → is_free pinned slot ≡ true → new.slots slot ≡ old.slots slot)
       (memory_left : (address : ℕ) → new.memory address ≡ old.memory address) where
     operand_free : (operand : Operand) → suits_operand pinned operand ≡ true → operand_word new.slots operand ≡ operand_word old.slots operand
@@ -273,7 +273,7 @@ module _ (old new : Scene) where
     suited_true (fact ∷ facts) suited (first, rest) =
         let (s, others) = and_parts (suits pinned fact) (are_suited pinned facts) suited in (fact_free fact s first, suited_true facts others rest)
 
--- The preserved facts mention only free slots.
+-- The facts that an instruction preserves mention only slots whose address is not taken.
 pub kept_suited : (pinned : List Bool) (w : Written) (t : Touched) (facts : List Fact) → are_suited pinned facts ≡ true → are_suited pinned (kept w t facts) ≡ true
 kept_suited pinned w t [] all = refl
 kept_suited pinned w t (fact ∷ facts) all =
@@ -286,7 +286,7 @@ kept_suited pinned w t (fact ∷ facts) all =
 abbrev nowhere : Written
 nowhere = record { first = 0; count = 0 }
 
--- The facts are true for every content of memory.
+-- `AreTrueAlone` says that the facts not about memory are true, whatever memory contains.
 abbrev pub AreTrueAlone : Words → List Fact → Type 0
 AreTrueAlone slots facts = (memory : ℕ → Option ℕ) → AreTrueIn (record { slots = slots; memory = memory }) (kept nowhere touches.All facts)
 
@@ -294,7 +294,7 @@ pub true_alone : (scene : Scene) (facts : List Fact) → AreTrueIn scene facts �
 true_alone scene facts holds = λ memory.
     kept_true scene (record { slots = scene.slots; memory = memory }) nowhere (λ slot leaves. refl) touches.All tt facts holds
 
--- A fact preserved by a write to some slots is preserved if none is written.
+-- A fact preserved by a write to some slots is also preserved if no slot is written.
 kept_none : (w : Written) (fact : Fact) → keeps w touches.All fact ≡ true → keeps nowhere touches.All fact ≡ true
 kept_none w (facts_are.Equal slot operand) keeps = and_from _ _ (leaves_any slot) (leaves_any_operand operand)
 kept_none w (facts_are.Computed slot operator left right) keeps = and_from _ _ (leaves_any slot) (and_from _ _ (leaves_any_operand left) (leaves_any_operand right))
@@ -303,7 +303,7 @@ kept_none w (facts_are.Held address offset value) keeps =
     let (a, both) = and_parts (leaves_operand w address) (leaves_operand w value && false) keeps in
     absurd (false≢true (and_parts (leaves_operand w value) false both).1)
 
--- The preserved facts are true after a call, whose results are written to some slots.
+-- The facts that a call preserves are true after it, when its results are written to some slots.
 pub true_after_call : (old : Words) (new : Scene) (w : Written) → IsLeft old new.slots w → (facts : List Fact) → AreTrueAlone old facts → AreTrueIn new (kept w touches.All facts)
 true_after_call old new w leaves [] alone = tt
 true_after_call old new w leaves (fact ∷ facts) alone =
@@ -327,7 +327,7 @@ true_after_call old new w leaves (fact ∷ facts) alone =
 
 -- ---- one more fact
 
--- A fact is made only if it mentions free slots and words.
+-- A fact is added only if it mentions no slot whose address is taken, and only words.
 pub suited_if : (scene : Scene) (pinned : List Bool) (fact : Fact) → (suits pinned fact ≡ true → IsTrueIn scene fact) → IsTrueIfAny scene (suited pinned fact)
 suited_if scene pinned fact holds = cond_both (suits pinned fact) (Some fact) None (IsTrueIfAny scene) (λ s. holds s) (λ s. tt)
 
@@ -345,7 +345,7 @@ remembered_true scene facts (Some fact) holds one =
     after_first [] holds = tt
     after_first (other ∷ facts) (first, rest) = rest
 
--- The facts about copied words are true.
+-- After a move of several words, the facts that state that destinations equal sources are true.
 copies_true : (scene : Scene) (pinned : List Bool) (destination source count : ℕ) → IsMade scene pinned (instructions.MoveWords destination source count) 0 0
     → (facts : List Fact) → AreTrueIn scene facts → AreTrueIn scene (with_copies pinned (instructions.MoveWords destination source count) facts)
 copies_true scene pinned destination source count same facts holds = with_one 2 _ (with_one 1 _ (with_one 0 facts holds))
@@ -372,7 +372,7 @@ all_true scene pinned facts i index next holds is = remembered_true scene facts 
 
 -- ---- free slots
 
--- Each of `count` free slots is free.
+-- If `count` consecutive slots are free (their address is not taken), each of them is.
 pub each_free : (pinned : List Bool) (first count k : ℕ) → are_free pinned first count ≡ true → k < count → is_free pinned (first + k) ≡ true
 each_free pinned first zero k free below = absurd (omega (arith, below))
 each_free pinned first (suc count) k free below =

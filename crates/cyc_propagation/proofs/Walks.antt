@@ -1,4 +1,4 @@
--- A function whose instructions were all checked and simplified is replaced by the result.
+-- If all instructions of a function were checked and simplified, the result replaces the function.
 use Rattle.std.proofs.Common.{◌≡◌, ℕ, zero, suc, ◌+◌, ◌<◌, Bool, true, List, [], ◌∷◌, ◌++◌, length, map, Option, Some, None, slice_get, refl, sym, ap, subst, ◌∙◌, arith, inl, inr}
 use Rattle.std.specs.Prelude.{◌==◌, slice_index_or}
 use Rattle.std.proofs.lemmas.Bool.{cases_lt, and_parts, and_from, eqb-true}
@@ -128,7 +128,7 @@ module _ (program : Program) (r : Routine) (pinned : List Bool) (entries : List 
       let known = known_at index in
       (put_at known index (length r.code) i, are.each index i at (below_from_slice_get r.code index i at), put_not_larger known index (length r.code) i)))
 
--- The walk makes one more step of the check, as the code computes it.
+-- The traversal makes one more step of the check, as the code computes it.
 pub stepped : (program : Program) (r : Routine) (pinned : List Bool) (entries : List Entry) (count : ℕ) (code : List Instruction) (facts next : List Fact) (i : Instruction)
     → AreWalked program r pinned entries count code facts → At r count i → (made : Instruction) (all : List Instruction) → made ≡ put_at facts count (length r.code) i
     → all ≡ code ++ made ∷ [] → is_checked_at program pinned (entry_in entries) facts made count ≡ true

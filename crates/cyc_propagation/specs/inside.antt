@@ -1,6 +1,6 @@
--- the results that the contract of `simplify` rests on
+-- the definitions in which the contract of `simplify` is stated and proved
 pub mod Simplified
--- the contracts of the functions inside the crate
+-- the contracts of the functions of this crate
 pub mod Facts
 pub mod Copies
 pub mod Replacement

@@ -1,4 +1,5 @@
-//! Selects the functions worth simplifying. Unverified: any function may stay unchanged.
+//! Selects the functions that are worth simplifying. The selection is unverified, since any
+//! function may stay unchanged.
 ghost use Rattle.std.specs.Prelude.{◌<◌, length};
 
 use crate::jumps::is_end;
@@ -7,7 +8,7 @@ use crate::known::{
 };
 use cyc_plain::{Comparison, Instruction, Operand, Request};
 
-/// The range of slots that received copies since the last call.
+/// The range of slots to which words were copied since the last call.
 #[derive(Clone, Copy)]
 struct Copies {
     first: usize,
@@ -18,7 +19,8 @@ fn no_copies() -> Copies {
     Copies { first: 1, last: 0 }
 }
 
-/// Adds a copied slot. Consecutive copies must be in adjacent slots.
+/// Returns the range with one more slot to which a word was copied. The slots of consecutive copies
+/// must be adjacent.
 fn with_copy(copies: Copies, destination: usize) -> Copies {
     if destination > copies.last && copies.first <= copies.last {
         Copies {
@@ -33,7 +35,7 @@ fn with_copy(copies: Copies, destination: usize) -> Copies {
     }
 }
 
-/// Adds several consecutive copied slots.
+/// Returns the range with several more consecutive slots to which words were copied.
 fn with_copies(copies: Copies, destination: usize, count: usize) -> Copies {
     let copies = with_copy(copies, destination);
     if count > 1 && destination <= usize::MAX - count {
@@ -43,7 +45,8 @@ fn with_copies(copies: Copies, destination: usize, count: usize) -> Copies {
     }
 }
 
-/// The copies and reads since the last call. Copies that pass arguments do not count, since the call needs them.
+/// The slots copied to and the slots and globals read since the last call. Copies that pass arguments are
+/// ignored, since the call needs them.
 #[derive(Clone, Copy)]
 struct Seen {
     copies: Copies,
@@ -58,7 +61,7 @@ fn nothing_seen() -> Seen {
     }
 }
 
-/// Returns the bit of a global; several globals may share one.
+/// Returns the bit that represents a global in the mask; several globals may have the same bit.
 fn bit_of(global: usize) -> u64 {
     1 << (global % 64)
 }
@@ -77,7 +80,7 @@ fn see_global(seen: Seen, global: usize) -> Seen {
     }
 }
 
-/// Adds an instruction to the lists of copies and reads.
+/// Returns the copies and reads seen so far, with those of one more instruction.
 fn seen_after(seen: Seen, instruction: &Instruction) -> Seen {
     match *instruction {
         Instruction::Move {
@@ -109,12 +112,14 @@ fn is_copy(copies: Copies, operand: Operand) -> bool {
     }
 }
 
-/// Returns true if one of two operands is a copy, so that the original slot can be read instead.
+/// Returns true if one of two operands is a copied slot, so that the original slot can be read
+/// instead.
 fn has_copy(copies: Copies, left: Operand, right: Operand) -> bool {
     is_copy(copies, left) || is_copy(copies, right)
 }
 
-/// Returns true if a slot is tested and an exception is thrown on failure. An index check is a branch around the throw.
+/// Returns true if a branch may be a check: it compares by unsigned `<`, as index checks do, or it tests a slot and
+/// jumps to where the run ends or an exception leaves the function.
 fn is_check(
     code: &[Instruction],
     comparison: Comparison,
@@ -126,7 +131,7 @@ fn is_check(
         || ((is_any_slot(left) || is_any_slot(right)) && is_end(code, target))
 }
 
-/// Returns true if two instructions compute or load one value.
+/// Returns true if two instructions compute or load the same value.
 fn are_same(one: &Instruction, other: &Instruction) -> bool {
     match (*one, *other) {
         (
@@ -162,15 +167,15 @@ fn are_same(one: &Instruction, other: &Instruction) -> bool {
     }
 }
 
-/// Returns true if the previous instruction computes or loads this instruction's value.
+/// Returns true if the previous instruction computes or loads the same value as this one.
 fn is_again(code: &[Instruction], index: usize) -> bool
     requires { index < length code.now }
 {
     index > 0 && are_same(&code[index - 1], &code[index])
 }
 
-/// Returns true if an instruction may be simplified: it may be a check, read a copied slot or reload a global, repeat the previous
-/// computation, or have a constant operand with a sign.
+/// Returns true if an instruction may be simplified: it may be a check, read a copied slot, reload a global, repeat the previous
+/// computation, or apply a unary operator to a constant.
 fn may_gain(code: &[Instruction], seen: Seen, index: usize) -> bool
     requires { index < length code.now }
 {
@@ -208,7 +213,7 @@ fn may_gain(code: &[Instruction], seen: Seen, index: usize) -> bool
     }
 }
 
-/// Returns true if some instruction of the code may be simplified, by `may_gain`.
+/// Returns true if the code has an instruction that may be simplified, as `may_gain` judges.
 pub(crate) fn is_candidate(code: &[Instruction]) -> bool {
     let mut seen = nothing_seen();
     for index in 0..code.len() {

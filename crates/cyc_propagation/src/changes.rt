@@ -1,4 +1,5 @@
-//! The writes and changes of an instruction, and the facts that it preserves.
+//! The slots that an instruction writes, the memory that it changes, and the facts that it
+//! preserves.
 ghost use Rattle.std.specs.Prelude.{◌≡◌, true};
 ghost use Rattle.cyc_plain.specs.inside.Program.{routine_at};
 ghost use Rattle.cyc_plain.specs.inside.Requests as requests_of;
@@ -116,7 +117,8 @@ fn leaves_operand(slots: Written, operand: Operand) -> bool
     }
 }
 
-/// Returns the part of memory that a write to this slot may change.
+/// Returns the part of memory that a write to this slot may change: nothing if the slot's address
+/// is not taken.
 pub(crate) fn touched_by(pinned: &[bool], slot: usize) -> Touched
     ensures { result ≡ facts_of.touched_by pinned.now slot }
 {
@@ -127,7 +129,8 @@ pub(crate) fn touched_by(pinned: &[bool], slot: usize) -> Touched
     }
 }
 
-/// Returns the part of memory that writes to these slots may change.
+/// Returns the part of memory that writes to these slots may change: nothing if their address is
+/// not taken.
 fn touched_by_words(pinned: &[bool], first: usize, count: usize) -> Touched
     ensures { result ≡ facts_of.touched_by_words pinned.now first count }
 {
@@ -138,7 +141,8 @@ fn touched_by_words(pinned: &[bool], first: usize, count: usize) -> Touched
     }
 }
 
-/// Returns the offset in bytes of a global from the first one, if its number is in range.
+/// Returns the distance in bytes of a global from the first one, if the global's number is in
+/// range.
 pub(crate) fn global_offset(global: usize) -> Option<u32>
     ensures { result ≡ facts_of.global_offset global }
 {
@@ -169,7 +173,7 @@ fn touched_global(global: usize) -> Touched
     }
 }
 
-/// Returns the part of memory that an instruction may change.
+/// Returns the part of memory that an instruction may change: nothing, one word, or all of it.
 pub(crate) fn touched(pinned: &[bool], instruction: Instruction) -> Touched
     ensures { result ≡ facts_of.touched pinned.now instruction }
 {
@@ -208,7 +212,8 @@ fn are_apart(offset: u32, other: u32) -> bool
     offset != other
 }
 
-/// Returns true if the word at this address is unchanged. An equal address with a disjoint offset names another word.
+/// Returns true if the word at this address is unchanged. An equal address operand with a disjoint offset refers to
+/// another word.
 fn is_untouched(touched: Touched, address: Operand, offset: u32) -> bool
     ensures { result ≡ facts_of.is_untouched touched address offset }
 {
@@ -222,7 +227,8 @@ fn is_untouched(touched: Touched, address: Operand, offset: u32) -> bool
     }
 }
 
-/// Returns true if no slot that a fact mentions is written, and no word of memory that it mentions is changed.
+/// Returns true if an instruction preserves a fact: it writes no slot, and changes no word of memory, that the
+/// fact mentions.
 fn keeps(slots: Written, touched: Touched, fact: &Fact) -> bool
     ensures { result ≡ facts_of.keeps slots touched fact.now }
 {
@@ -253,7 +259,7 @@ fn keeps(slots: Written, touched: Touched, fact: &Fact) -> bool
     }
 }
 
-/// Returns true if no slot is written, and memory is unchanged.
+/// Returns true if an instruction writes no slot and leaves memory unchanged.
 pub(crate) fn changes_nothing(slots: Written, touched: Touched) -> bool
     ensures { result ≡ keeping.changes_nothing slots touched }
 {
@@ -283,7 +289,7 @@ fn leaves_out(slot: usize, fact: &Fact) -> bool
     }
 }
 
-/// Returns true if one slot is written, and memory is unchanged.
+/// Returns true if an instruction writes one slot and leaves memory unchanged.
 fn changes_one(slots: Written, touched: Touched) -> bool
     ensures { result ≡ keeping.changes_one slots touched }
 {
@@ -307,7 +313,7 @@ fn leaves_memory(touched: Touched, fact: &Fact) -> bool
     }
 }
 
-/// Forgets the facts about the written slot.
+/// Removes the facts about the written slot.
 fn keep_others(facts: &mut Vec<Fact>, slots: Written, touched: Touched)
     requires { keeping.changes_one slots touched ≡ true }
     ensures { facts.new.items ≡ facts_of.kept slots touched facts.old.items }
@@ -315,7 +321,7 @@ fn keep_others(facts: &mut Vec<Fact>, slots: Written, touched: Touched)
     facts.retain(|fact| leaves_out(slots.first, fact));
 }
 
-/// Forgets the facts about changed memory, if no slot is written.
+/// Removes the facts about changed memory, if no slot is written.
 fn keep_memory(facts: &mut Vec<Fact>, slots: Written, touched: Touched)
     requires { slots.count ≡ 0 }
     ensures { facts.new.items ≡ facts_of.kept slots touched facts.old.items }
@@ -323,7 +329,7 @@ fn keep_memory(facts: &mut Vec<Fact>, slots: Written, touched: Touched)
     facts.retain(|fact| leaves_memory(touched, fact));
 }
 
-/// Forgets the facts about written slots and changed memory.
+/// Removes the facts about written slots and about changed memory.
 pub(crate) fn keep(facts: &mut Vec<Fact>, slots: Written, touched: Touched)
     ensures { facts.new.items ≡ facts_of.kept slots touched facts.old.items }
 {

@@ -1,4 +1,4 @@
-//! The facts known after an instruction.
+//! Computes the facts known after an instruction.
 ghost use Rattle.std.specs.Prelude.{◌≡◌, ◌+◌, ◌<◌, ◌^◌, OnOk, Some};
 ghost use Rattle.cyc_propagation.specs.inside.Facts as facts_of;
 
@@ -10,7 +10,7 @@ use crate::outcomes::{copied, is_not, is_test, made, suited, suits, tested, trut
 use cyc_plain::{BinaryOperator, Instruction, Operand, Plain};
 use std::alloc::AllocError;
 
-/// Adds a fact; if the list is full, the oldest one is dropped.
+/// Adds a fact to a list. If the list is full, the oldest fact is dropped.
 pub(crate) fn remember(facts: &mut Vec<Fact>, fact: Fact) -> Result<(), AllocError>
     ensures { OnOk result (facts.new.items ≡ facts_of.remembered facts.old.items (Some fact)) }
 {
@@ -25,7 +25,8 @@ pub(crate) fn remember(facts: &mut Vec<Fact>, fact: Fact) -> Result<(), AllocErr
     Ok(())
 }
 
-/// Adds the facts about words that an instruction copies: at most three, the size of a pointer with its bounds.
+/// Adds the facts about words that an instruction copies: at most three, the words of a pointer with its
+/// bounds.
 fn remember_copies(
     pinned: &[bool],
     facts: &mut Facts,
@@ -43,7 +44,7 @@ fn remember_copies(
     }
 }
 
-/// Adds the fact that an instruction's result is 1 or 0, if it is a test.
+/// Adds the fact that an instruction's result is 1 or 0, if the instruction is a test.
 fn remember_test(
     pinned: &[bool],
     facts: &mut Facts,
@@ -70,7 +71,7 @@ fn remember_test(
     }
 }
 
-/// Returns the fact about the result of an operator, if there is one.
+/// Adds the fact about the result of an operator, if there is one.
 fn remember_result(
     pinned: &[bool],
     facts: &mut Facts,
@@ -93,7 +94,7 @@ fn remember_result(
     facts.add(fact)
 }
 
-/// Adds the fact that an operator's result is 1 or 0, if it is a test.
+/// Adds the fact that an operator's result is 1 or 0, if the operator is a test.
 fn remember_truth(
     pinned: &[bool],
     facts: &mut Facts,
@@ -109,7 +110,7 @@ fn remember_truth(
     }
 }
 
-/// Forgets the facts about a slot that is written. Returns at once if no fact is known.
+/// Removes the facts about a slot that is written. Returns at once if no fact is known.
 fn leave_others(pinned: &[bool], facts: &mut Facts, destination: usize)
     ensures { facts.new ≡ facts_of.kept (record { first = destination; count = 1 }) (facts_of.touched_by pinned.now destination) facts.old }
 {
@@ -119,7 +120,7 @@ fn leave_others(pinned: &[bool], facts: &mut Facts, destination: usize)
     facts.keep(one(destination), touched_by(pinned, destination));
 }
 
-/// Forgets the facts that an instruction invalidates. Returns at once if no fact is known.
+/// Removes the facts that an instruction invalidates. Returns at once if no fact is known.
 fn leave(plain: &Plain, pinned: &[bool], facts: &mut Facts, instruction: Instruction)
     ensures { facts.new ≡ facts_of.kept (facts_of.written plain.now instruction) (facts_of.touched pinned.now instruction) facts.old }
 {
@@ -129,7 +130,7 @@ fn leave(plain: &Plain, pinned: &[bool], facts: &mut Facts, instruction: Instruc
     facts.keep(written(plain, instruction), touched(pinned, instruction));
 }
 
-/// Updates the facts after an operator.
+/// Updates the known facts after an operator.
 fn compute(
     pinned: &[bool],
     facts: &mut Facts,
@@ -145,7 +146,7 @@ fn compute(
     remember_result(pinned, facts, operator, destination, left, right)
 }
 
-/// Updates the facts after an instruction other than an operator.
+/// Updates the known facts after an instruction other than an operator.
 fn go_on_otherwise(
     plain: &Plain,
     pinned: &[bool],
@@ -162,7 +163,7 @@ fn go_on_otherwise(
     facts.remember(made(pinned, instruction, index, index + 1))
 }
 
-/// Updates the facts after an instruction, for the next place.
+/// Updates the known facts after an instruction, so that they hold at the next position.
 pub(crate) fn go_on(
     plain: &Plain,
     pinned: &[bool],

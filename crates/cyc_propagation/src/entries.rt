@@ -1,4 +1,5 @@
-//! Searches for the facts at the places of regions with loops. The search is unverified: the checker validates the found facts.
+//! Searches for the facts at the positions of code regions with loops. The search is unverified: the checker validates the
+//! facts that it finds.
 ghost use Rattle.std.specs.Prelude.{◌<◌, length};
 
 use crate::entry::{Entry, come_to, enter, no_entries};
@@ -12,42 +13,46 @@ use crate::walk::come_after;
 use cyc_plain::{Function, Instruction, Plain};
 use std::alloc::{AllocError, Global};
 
-/// The greatest number of passes over a region with loops.
+/// The greatest number of passes over a code region with loops.
 const ROUNDS: usize = 4;
 
-/// The backward jumps to a place: a loop header or a handler.
+/// For a code position, says if it is a loop header or a handler, and from where code jumps back to
+/// it.
 #[derive(Clone, Copy)]
 struct Head {
     is_head: bool,
-    /// The furthest place that jumps back to this place, or this place if no jump does.
+    /// The furthest position that jumps back to this one, or this position if none does.
     jumped_from: usize,
 }
 
-/// A range of places, up to `end`. No jump enters or leaves the range, except to places where a run ends.
+/// A range of code positions, up to `end`. No jump enters or leaves the range, except to positions where
+/// a run ends.
 #[derive(Clone, Copy)]
 pub(crate) struct Region {
     first: usize,
     pub(crate) end: usize,
-    /// True if the region contains a loop header, so that its facts are searched.
+    /// True if the code region contains a loop header, so that its facts are searched for.
     pub(crate) is_searched: bool,
 }
 
-/// The search for the facts at the places of a function.
+/// The search for the facts at the positions of a function's code.
 #[derive(Drop)]
 pub(crate) struct Search {
     heads: Vec<Head>,
-    /// The guessed facts at each place; empty if there are no loop headers.
+    /// The guessed facts at each position; empty if the code has no loop header.
     pub(crate) guesses: Vec<Entry>,
     facts: Facts,
-    /// The facts at the beginning of a region.
+    /// The facts known at the beginning of the current code region.
     before: Vec<Fact>,
     /// The current region.
     pub(crate) region: Region,
-    /// True if only one pass is made, and the facts guessed for loop headers are then right or dropped.
+    /// True if the search makes only one pass, after which the facts guessed for loop headers are right
+    /// or dropped.
     is_short: bool,
 }
 
-/// Returns the furthest place to which the code jumps from a place, or from which it jumps back to it.
+/// Returns the furthest position to which the instruction at `index` jumps, or from which code jumps
+/// back to it.
 fn furthest(heads: &[Head], code: &[Instruction], instruction: Instruction, index: usize) -> usize {
     let back = match heads.get(index) {
         Some(head) => head.jumped_from,
@@ -72,7 +77,7 @@ fn is_head(heads: &[Head], place: usize) -> bool {
     }
 }
 
-/// Returns the region that begins at a place.
+/// Returns the code region that begins at a position.
 fn region_at(heads: &[Head], code: &[Instruction], first: usize) -> Region {
     let mut last = first;
     let mut has_head = false;
@@ -97,7 +102,7 @@ fn region_at(heads: &[Head], code: &[Instruction], first: usize) -> Region {
     }
 }
 
-/// Marks a place as the target of a jump from further on.
+/// Marks a position as the target of a jump from a later one.
 fn mark(heads: &mut Vec<Head>, place: usize, from: usize) {
     if let Some(head) = heads.get_mut(place) {
         head.is_head = true;
@@ -105,7 +110,7 @@ fn mark(heads: &mut Vec<Head>, place: usize, from: usize) {
     }
 }
 
-/// Returns true if an instruction leads to a loop header or a handler.
+/// Returns true if an instruction jumps back to a loop header or declares a handler.
 fn has_head(instruction: Instruction, index: usize) -> bool {
     match instruction {
         Instruction::Jump { target } => target <= index,
@@ -115,7 +120,8 @@ fn has_head(instruction: Instruction, index: usize) -> bool {
     }
 }
 
-/// Returns the number of places up to the last instruction that leads to a loop header or a handler.
+/// Returns the number of positions up to the last instruction that jumps back to a loop header or
+/// declares a handler.
 fn count_to_declarations(code: &[Instruction]) -> usize {
     let mut count = 0;
     for index in 0..code.len() {
@@ -126,7 +132,7 @@ fn count_to_declarations(code: &[Instruction]) -> usize {
     count
 }
 
-/// Returns for each place up to the last backward jump whether it is a loop header or a handler.
+/// Returns, for each position up to the last backward jump, if it is a loop header or a handler.
 fn collected_program(alloc: Global, code: &[Instruction]) -> Result<Vec<Head>, AllocError> {
     let count = count_to_declarations(code);
     let mut heads = Vec::with_capacity(alloc, count)?;
@@ -149,7 +155,8 @@ fn collected_program(alloc: Global, code: &[Instruction]) -> Result<Vec<Head>, A
     Ok(heads)
 }
 
-/// Returns an upper bound of the number of places up to the end of the last region with a loop header.
+/// Returns an upper bound of the number of positions up to the end of the last code region with a loop
+/// header.
 fn count_to_end(heads: &[Head], code: &[Instruction]) -> usize {
     let mut count = heads.len();
     for index in 0..code.len() {
@@ -164,14 +171,15 @@ fn count_to_end(heads: &[Head], code: &[Instruction]) -> usize {
     count
 }
 
-/// Marks a place as a handler: exceptions can reach it, so nothing is known there.
+/// Marks a position as a handler. Exceptions can reach it, so nothing is known there.
 fn close(entries: &mut Vec<Entry>, place: usize) {
     if let Some(entry) = entries.get_mut(place) {
         entry.is_target = true;
     }
 }
 
-/// Returns entries for `count` places: unknown, except that nothing is known at handlers.
+/// Returns entries for `count` positions. All entries are unknown, except that nothing is known at
+/// handlers.
 fn unknown(alloc: Global, code: &[Instruction], count: usize) -> Result<Vec<Entry>, AllocError> {
     let mut guesses = no_entries(alloc, count)?;
     for index in 0..count.min(code.len()) {
@@ -204,7 +212,7 @@ impl Search {
         })
     }
 
-    /// Returns true if control may reach a place from elsewhere than the previous instruction.
+    /// Returns true if control may reach a position from elsewhere than the previous instruction.
     fn is_joined(&self, place: usize) -> bool {
         match self.guesses.get(place) {
             Some(guess) => guess.is_target || is_head(&self.heads, place),
@@ -212,7 +220,8 @@ impl Search {
         }
     }
 
-    /// Joins the facts after the previous instruction into those of a place, if that instruction is reachable.
+    /// Joins the facts after the previous instruction into those of a position, if control can fall through to
+    /// it.
     fn come_next(&mut self, code: &[Instruction], place: usize) -> Result<(), AllocError> {
         if !self.is_joined(place) {
             return Ok(());
@@ -226,7 +235,7 @@ impl Search {
     }
 
     /// Processes one instruction, unless it is unreachable. Returns true if the facts required at the target of its backward jump are known
-    /// before the jump.
+    /// at the jump.
     fn pass(
         &mut self,
         plain: &Plain,
@@ -252,7 +261,7 @@ impl Search {
         Ok(is_settled)
     }
 
-    /// Passes once over a region. Returns true if the facts at each loop header were known at the backward jumps to that header.
+    /// Makes one pass over a code region. Returns true if the facts at each loop header were known at the backward jumps to it.
     fn go_through(
         &mut self,
         plain: &Plain,
@@ -273,8 +282,8 @@ impl Search {
         Ok(is_settled)
     }
 
-    /// Resets the facts of a region except at headers and at places where a run ends, to which jumps from elsewhere may lead. Returns true
-    /// if every header is reachable.
+    /// Resets the facts of a code region, except at loop headers and at positions where a run ends, which jumps from elsewhere may reach.
+    /// Returns true if every header is reachable.
     fn forget(&mut self, code: &[Instruction]) -> bool {
         let mut are_led_to = true;
         for index in self.region.first..self.region.end {
@@ -287,7 +296,7 @@ impl Search {
         are_led_to
     }
 
-    /// Drops the facts at headers and resets those elsewhere in the region.
+    /// Drops the facts at loop headers and resets those at other positions of the code region.
     fn forget_heads(&mut self, code: &[Instruction]) {
         for index in self.region.first..self.region.end {
             let is_head = is_head(&self.heads, index);
@@ -298,7 +307,7 @@ impl Search {
         }
     }
 
-    /// Merges the facts of backward jumps into those at the beginning of a region.
+    /// Merges the facts at backward jumps into those at the beginning of a code region.
     fn come_again(&mut self) -> Result<(), AllocError> {
         self.facts.replace(&self.before)?;
         if self.region.first > 0 {
@@ -307,7 +316,8 @@ impl Search {
         Ok(())
     }
 
-    /// Finds the facts at each jump target of a region. A short search leaves everything except the changed headers to the walk.
+    /// Finds the facts at each jump target of a code region. A short search leaves everything except the changed loop headers to
+    /// the checking traversal.
     fn settle(
         &mut self,
         plain: &Plain,
@@ -332,12 +342,14 @@ impl Search {
         Ok(())
     }
 
-    /// Returns true if a region begins at a place. Without a header no region is needed.
+    /// Returns true if a code region begins at a position. Code without a loop header needs no
+    /// region.
     pub(crate) fn begins_at(&self, place: usize) -> bool {
         place >= self.region.end && !self.heads.is_empty()
     }
 
-    /// Begins a region at a place with these known facts. After the last header the rest of the code is one region.
+    /// Begins a code region at a position with these known facts. After the last loop header, the rest of the code
+    /// is one region.
     pub(crate) fn begin(
         &mut self,
         plain: &Plain,

@@ -1,4 +1,4 @@
-//! The facts at jump targets.
+//! The facts required at jump targets.
 ghost use Rattle.std.specs.Prelude.{◌≡◌, ℕ, ◌<◌, true, IfOk, OnOk, None, length};
 ghost use Rattle.cyc_propagation.specs.inside.Facts as facts_of;
 ghost use Rattle.cyc_propagation.specs.inside.Entries as entries_of;
@@ -13,18 +13,20 @@ use cyc_plain::Instruction;
 use std::alloc::{AllocError, Global};
 use std::mem;
 
-/// The most facts searched for at a jump target: each jump on a path there may add one.
+/// The most facts searched for at a jump target, since each jump on a path to the target may add
+/// one fact.
 const MOST_ENTRY_FACTS: usize = 4 * MOST_FACTS;
 
-/// The facts at a place in the code.
+/// The facts at a position in the code.
 #[derive(Drop)]
 pub(crate) struct Entry {
-    /// True if the place is a jump target. The facts at a place that is no jump target are those after the previous instruction.
+    /// True if the position is a jump target. If the position is no jump target, its facts are those after the previous
+    /// instruction.
     pub(crate) is_target: bool,
     pub(crate) facts: Vec<Fact>,
 }
 
-/// Returns `count` entries to which nothing jumps yet.
+/// Returns `count` entries of positions to which no jump is known yet.
 pub(crate) fn no_entries(alloc: Global, count: usize) -> Result<Vec<Entry>, AllocError> {
     let mut entries = Vec::with_capacity(alloc, count)?;
     for _ in 0..count {
@@ -36,7 +38,7 @@ pub(crate) fn no_entries(alloc: Global, count: usize) -> Result<Vec<Entry>, Allo
     Ok(entries)
 }
 
-/// Returns true if a place is a jump target.
+/// Returns true if a code position is a jump target.
 pub(crate) fn is_target(entries: &[Entry], place: usize) -> bool
     ensures { result ≡ entries_of.is_entered (entries_of.entry_in entries.now place) }
 {
@@ -46,7 +48,7 @@ pub(crate) fn is_target(entries: &[Entry], place: usize) -> bool
     }
 }
 
-/// Returns true if the facts that a jump target requires are known.
+/// Returns true if the facts that a jump target requires are known at the jump.
 pub(crate) fn may_jump(entries: &[Entry], target: usize, facts: &[Fact], more: Option<Fact>) -> bool
     ensures { result ≡ table.may_jump (entries_of.entry_in entries.now target) facts.now more }
 {
@@ -56,7 +58,7 @@ pub(crate) fn may_jump(entries: &[Entry], target: usize, facts: &[Fact], more: O
     }
 }
 
-/// Returns true if the facts that the next place requires, if it is a jump target, are known.
+/// Returns true if the facts that the next position requires, if it is a jump target, are known.
 pub(crate) fn may_go_on(entries: &[Entry], next: usize, facts: &[Fact]) -> bool
     ensures { result ≡ table.may_go_on (entries_of.entry_in entries.now next) facts.now None }
 {
@@ -66,7 +68,8 @@ pub(crate) fn may_go_on(entries: &[Entry], next: usize, facts: &[Fact]) -> bool
     }
 }
 
-/// Returns true if the facts at a place mention only free slots and words.
+/// Returns true if the facts required at a position mention only words and slots whose address is
+/// not taken.
 pub(crate) fn is_entry_suited(pinned: &[bool], entries: &[Entry], place: usize) -> bool
     ensures { result ≡ table.is_entry_suited pinned.now (entries_of.entry_in entries.now place) }
 {
@@ -76,7 +79,7 @@ pub(crate) fn is_entry_suited(pinned: &[bool], entries: &[Entry], place: usize) 
     }
 }
 
-/// Replaces the facts by those of a place, if it is a jump target.
+/// Replaces the known facts by those required at a position, if it is a jump target.
 pub(crate) fn enter(entries: &[Entry], place: usize, facts: &mut Facts) -> Result<(), AllocError>
     ensures { OnOk result (facts.new ≡ table.entered_or (entries_of.entry_in entries.now place) facts.old) }
 {
@@ -88,8 +91,8 @@ pub(crate) fn enter(entries: &[Entry], place: usize, facts: &mut Facts) -> Resul
     Ok(())
 }
 
-/// Removes the facts that do not follow from the known ones. Returns true if none was removed. The search is fastest if both lists of facts
-/// have one order.
+/// Removes the facts that do not follow from the known ones. Returns true if none was removed. The search is fastest if both lists have
+/// their facts in the same order.
 fn restrict(asked: &mut Vec<Fact>, facts: &[Fact], more: Option<Fact>) -> bool
     ensures less { entries_of.IsLess asked.old.items asked.new.items }
     ensures known { table.are_known asked.new.items facts.now more ≡ true }
@@ -110,7 +113,8 @@ fn restrict(asked: &mut Vec<Fact>, facts: &[Fact], more: Option<Fact>) -> bool
     kept == count
 }
 
-/// Adds the extra fact, if there is one; if the list is full, the oldest fact is dropped.
+/// Adds the extra fact, if there is one, to the known facts. If the list is full, the oldest fact
+/// is dropped.
 #[tactic(auto, using(crate::proofs::Entered::known_of_itself, crate::proofs::Entered::known_with_one, crate::proofs::Entered::known_without_first,))]
 fn remember_more(known: &mut Vec<Fact>, more: Option<Fact>) -> Result<(), AllocError>
     ensures { OnOk result (table.are_known known.new.items known.old.items more ≡ true) }
@@ -124,7 +128,7 @@ fn remember_more(known: &mut Vec<Fact>, more: Option<Fact>) -> Result<(), AllocE
     Ok(())
 }
 
-/// Records the facts on the first path to a place. A place where a run ends needs no entry.
+/// Records the facts on the first path to a position. A position where a run ends needs no entry.
 fn come_first(
     entry: &mut Entry,
     is_end: bool,
@@ -144,7 +148,8 @@ fn come_first(
     remember_more(&mut entry.facts, more)
 }
 
-/// Joins known facts into those of a place. Returns true if the facts of the place do not change.
+/// Joins the known facts into those of a position. Returns true if the facts of the position do not
+/// change.
 #[tactic(auto, using(crate::proofs::Entered::known_where_set))]
 pub(crate) fn come_to(
     entries: &mut Vec<Entry>,
@@ -168,7 +173,7 @@ pub(crate) fn come_to(
     Ok(false)
 }
 
-/// Moves the guessed facts of a place into its entry, if it is a jump target.
+/// Moves the guessed facts of a position into its entry, if it is a jump target.
 fn adopt_at(guesses: &mut Vec<Entry>, entries: &mut Vec<Entry>, place: usize)
     ensures { (index : ℕ) → index < place → entries_of.AreNarrowed index (entries_of.entry_in entries.old.items) (entries_of.entry_in entries.new.items) }
 {
@@ -182,7 +187,7 @@ fn adopt_at(guesses: &mut Vec<Entry>, entries: &mut Vec<Entry>, place: usize)
     }
 }
 
-/// Moves the guessed facts of the places from `first` up to `end` into their entries.
+/// Moves the guessed facts of the positions from `first` up to `end` into their entries.
 pub(crate) fn adopt(guesses: &mut Vec<Entry>, entries: &mut Vec<Entry>, first: usize, end: usize)
     ensures { (index : ℕ) → index < first → entries_of.AreNarrowed index (entries_of.entry_in entries.old.items) (entries_of.entry_in entries.new.items) }
 {

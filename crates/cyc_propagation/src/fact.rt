@@ -1,18 +1,18 @@
-//! A fact at a place of the code.
+//! A fact about slots and memory, known at a position of the code.
 use cyc_plain::{BinaryOperator, Comparison, Operand};
 
-/// The most facts that are remembered. When another one is added, the oldest is dropped.
+/// The most facts that are remembered. When one more is added, the oldest is dropped.
 pub(crate) const MOST_FACTS: usize = 24;
 
-/// A property of the words in a function's slots and in memory.
+/// A fact is a property of the words in a function's slots and in memory.
 #[derive(Clone, Copy)]
 pub(crate) enum Fact {
-    /// The slot equals the operand.
+    /// The slot contains the word that the operand denotes.
     Equal {
         slot: usize,
         operand: Operand,
     },
-    /// The slot holds the operator's result on the operands, which has one.
+    /// The slot contains the result of the operator on these operands, which is defined.
     Computed {
         slot: usize,
         operator: BinaryOperator,
@@ -37,12 +37,12 @@ pub(crate) enum Fact {
 #[derive(Clone, Copy)]
 pub(crate) enum Touched {
     Nothing,
-    /// The word at an offset in bytes from an address.
+    /// The word in memory at an offset in bytes from an address.
     Word { address: Operand, offset: u32 },
     All,
 }
 
-/// The slots that an instruction writes: `count` from `first` on.
+/// The slots that an instruction writes: `count` slots from `first` on.
 #[derive(Clone, Copy)]
 pub(crate) struct Written {
     pub(crate) first: usize,

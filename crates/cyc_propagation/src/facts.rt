@@ -1,4 +1,4 @@
-//! The facts at a place, with a bit mask of the slots that hold copies.
+//! The facts at a code position, with a bit mask of the slots known to equal other slots.
 ghost use Rattle.std.specs.Prelude.{◌≡◌, ◌%◌};
 ghost use Rattle.std.specs.Int.{bit_at};
 ghost use Rattle.cyc_propagation.specs.declared.fact.Fact.{Fact};
@@ -13,16 +13,18 @@ use cyc_plain::Operand;
 use std::alloc::{AllocError, Global};
 use std::marker::Model;
 
-/// The mask of all slots: each may hold a copy.
+/// The bit mask of all slots, for the case that each slot may equal another one.
 const ANY_SLOT: u64 = u64::MAX;
 
-/// Facts, with bit masks that show quickly that an operand is no copy or is not mentioned.
+/// A list of facts, with bit masks that show quickly that an operand equals no other slot or that
+/// no fact mentions it.
 #[derive(Drop)]
 pub(crate) struct Facts {
     facts: Vec<Fact>,
-    /// The bits of slots known to equal other slots. Slots that are equal to no other slot may share these bits.
+    /// The bits of slots known to equal other slots. A slot that equals no other one may share such a bit.
     copies: u64,
-    /// The bits of all slots that the facts mention. Slots that no fact mentions may share these bits.
+    /// The bits of all slots that the facts mention. A slot that no fact mentions may share such a
+    /// bit.
     slots: u64,
 }
 
@@ -38,14 +40,14 @@ impl Model for Facts {
     ghost invariant = { λ f. AreMarked f.copies f.facts.items × AreAbout f.slots f.facts.items };
 }
 
-/// Returns the bit of a slot; several slots may share one.
+/// Returns the bit of a slot in the masks; several slots may share a bit.
 fn bit_of(slot: usize) -> u64
     ensures { bit_at result (slot % 64) ≡ 1 }
 {
     1 << (slot % 64)
 }
 
-/// Adds to these bits that of the slot which a fact equates with another.
+/// Returns the mask with the bit of the slot that a fact equates with another one.
 fn with_copy(copies: u64, fact: &Fact) -> u64
     ensures more { (other : Fact) → IsMarked copies other → IsMarked result other }
     ensures has { IsMarked result fact.now }
@@ -69,7 +71,7 @@ fn copies_in(facts: &[Fact]) -> u64
     copies
 }
 
-/// Returns the bit of the slot that an operand is, if it is one.
+/// Returns the bit of an operand that is a slot, or 0 for a word.
 fn bits_of(operand: Operand) -> u64
     ensures { IsAboutOperand result operand }
 {
@@ -96,7 +98,7 @@ fn slots_of(fact: &Fact) -> u64
     }
 }
 
-/// Adds to these bits those of the slots that a fact mentions.
+/// Returns the mask with the bits of the slots that a fact mentions.
 fn with_slots(slots: u64, fact: &Fact) -> u64
     ensures more { (other : Fact) → IsAbout slots other → IsAbout result other }
     ensures has { IsAbout result fact.now }
@@ -115,7 +117,7 @@ fn slots_in(facts: &[Fact]) -> u64
 }
 
 /// Returns the bits of the slots that facts mention after an instruction, before which there were `count` facts. The bits are recomputed
-/// only if one slot was written and some fact was dropped, since slots share bits.
+/// only if one slot was written and a fact was dropped, since slots share bits.
 fn slots_after(slots: u64, facts: &[Fact], written: Written, count: usize) -> u64
     ensures { AreAbout slots facts.now → AreAbout result facts.now }
 {
@@ -135,7 +137,7 @@ impl Facts {
     ghost use Rattle.cyc_propagation.specs.inside.Facts as facts_of;
     ghost use Rattle.cyc_propagation.specs.inside.Replacement as replacement;
 
-    /// Returns true if the only fact is that the place is unreachable.
+    /// Returns true if the only known fact is that the position is unreachable.
     #[tactic(auto, using(crate::proofs::Straight::never_alone))]
     pub(crate) fn are_of_no_run(&self) -> bool
         ensures { result ≡ true → self.now ≡ facts_of.never ∷ [] }
@@ -160,7 +162,7 @@ impl Facts {
         &self.facts
     }
 
-    /// Returns true if another operand may be known to equal this one.
+    /// Returns true if some fact may state that this operand equals another one.
     pub(crate) fn may_be_copy(&self, operand: Operand) -> bool
         ensures { result ≡ false → replacement.simplified_operand self.now operand ≡ operand }
     {
@@ -178,7 +180,7 @@ impl Facts {
         self.slots = 0;
     }
 
-    /// Replaces the known facts by the given ones.
+    /// Replaces the known facts by these facts.
     pub(crate) fn replace(&mut self, facts: &[Fact]) -> Result<(), AllocError>
         ensures { OnOk result (self.new ≡ facts.now) }
     {
@@ -191,7 +193,7 @@ impl Facts {
         Ok(())
     }
 
-    /// Returns true if a fact may mention a slot.
+    /// Returns true if a known fact may mention this slot.
     pub(crate) fn may_be_about(&self, slot: usize) -> bool
         ensures kept { result ≡ false → facts_of.kept (record { first = slot; count = 1 }) touches.Nothing self.now ≡ self.now }
         ensures unknown { result ≡ false → (operand : Operand) → facts_of.is_known self.now (facts_are.Equal slot operand) ≡ false }
@@ -199,8 +201,8 @@ impl Facts {
         self.slots & bit_of(slot) != 0
     }
 
-    /// Returns true if a fact may give a result computed from an operand. If no fact mentions a slot, no slot is known to hold a result
-    /// computed from it.
+    /// Returns true if a fact may state the result of an operator on this operand. If no fact mentions a slot, no slot is known to
+    /// contain a result computed from it.
     pub(crate) fn may_tell_of(&self, operand: Operand) -> bool
         ensures { result ≡ false → (operator : BinaryOperator) (destination : ℕ) (right : Operand)
             → replacement.simplified_of self.now operator destination operand right ≡ instructions.Binary operator destination operand right }
@@ -211,8 +213,8 @@ impl Facts {
         }
     }
 
-    /// Returns true if the masks show that no fact mentions what is written or changed. Most instructions change no known fact, since they
-    /// write one slot.
+    /// Returns true if the bit masks show that no fact mentions what an instruction writes or changes. Most instructions change no known
+    /// fact, since they write one slot.
     fn leaves_all(&self, slots: Written, touched: Touched) -> bool
         ensures { result ≡ true → facts_of.kept slots touched self.now ≡ self.now }
     {
@@ -222,7 +224,7 @@ impl Facts {
         }
     }
 
-    /// Forgets the facts about written slots and changed memory.
+    /// Removes the facts about written slots and about changed memory.
     pub(crate) fn keep(&mut self, slots: Written, touched: Touched)
         ensures { self.new ≡ facts_of.kept slots touched self.old }
     {
@@ -237,7 +239,7 @@ impl Facts {
         self.slots = slots_after(self.slots, &self.facts, slots, count);
     }
 
-    /// Adds a fact; if the list is full, the oldest one is dropped.
+    /// Adds a fact to the known facts. If the list is full, the oldest fact is dropped.
     pub(crate) fn add(&mut self, fact: Fact) -> Result<(), AllocError>
         ensures { OnOk result (self.new ≡ facts_of.remembered self.old (Some fact)) }
     {
@@ -251,7 +253,7 @@ impl Facts {
         Ok(())
     }
 
-    /// Adds an optional fact to the known facts.
+    /// Adds a fact, if one is given, to the known facts.
     pub(crate) fn remember(&mut self, made: Option<Fact>) -> Result<(), AllocError>
         ensures { OnOk result (self.new ≡ facts_of.remembered self.old made) }
     {

@@ -1,4 +1,5 @@
-//! Constant folding: words that slots are known to hold, used if the instruction becomes cheaper.
+//! Constant folding: the words that slots are known to contain replace operands if the instruction
+//! becomes cheaper.
 ghost use Rattle.std.specs.Prelude.{◌≡◌};
 ghost use Rattle.cyc_plain.specs.inside.Operators as operators;
 ghost use Rattle.cyc_propagation.specs.inside.Replacement as replacement;
@@ -9,7 +10,7 @@ use crate::replacement::is_cheap;
 use cyc_plain::{BinaryOperator, Operand, UnaryOperator};
 use cyc_words::{add, mul, sar, shl, sub};
 
-/// Returns the word that an operand denotes, by a fact.
+/// Returns the word that an operand denotes, if this fact states it.
 fn word_by(fact: Fact, operand: Operand) -> Option<u32>
     ensures { result ≡ replacement.word_by fact operand }
 {
@@ -28,7 +29,7 @@ fn word_by(fact: Fact, operand: Operand) -> Option<u32>
     }
 }
 
-/// Returns the word that an operand is known to denote.
+/// Returns the word that an operand is known to denote, if facts state one.
 pub(crate) fn word_in(facts: &[Fact], operand: Operand) -> Option<u32>
     ensures { result ≡ replacement.word_in facts.now operand }
 {
@@ -43,7 +44,7 @@ pub(crate) fn word_in(facts: &[Fact], operand: Operand) -> Option<u32>
     }
 }
 
-/// Returns true if a small word costs no instruction as the second operand of this operator.
+/// Returns true if a small word as the second operand of this operator costs no instruction.
 fn takes_word(operator: BinaryOperator) -> bool
     ensures { result ≡ replacement.takes_word operator }
 {
@@ -57,7 +58,7 @@ fn takes_word(operator: BinaryOperator) -> bool
     }
 }
 
-/// Returns an operand equal to an operator's second operand that costs no more instructions.
+/// Returns an operand that equals an operator's second operand and costs no more instructions.
 pub(crate) fn right_operand(facts: &[Fact], operator: BinaryOperator, operand: Operand) -> Operand
     ensures { result ≡ replacement.right_operand facts.now operator operand }
 {
@@ -76,7 +77,7 @@ pub(crate) fn right_operand(facts: &[Fact], operator: BinaryOperator, operand: O
     }
 }
 
-/// Returns the result of an operator on two words.
+/// Returns the result of an operator on two words, or `None` if it has none.
 fn folded(operator: BinaryOperator, left: u32, right: u32) -> Option<u32>
     ensures { result ≡ replacement.folded operator left right }
 {
@@ -109,7 +110,7 @@ fn folded_in(facts: &[Fact], operator: BinaryOperator, left: Operand, right: Ope
     }
 }
 
-/// Returns the result of an operator on a word.
+/// Returns the result of a unary operator on a word.
 fn unary_result(operator: UnaryOperator, word: u32) -> u32
     ensures { result ≡ operators.unary_result operator word }
 {
@@ -120,7 +121,7 @@ fn unary_result(operator: UnaryOperator, word: u32) -> u32
     }
 }
 
-/// Returns the result of an operator on one operand, if its word is known.
+/// Returns the result of an operator on one operand, if the operand's word is known.
 pub(crate) fn folded_unary(facts: &[Fact], operator: UnaryOperator, operand: Operand) -> Option<u32>
     ensures { result ≡ replacement.folded_unary facts.now operator operand }
 {
@@ -134,7 +135,7 @@ pub(crate) fn folded_unary(facts: &[Fact], operator: UnaryOperator, operand: Ope
 }
 
 /// Returns true if folding loses no knowledge of the result: both operands are constants, or a fact replaces an operand. In all other cases
-/// the operator stays, so that a value that a loop recomputes from the same slots is known at the loop header.
+/// the operator is kept, so that a value that a loop recomputes from the same slots is known at the loop header.
 fn may_fold(destination: usize, left: Operand, right: Operand) -> bool
     ensures { result ≡ replacement.may_fold destination left right }
 {

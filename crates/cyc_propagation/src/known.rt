@@ -1,4 +1,4 @@
-//! Comparison of facts, and their membership in lists.
+//! Compares facts, and decides if a list contains a fact or implies it.
 ghost use Rattle.std.specs.Prelude.{◌≡◌, ◌<◌, ◌&&◌, ◌||◌, false, length, true};
 ghost use Rattle.cyc_plain.specs.inside.Uses as uses;
 ghost use Rattle.cyc_propagation.specs.declared.fact.Fact.TheVariants as facts_are;
@@ -95,7 +95,8 @@ pub(crate) fn is_same_operand(one: Operand, other: Operand) -> bool
     }
 }
 
-/// Returns true if the left operands are equal and the right operands are equal.
+/// Returns true if two pairs of operands are equal: the left operands are equal, and the right
+/// operands are equal.
 pub(crate) fn are_same_operands(
     left: Operand,
     right: Operand,
@@ -107,7 +108,8 @@ pub(crate) fn are_same_operands(
     is_same_operand(left, other_left) && is_same_operand(right, other_right)
 }
 
-/// Returns true if both references name one word of memory, by one address operand.
+/// Returns true if two references to memory have equal address operands and offsets, so that they
+/// refer to the same word.
 pub(crate) fn is_same_word(
     address: Operand,
     offset: u32,
@@ -119,7 +121,7 @@ pub(crate) fn is_same_word(
     is_same_operand(address, other_address) && offset == other_offset
 }
 
-/// Returns true if a fact equates this slot with this operand.
+/// Returns true if a fact states that this slot equals this operand.
 fn says_equal(fact: &Fact, slot: usize, operand: Operand) -> bool
     ensures { result ≡ facts_of.is_same_fact fact.now (facts_are.Equal slot operand) }
 {
@@ -132,7 +134,8 @@ fn says_equal(fact: &Fact, slot: usize, operand: Operand) -> bool
     }
 }
 
-/// Returns true if a fact says that this slot holds this result.
+/// Returns true if a fact states that this slot contains the result of this operator on these
+/// operands.
 fn says_computed(
     fact: &Fact,
     slot: usize,
@@ -157,7 +160,7 @@ fn says_computed(
     }
 }
 
-/// Returns true if a fact says that this comparison holds.
+/// Returns true if a fact states that this comparison holds.
 fn says_holds(fact: &Fact, comparison: Comparison, left: Operand, right: Operand) -> bool
     ensures { result ≡ facts_of.is_same_fact fact.now (facts_are.Holds comparison left right) }
 {
@@ -174,7 +177,7 @@ fn says_holds(fact: &Fact, comparison: Comparison, left: Operand, right: Operand
     }
 }
 
-/// Returns true if a fact says that memory has this word.
+/// Returns true if a fact states that memory has this word at this address.
 fn says_held(fact: &Fact, address: Operand, offset: u32, value: Operand) -> bool
     ensures { result ≡ facts_of.is_same_fact fact.now (facts_are.Held address offset value) }
 {
@@ -215,7 +218,7 @@ fn is_same_fact(one: &Fact, other: &Fact) -> bool
     }
 }
 
-/// Returns a fact that is never true, so that everything follows from it.
+/// Returns the fact `never`, which is never true, so that every fact follows from it.
 pub(crate) fn never() -> Fact
     ensures { result ≡ facts_of.never }
 {
@@ -243,7 +246,7 @@ fn is_never(fact: &Fact) -> bool
     }
 }
 
-/// Returns true if the first fact is `never`: the place is unreachable.
+/// Returns true if the first fact is `never`, so that the position is unreachable.
 pub(crate) fn is_unreached(facts: &[Fact]) -> bool
     ensures { result ≡ facts_of.is_unreached facts.now }
 {
@@ -253,7 +256,7 @@ pub(crate) fn is_unreached(facts: &[Fact]) -> bool
     }
 }
 
-/// Returns true if the facts equate this slot with this operand.
+/// Returns true if the list of facts states that this slot equals this operand.
 pub(crate) fn is_known_equal(facts: &[Fact], slot: usize, operand: Operand) -> bool
     ensures { result ≡ facts_of.is_known facts.now (facts_are.Equal slot operand) }
 {
@@ -304,7 +307,7 @@ fn is_known_held(facts: &[Fact], address: Operand, offset: u32, value: Operand) 
     false
 }
 
-/// Returns true if a fact is a member of the list.
+/// Returns true if the list contains this fact.
 fn is_known(facts: &[Fact], fact: Fact) -> bool
     ensures { result ≡ facts_of.is_known facts.now fact }
 {
@@ -344,7 +347,7 @@ fn is_known_with(facts: &[Fact], more: Option<Fact>, fact: Fact) -> bool
     is_known(facts, fact) || is_more(more, fact)
 }
 
-/// Returns a fact with its operands replaced by known equal ones.
+/// Returns a fact whose operands are replaced by operands known to be equal.
 fn resolved_fact(facts: &[Fact], fact: Fact) -> Fact
     ensures { result ≡ table.resolved_fact facts.now fact }
 {
@@ -374,7 +377,7 @@ fn are_below(left: Option<u32>, right: Option<u32>) -> bool
     }
 }
 
-/// Returns true if a fact compares two known words and holds.
+/// Returns true if a fact is a comparison `<` of two known words that holds.
 fn is_below(facts: &[Fact], fact: Fact) -> bool
     ensures { result ≡ table.is_below facts.now fact }
 {
@@ -391,7 +394,8 @@ fn is_below(facts: &[Fact], fact: Fact) -> bool
     }
 }
 
-/// Returns true if a fact follows when operands are replaced by equal ones, or compares known words and holds.
+/// Returns true if a fact follows when its operands are replaced by equal ones, or is a comparison of known
+/// words that holds.
 fn follows_resolved(facts: &[Fact], more: Option<Fact>, fact: Fact) -> bool
     requires { table.is_known_with facts.now more fact ≡ false }
     ensures { result ≡ (table.is_known_with facts.now more (table.resolved_fact facts.now fact) || table.is_below facts.now fact) }
@@ -404,14 +408,16 @@ fn follows_resolved(facts: &[Fact], more: Option<Fact>, fact: Fact) -> bool
     }
 }
 
-/// Returns true if a fact is known, is the extra fact, or follows when operands are replaced by equal ones.
+/// Returns true if a fact is known, equals the extra fact, or follows when its operands are replaced by
+/// equal ones.
 pub(crate) fn follows(facts: &[Fact], more: Option<Fact>, fact: Fact) -> bool
     ensures { result ≡ table.follows facts.now more fact }
 {
     is_unreached(facts) || (is_known_with(facts, more, fact) || follows_resolved(facts, more, fact))
 }
 
-/// Returns the index of a fact in the list, from an index on, or the length of the list if it is absent.
+/// Returns the index of a fact in the list, searched from the index `place` on, or the length of the
+/// list if it is absent.
 pub(crate) fn found_from(facts: &[Fact], place: usize, fact: &Fact) -> usize
     ensures { result < length facts.now → facts_of.is_known facts.now fact.now ≡ true }
 {
@@ -423,7 +429,8 @@ pub(crate) fn found_from(facts: &[Fact], place: usize, fact: &Fact) -> usize
     facts.len()
 }
 
-/// Returns true if a fact follows that was found at an index, if it was found. The extra fact is tried last.
+/// Returns true if a fact follows from the known facts. `place` is the index at which it was found in them,
+/// if it was found. The extra fact is tried last.
 #[tactic(auto, using(crate::proofs::Found::known_follows, crate::proofs::Found::more_follows))]
 pub(crate) fn follows_found(facts: &[Fact], more: &Option<Fact>, fact: &Fact, place: usize) -> bool
     requires { place < length facts.now → facts_of.is_known facts.now fact.now ≡ true }
@@ -432,12 +439,14 @@ pub(crate) fn follows_found(facts: &[Fact], more: &Option<Fact>, fact: &Fact, pl
     place < facts.len() || (is_more(*more, *fact) || follows(facts, *more, *fact))
 }
 
-/// Returns the index at which the search for the next fact begins: after the fact found last.
+/// Returns the index at which the search for the next fact begins: after the fact that was found
+/// last.
 pub(crate) fn next_place(facts: &[Fact], place: usize, next: usize) -> usize {
     if place < facts.len() { place + 1 } else { next }
 }
 
-/// Returns true if all required facts are known. The search is fastest if both lists of facts have one order.
+/// Returns true if all required facts are known. The search is fastest if both lists have their facts in the
+/// same order.
 pub(crate) fn are_known(asked: &[Fact], facts: &[Fact], more: Option<Fact>) -> bool
     ensures { result ≡ table.are_known asked.now facts.now more }
 {

@@ -1,4 +1,4 @@
-//! Value propagation: drops recomputations, tests and moves whose result is already known.
+//! Value propagation drops computations, tests and moves whose result is already known.
 #![tactic(auto)]
 
 mod candidates;

@@ -1,4 +1,4 @@
-//! The facts that hold after an instruction, whatever held before.
+//! The facts that are true after an instruction, whatever was true before.
 ghost use Rattle.std.specs.Prelude.{◌≡◌, ◌+◌, ◌<◌, ◌^◌};
 ghost use Rattle.cyc_propagation.specs.inside.Facts as facts_of;
 
@@ -8,7 +8,7 @@ use crate::known::{is_any_slot, is_slot};
 use crate::pins::{are_free, is_free, suits_operand};
 use cyc_plain::{BinaryOperator, Comparison, Instruction, Operand, UnaryOperator};
 
-/// Returns the comparison that holds exactly if the given one does not.
+/// Returns the comparison that holds exactly if this comparison does not.
 pub(crate) fn negated(comparison: Comparison) -> Comparison
     ensures { result ≡ facts_of.negated comparison }
 {
@@ -24,7 +24,7 @@ pub(crate) fn negated(comparison: Comparison) -> Comparison
     }
 }
 
-/// Returns true if a fact mentions only free slots and words.
+/// Returns true if a fact mentions only words and slots whose address is not taken.
 pub(crate) fn suits(pinned: &[bool], fact: &Fact) -> bool
     ensures { result ≡ facts_of.suits pinned.now fact.now }
 {
@@ -57,7 +57,7 @@ pub(crate) fn suited(pinned: &[bool], fact: Fact) -> Option<Fact>
     }
 }
 
-/// Returns the fact that a branch shows if control continues at `next`.
+/// Returns the fact that a branch establishes if control continues at `next`.
 fn shown(
     pinned: &[bool],
     comparison: Comparison,
@@ -88,7 +88,7 @@ fn shown(
     )
 }
 
-/// Returns the fact that memory has this word.
+/// Returns the fact that memory has this word at an address.
 fn held(pinned: &[bool], address: Operand, offset: u32, value: Operand) -> Option<Fact>
     ensures { result ≡ facts_of.held pinned.now address offset value }
 {
@@ -102,7 +102,8 @@ fn held(pinned: &[bool], address: Operand, offset: u32, value: Operand) -> Optio
     )
 }
 
-/// Returns the fact after a load, whose destination may be the slot that holds the address.
+/// Returns the fact that a load establishes, or `None` if its destination is the slot that contains
+/// the address.
 fn loaded(pinned: &[bool], address: Operand, offset: u32, destination: usize) -> Option<Fact>
     ensures { result ≡ facts_of.loaded pinned.now address offset destination }
 {
@@ -119,7 +120,7 @@ fn loaded(pinned: &[bool], address: Operand, offset: u32, destination: usize) ->
     )
 }
 
-/// Returns the fact that a global has this word.
+/// Returns the fact that a global contains this word.
 fn held_global(pinned: &[bool], global: usize, value: Operand) -> Option<Fact>
     ensures { result ≡ facts_of.held_global pinned.now (facts_of.global_offset global) value }
 {
@@ -129,7 +130,8 @@ fn held_global(pinned: &[bool], global: usize, value: Operand) -> Option<Fact>
     }
 }
 
-/// Returns the fact after a move. A move from a slot to that slot gives no fact.
+/// Returns the fact that a move establishes. A move from a slot to the same slot establishes no
+/// fact.
 fn moved(pinned: &[bool], destination: usize, source: Operand) -> Option<Fact>
     ensures { result ≡ facts_of.moved pinned.now destination source }
 {
@@ -145,7 +147,8 @@ fn moved(pinned: &[bool], destination: usize, source: Operand) -> Option<Fact>
     )
 }
 
-/// Returns the fact after an operator, whose destination may be the slot of an operand.
+/// Returns the fact that an operator establishes, or `None` if its destination is the slot of an
+/// operand.
 fn computed(
     pinned: &[bool],
     operator: BinaryOperator,
@@ -169,7 +172,8 @@ fn computed(
     )
 }
 
-/// Returns the fact that holds after the instruction at `index` if control continues at `next`, whatever held before.
+/// Returns the fact that is true after the instruction at `index` if control continues at `next`, whatever was true
+/// before.
 pub(crate) fn made(
     pinned: &[bool],
     instruction: Instruction,
@@ -221,7 +225,7 @@ pub(crate) fn made(
     }
 }
 
-/// Returns true if the result of an operator is a truth value: 1 or 0.
+/// Returns true if the result of an operator is a truth value, 1 or 0.
 pub(crate) fn is_test(operator: BinaryOperator) -> bool
     ensures { result ≡ facts_of.is_test operator }
 {
@@ -245,7 +249,7 @@ pub(crate) fn is_not(operator: UnaryOperator) -> bool
     }
 }
 
-/// Returns the fact that the slot holds 1 or 0.
+/// Returns the fact that a slot contains 1 or 0.
 pub(crate) fn truth_in(slot: usize) -> Fact
     ensures { result ≡ facts_of.truth_in slot }
 {
@@ -256,7 +260,8 @@ pub(crate) fn truth_in(slot: usize) -> Fact
     }
 }
 
-/// Returns the fact that a test leaves a truth value, even if its destination is one of its operands.
+/// Returns the fact that a test's result is a truth value, which is true even if the test's
+/// destination is one of its operands.
 pub(crate) fn tested(pinned: &[bool], instruction: Instruction) -> Option<Fact>
     ensures { result ≡ facts_of.tested pinned.now instruction }
 {
@@ -298,7 +303,8 @@ fn lie_apart(first: usize, other: usize, count: usize) -> bool
     }
 }
 
-/// Returns true if the moved words are copies: source and destination are free slots, and no source is overwritten.
+/// Returns true if moved words stay equal to their sources: the addresses of source and destination slots are not
+/// taken, and no source is overwritten.
 fn are_copied(pinned: &[bool], destination: usize, source: usize, count: usize) -> bool
     ensures { result ≡ facts_of.are_copied pinned.now destination source count }
 {
@@ -306,7 +312,7 @@ fn are_copied(pinned: &[bool], destination: usize, source: usize, count: usize) 
         && (are_free(pinned, destination, count) && are_free(pinned, source, count))
 }
 
-/// Returns the fact that one of the words that an instruction copies equals its source, if the instruction copies that many.
+/// Returns the fact that the word copied at `index` of a move equals its source, if the move copies that many words.
 #[tactic(auto, using(crate::proofs::Ranges::destination_within, crate::proofs::Ranges::source_within))]
 pub(crate) fn copied(pinned: &[bool], instruction: Instruction, index: usize) -> Option<Fact>
     ensures { result ≡ facts_of.copied pinned.now instruction index }

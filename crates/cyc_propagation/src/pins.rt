@@ -1,4 +1,5 @@
-//! The slots of a function whose address is taken: a store may change them, so no fact mentions them.
+//! The slots of a function whose address is taken. A store instruction may change them, so no fact
+//! mentions them.
 ghost use Rattle.std.specs.Prelude.{◌≡◌, IfOk};
 ghost use Rattle.cyc_plain.specs.inside.Program.{routine_of};
 ghost use Rattle.cyc_propagation.specs.inside.Facts as facts_of;
@@ -22,7 +23,7 @@ pub(crate) fn is_free(pinned: &[bool], slot: usize) -> bool
     }
 }
 
-/// Returns true if `count` slots from `first` on are free.
+/// Returns true if the `count` slots from `first` on are free, that is, their address is not taken.
 #[tactic(auto, using(crate::proofs::Ranges::free_more, crate::proofs::Ranges::not_all_free, crate::proofs::Ranges::free_within))]
 pub(crate) fn are_free(pinned: &[bool], first: usize, count: usize) -> bool
     ensures { result ≡ facts_of.are_free pinned.now first count }
@@ -44,7 +45,7 @@ pub(crate) fn suits_operand(pinned: &[bool], operand: Operand) -> bool
     }
 }
 
-/// Returns true if the facts mention only free slots and words.
+/// Returns true if all facts mention only words and slots whose address is not taken.
 pub(crate) fn are_suited(pinned: &[bool], facts: &[Fact]) -> bool
     ensures { result ≡ facts_of.are_suited pinned.now facts.now }
 {
@@ -67,7 +68,8 @@ fn is_within(ranges: &[Written], slot: usize) -> bool
     false
 }
 
-/// Returns the slots whose address an instruction takes. A handler's record counts, since it is in memory.
+/// Returns the slots whose address an instruction takes. The slots of a handler's record are among them,
+/// since the record is in memory.
 fn range_of(instruction: Instruction) -> Option<Written>
     ensures { result ≡ pins.range_of instruction }
 {
@@ -81,7 +83,7 @@ fn range_of(instruction: Instruction) -> Option<Written>
     }
 }
 
-/// Returns the ranges of slots whose address code takes.
+/// Returns the ranges of slots whose address the code takes.
 #[tactic(auto, using(crate::proofs::Ranges::no_range_yet, crate::proofs::Ranges::are_ranges))]
 fn ranges_of(alloc: Global, code: &[Instruction]) -> Result<Vec<Written>, AllocError>
     ensures { IfOk result (λ ranges. AreRanges code.now ranges.items) }
@@ -95,8 +97,8 @@ fn ranges_of(alloc: Global, code: &[Instruction]) -> Result<Vec<Written>, AllocE
     Ok(ranges)
 }
 
-/// Returns for each slot of a function whether its address is taken. In a function whose frame is too large, which is rejected later, all
-/// slots count as taken.
+/// Returns, for each slot of a function, true if its address is taken. In a function whose frame is too large, which is rejected later,
+/// the result is true for all slots.
 #[tactic(auto, using(crate::proofs::Ranges::all_pinned, crate::proofs::Ranges::no_pins, crate::proofs::Ranges::more_pins, crate::proofs::Ranges::are_pins))]
 pub(crate) fn pins_of(alloc: Global, function: &Function) -> Result<Vec<bool>, AllocError>
     ensures { IfOk result (λ pinned. ArePins (routine_of function.now) pinned.items) }

@@ -1,4 +1,4 @@
-//! The replacement of an instruction under known facts.
+//! Replaces an instruction by a cheaper one with the same effect, under the known facts.
 ghost use Rattle.std.specs.Prelude.{◌≡◌, ◌+◌, ◌<◌, ◌^◌};
 ghost use Rattle.cyc_propagation.specs.inside.Replacement as replacement;
 ghost use Rattle.cyc_propagation.specs.inside.Facts as facts_of;
@@ -17,7 +17,8 @@ use crate::known::{
 use crate::outcomes::negated;
 use cyc_plain::{BinaryOperator, Comparison, Instruction, Operand, Request, UnaryOperator};
 
-/// Returns true if an operand costs no more than a slot: a word may need instructions of its own.
+/// Returns true if reading an operand costs no more than reading a slot. A constant word may need
+/// instructions of its own.
 pub(crate) fn is_cheap(operand: Operand) -> bool
     ensures { result ≡ replacement.is_cheap operand }
 {
@@ -27,7 +28,7 @@ pub(crate) fn is_cheap(operand: Operand) -> bool
     }
 }
 
-/// Returns the operand that a fact offers in place of another.
+/// Returns the operand that a fact offers as a replacement of an operand, if it offers one.
 fn instead(fact: Fact, operand: Operand) -> Option<Operand>
     ensures { result ≡ replacement.instead fact operand }
 {
@@ -46,7 +47,7 @@ fn instead(fact: Fact, operand: Operand) -> Option<Operand>
     }
 }
 
-/// Returns an operand that is equal by the known facts. An operand that is a constant word is returned unchanged.
+/// Returns an operand that equals this one by the known facts. A constant word is returned unchanged.
 pub(crate) fn operand_in(facts: &[Fact], operand: Operand) -> Operand
     ensures { result ≡ replacement.simplified_operand facts.now operand }
 {
@@ -61,7 +62,8 @@ pub(crate) fn operand_in(facts: &[Fact], operand: Operand) -> Operand
     operand
 }
 
-/// Returns an equal operand. The bit masks show quickly that most operands have no other.
+/// Returns an operand that equals this one by the known facts. The bit masks show quickly that most
+/// operands have no replacement.
 fn simplified_operand(facts: &Facts, operand: Operand) -> Operand
     ensures { result ≡ replacement.simplified_operand facts.now operand }
 {
@@ -72,7 +74,8 @@ fn simplified_operand(facts: &Facts, operand: Operand) -> Operand
     }
 }
 
-/// Returns true if a truth value is compared with 0 by `!=`, so that the result is the truth value.
+/// Returns true if an operator compares a truth value with 0 by `!=`, so that its result is the
+/// truth value.
 fn is_truth_test(
     comparison: Comparison,
     bound: Operand,
@@ -96,7 +99,7 @@ fn own_slot(operand: Operand) -> Option<usize>
     }
 }
 
-/// Returns the slot that holds a result already, by a fact.
+/// Returns the slot that already contains a result, if this fact states one.
 fn holder(fact: Fact, operator: BinaryOperator, left: Operand, right: Operand) -> Option<usize>
     ensures { result ≡ replacement.holder fact operator left right }
 {
@@ -148,7 +151,8 @@ fn holder_in(
     None
 }
 
-/// Replaces an operator on two known words by its result, and an operator whose result a slot already holds by a move from that slot.
+/// Replaces an operator on two known words by its result, and an operator whose result a slot already contains by a move from this
+/// slot.
 fn simplified_binary(
     facts: &[Fact],
     operator: BinaryOperator,
@@ -200,7 +204,7 @@ fn simplified_unary(
     }
 }
 
-/// Returns a move from a slot to that slot, which has no effect.
+/// Returns a move from a slot to the same slot, which has no effect.
 fn moved_to_itself(slot: usize) -> Instruction
     ensures { result ≡ instructions.Move slot (operands.Slot slot) }
 {
@@ -210,7 +214,7 @@ fn moved_to_itself(slot: usize) -> Instruction
     }
 }
 
-/// Returns true if a slot is known to equal an operand. The bit masks rule out most slots.
+/// Returns true if a slot is known to equal an operand. The bit masks rule out most slots quickly.
 fn is_equal(facts: &Facts, slot: usize, operand: Operand) -> bool
     ensures { result ≡ facts_of.is_known facts.now (facts_are.Equal slot operand) }
 {
@@ -230,7 +234,7 @@ fn simplified_move(facts: &Facts, destination: usize, source: Operand) -> Instru
     }
 }
 
-/// Returns true if the known comparison implies the asked one.
+/// Returns true if the comparison `known` implies the comparison `asked`, for all words.
 fn implies(known: Comparison, asked: Comparison) -> bool
     ensures { result ≡ replacement.implies known asked }
 {
@@ -257,7 +261,7 @@ fn implies(known: Comparison, asked: Comparison) -> bool
     }
 }
 
-/// Returns the outcome of the asked comparison, if the known one decides it.
+/// Returns the outcome of the comparison `asked`, if the comparison `known` decides it.
 fn verdict(known: Comparison, asked: Comparison) -> Option<bool>
     ensures { result ≡ replacement.verdict known asked }
 {
@@ -305,7 +309,8 @@ fn decision_in(
     None
 }
 
-/// Returns the replacement of a branch that is never taken.
+/// Returns the replacement of a branch that is never taken: if it has a slot operand, a move from
+/// this slot to itself.
 fn passed_by(left: Operand, right: Operand, target: usize) -> Instruction
     ensures { result ≡ replacement.passed_by left right target }
 {
@@ -349,7 +354,7 @@ fn simplified_branch(
     }
 }
 
-/// Returns the word that memory has at this address, by a fact.
+/// Returns the word that memory has at this address, if this fact states it.
 fn value_by(fact: Fact, address: Operand, offset: u32) -> Option<Operand>
     ensures { result ≡ replacement.value_by fact address offset }
 {
@@ -389,7 +394,7 @@ fn global_value(facts: &[Fact], global: usize) -> Option<Operand>
     }
 }
 
-/// Returns the replacement of a load: a move, if the word is known.
+/// Returns the replacement of a load: a move, if the loaded word is known.
 fn simplified_load(facts: &[Fact], destination: usize, address: Operand, offset: u32) -> Instruction
     ensures { result ≡ replacement.simplified_load (replacement.value_in facts.now address offset) destination address offset }
 {
@@ -406,7 +411,7 @@ fn simplified_load(facts: &[Fact], destination: usize, address: Operand, offset:
     }
 }
 
-/// Returns the replacement of a load of a global: a move, if its word is known.
+/// Returns the replacement of a load of a global: a move, if the global's word is known.
 fn simplified_global(facts: &[Fact], destination: usize, global: usize) -> Instruction
     ensures { result ≡ replacement.simplified_global (replacement.global_value facts.now (facts_of.global_offset global)) destination global }
 {
@@ -448,14 +453,14 @@ fn simplified_request(facts: &Facts, request: Request) -> Request
     }
 }
 
-/// Returns a move with its source replaced by an equal operand.
+/// Returns the replacement of a move, whose source is replaced by an equal operand.
 fn moved_in(facts: &Facts, destination: usize, source: Operand) -> Instruction
     ensures { result ≡ replacement.simplified_instruction facts.now (instructions.Move destination source) }
 {
     simplified_move(facts, destination, simplified_operand(facts, source))
 }
 
-/// Returns an operator with its operands replaced by equal ones.
+/// Returns the replacement of an operator, whose operands are replaced by equal ones.
 fn computed_in(
     facts: &Facts,
     operator: BinaryOperator,
@@ -478,7 +483,7 @@ fn computed_in(
     simplified_binary(facts.all(), operator, destination, left, right)
 }
 
-/// Returns a branch with its operands replaced by equal ones.
+/// Returns the replacement of a branch, whose operands are replaced by equal ones.
 fn branched_in(
     facts: &Facts,
     comparison: Comparison,
@@ -493,7 +498,7 @@ fn branched_in(
     simplified_branch(facts.all(), comparison, left, right, target)
 }
 
-/// Returns a load with its address replaced by an equal operand.
+/// Returns the replacement of a load, whose address is replaced by an equal operand.
 fn loaded_in(facts: &Facts, destination: usize, address: Operand, offset: u32) -> Instruction
     ensures { result ≡ replacement.simplified_instruction facts.now (instructions.Load destination address offset) }
 {
@@ -501,7 +506,7 @@ fn loaded_in(facts: &Facts, destination: usize, address: Operand, offset: u32) -
     simplified_load(facts.all(), destination, address, offset)
 }
 
-/// Returns a store with its operands replaced by equal ones.
+/// Returns the replacement of a store, whose operands are replaced by equal ones.
 fn stored_in(facts: &Facts, address: Operand, offset: u32, source: Operand) -> Instruction
     ensures { result ≡ replacement.simplified_instruction facts.now (instructions.Store address offset source) }
 {
@@ -512,7 +517,7 @@ fn stored_in(facts: &Facts, address: Operand, offset: u32, source: Operand) -> I
     }
 }
 
-/// Returns the replacement of one of the less frequent instructions.
+/// Returns the replacement of one of the less frequent kinds of instructions.
 fn simplified_otherwise(facts: &Facts, instruction: Instruction) -> Instruction
     ensures { result ≡ replacement.simplified_otherwise facts.now instruction }
 {
@@ -571,8 +576,8 @@ fn simplified_otherwise(facts: &Facts, instruction: Instruction) -> Instruction
     }
 }
 
-/// Returns an instruction with exactly the original's effect if the facts are true. Without facts, the function returns the original
-/// instruction.
+/// Returns an instruction that has exactly the effect of the original if the facts are true. If no fact is known, it is the
+/// original.
 pub(crate) fn simplified_instruction(facts: &Facts, instruction: Instruction) -> Instruction
     ensures { result ≡ replacement.simplified_instruction facts.now instruction }
 {
@@ -611,8 +616,8 @@ pub(crate) fn simplified_instruction(facts: &Facts, instruction: Instruction) ->
     }
 }
 
-/// Returns true if an unreachable instruction may be dropped. An instruction that takes the address of slots stays, so that the pinned
-/// slots are unchanged.
+/// Returns true if an instruction may be dropped when it is unreachable. An instruction that takes the address of slots is kept, so
+/// that the set of these slots is unchanged.
 pub(crate) fn may_vanish(instruction: Instruction) -> bool
     ensures { result ≡ replacement.may_vanish instruction }
 {
@@ -622,7 +627,8 @@ pub(crate) fn may_vanish(instruction: Instruction) -> bool
     }
 }
 
-/// Returns the next place, or the last place if no place follows, so that the code does not run off its end.
+/// Returns the position after `index`, or `index` if it is the last one, so that control never leaves the
+/// code.
 pub(crate) fn place_after(index: usize, count: usize) -> usize
     requires { index + 1 < 2 ^ 64 }
     ensures { result ≡ replacement.place_after index count }
@@ -630,8 +636,8 @@ pub(crate) fn place_after(index: usize, count: usize) -> usize
     if index + 1 < count { index + 1 } else { index }
 }
 
-/// Returns the replacement of the instruction at place `index` of `count`. At an unreachable place it is a jump to the next place, which
-/// needs no machine code except at the last place.
+/// Returns the replacement of the instruction at position `index` of `count`. An unreachable instruction becomes a jump to the next
+/// position, which needs no machine code except at the last position.
 pub(crate) fn put_at(
     facts: &Facts,
     index: usize,

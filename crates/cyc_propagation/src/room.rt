@@ -1,4 +1,4 @@
-//! Drops checks of stack room that an earlier check makes redundant.
+//! Drops checks for stack space that an earlier check makes redundant.
 ghost use Rattle.std.specs.Prelude.{◌≡◌, ◌+◌, ◌<◌, ◌^◌, IfOk, IfSome};
 ghost use Rattle.cyc_propagation.specs.inside.Room as rooms_of;
 
@@ -6,20 +6,22 @@ use crate::jumps::{goes_on, target_of};
 use cyc_plain::{Instruction, Plain};
 use std::alloc::{AllocError, Global};
 
-/// More room than any call requires.
+/// More stack space than any call requires.
 const MOST_ROOM: usize = usize::MAX;
 
-/// The most passes over the code.
+/// The most passes over the code in the search for known stack space.
 const ROUNDS: usize = 4;
 
-/// Returns the room that a call of a function requires: one more than its number of slots.
+/// Returns the stack space that a call of a function requires, represented by its number of slots
+/// plus one.
 #[tactic(auto, using(crate::proofs::Sparing::slots_and_one_fit))]
 fn room_for(plain: &Plain, function: usize) -> usize
     ensures { result ≡ rooms_of.slots_in plain.now function + 1 }
 {
     if function < plain.functions().len() {
         let callee = plain.function(function);
-        // A frame has more words than slots, and its number of words fits, so the number of slots plus one fits too.
+        // A frame has more words than slots, and its number of words fits a machine word. Hence the number of a
+        // function's slots plus one fits a machine word too.
         let _words = callee.frame_count;
         callee.slots + 1
     } else {
@@ -27,7 +29,8 @@ fn room_for(plain: &Plain, function: usize) -> usize
     }
 }
 
-/// Returns the room that an instruction has proved when control continues after it.
+/// Returns the stack space that an instruction has proved to be available when control continues
+/// after it.
 fn room_of(plain: &Plain, instruction: Instruction) -> usize
     ensures { result ≡ rooms_of.room_of (rooms_of.slots_in plain.now) instruction }
 {
@@ -38,7 +41,7 @@ fn room_of(plain: &Plain, instruction: Instruction) -> usize
     }
 }
 
-/// Returns the room known after an instruction.
+/// Returns the stack space known to be available after an instruction.
 fn room_following(plain: &Plain, room: usize, instruction: Instruction) -> usize
     ensures { result ≡ rooms_of.room_following (rooms_of.slots_in plain.now) room instruction }
 {
@@ -46,7 +49,7 @@ fn room_following(plain: &Plain, room: usize, instruction: Instruction) -> usize
     if room < had { had } else { room }
 }
 
-/// Returns the room known at a place.
+/// Returns the stack space known to be available at a code position.
 fn room_at(rooms: &[usize], place: usize) -> usize
     ensures { result ≡ rooms_of.room_at rooms.now place }
 {
@@ -56,14 +59,14 @@ fn room_at(rooms: &[usize], place: usize) -> usize
     }
 }
 
-/// Returns true if a place requires no more than this room.
+/// Returns true if a code position requires no more than this stack space.
 fn is_enough(rooms: &[usize], room: usize, place: usize) -> bool
     ensures { result ≡ rooms_of.is_enough rooms.now room place }
 {
     room_at(rooms, place) <= room
 }
 
-/// Returns true if each successor of an instruction requires no more than this room.
+/// Returns true if each successor of an instruction requires no more than this stack space.
 fn leads_to_enough(rooms: &[usize], room: usize, instruction: Instruction, index: usize) -> bool
     requires { index + 1 < 2 ^ 64 }
     ensures { result ≡ rooms_of.leads_to_enough rooms.now room instruction index }
@@ -84,7 +87,8 @@ fn leads_to_enough(rooms: &[usize], room: usize, instruction: Instruction, index
     }
 }
 
-/// Returns an instruction, or a jump to the next place if it is a redundant check of room.
+/// Returns the instruction, or a jump to the next position if it is a redundant check for stack
+/// space.
 fn spared_instruction(
     plain: &Plain,
     room: usize,
@@ -106,7 +110,7 @@ fn spared_instruction(
     }
 }
 
-/// Limits the room known at a place. Returns true if the place had no more already.
+/// Limits the stack space known at a code position. Returns true if no more was known there before.
 fn restrict(rooms: &mut Vec<usize>, place: usize, room: usize) -> bool {
     if let Some(known) = rooms.get_mut(place) {
         if room < *known {
@@ -117,7 +121,8 @@ fn restrict(rooms: &mut Vec<usize>, place: usize, room: usize) -> bool {
     true
 }
 
-/// Passes once over the code. Returns true if the room known at each target of a backward jump is unchanged by the pass.
+/// Makes one pass over the code. Returns true if the pass leaves the stack space known at each target of a backward jump
+/// unchanged.
 fn go_through(plain: &Plain, code: &[Instruction], rooms: &mut Vec<usize>) -> bool {
     let mut is_settled = true;
     for index in 0..code.len() {
@@ -134,8 +139,8 @@ fn go_through(plain: &Plain, code: &[Instruction], rooms: &mut Vec<usize>) -> bo
     is_settled
 }
 
-/// Finds the room known at each place of code. Unverified: the table is checked before use. A place not reached yet starts with all
-/// possible room, so that it does not limit its successors.
+/// Finds the stack space known at each position of the code. The search is unverified: the table is checked before use. A position
+/// that is not reached yet has the maximal stack space, so that it does not limit its successors.
 fn rooms_of(alloc: Global, plain: &Plain, code: &[Instruction]) -> Result<Vec<usize>, AllocError> {
     let mut rooms = vec![in alloc; MOST_ROOM; code.len()]?;
     restrict(&mut rooms, 0, 0);
@@ -147,7 +152,7 @@ fn rooms_of(alloc: Global, plain: &Plain, code: &[Instruction]) -> Result<Vec<us
     Ok(rooms)
 }
 
-/// Returns true if code contains a check of room.
+/// Returns true if the code contains a check for stack space (`Enter`).
 fn asks_for_room(code: &[Instruction]) -> bool {
     for instruction in code {
         if let Instruction::Enter { .. } = *instruction {
@@ -157,7 +162,8 @@ fn asks_for_room(code: &[Instruction]) -> bool {
     false
 }
 
-/// Returns the code without redundant checks of room, if the table passes the check.
+/// Returns the code without redundant checks for stack space, if the table of known stack space
+/// passes the check.
 fn sparing(
     alloc: Global,
     plain: &Plain,
@@ -182,7 +188,7 @@ fn sparing(
     Ok(Some(spared))
 }
 
-/// Returns the code without redundant checks of room.
+/// Returns the code without redundant checks for stack space.
 pub(crate) fn spare(
     alloc: Global,
     plain: &Plain,

@@ -1,4 +1,4 @@
-//! Plain programs without recomputations, tests and moves whose result is already known.
+//! Returns plain programs without computations, tests and moves whose result is already known.
 ghost use Rattle.std.specs.Prelude.{IfOk};
 ghost use Rattle.cyc_plain.specs.inside.Program.{routine_of};
 ghost use Rattle.cyc_propagation.specs.inside.Entries.{with_code};
@@ -31,7 +31,7 @@ fn simplified_code(
     without_tail(alloc, &function.code)
 }
 
-/// Returns the simplified function.
+/// Returns the simplified form of a function.
 fn simplified(alloc: Global, plain: &Plain, function: &Function) -> Result<Function, AllocError>
     ensures { IfOk result (λ made. IsMadeFunction plain.now (routine_of function.now) (routine_of made)) }
 {
@@ -47,7 +47,8 @@ fn simplified(alloc: Global, plain: &Plain, function: &Function) -> Result<Funct
     })
 }
 
-/// Returns the program without redundant work: moves from a slot to that slot, sums that a slot already holds, tests that cannot fail.
+/// Returns the program without redundant work, for example moves from a slot to the same slot, sums that a slot already contains, and
+/// tests that cannot fail.
 pub fn simplify(alloc: Global, plain: &Plain) -> Result<Plain, AllocError>
     ensures { IfOk result (λ simplified. IsSimplified plain.now simplified) }
 {

@@ -1,4 +1,5 @@
-//! The tail of code: the places after the last one that anything before can reach. No instruction in the tail of code is reachable.
+//! The tail of code consists of the positions after the last one that a jump or a fall-through can reach. No instruction in the
+//! tail is reachable.
 ghost use Rattle.std.specs.Prelude.{◌≡◌, ◌+◌, ◌<◌, ◌^◌, IfOk};
 ghost use Rattle.cyc_propagation.specs.inside.Room as rooms_of;
 ghost use Rattle.cyc_propagation.specs.inside.Tail as tails;
@@ -14,7 +15,7 @@ fn greater(one: usize, other: usize) -> usize
     if one < other { other } else { one }
 }
 
-/// Returns the last place reached so far, including by this instruction.
+/// Returns the last position reached by the instructions visited so far, including this one.
 fn last_after(last: usize, instruction: Instruction, index: usize) -> usize
     requires { index + 1 < 2 ^ 64 }
     ensures { result ≡ tails.last_after last instruction index }
@@ -30,7 +31,7 @@ fn last_after(last: usize, instruction: Instruction, index: usize) -> usize
     }
 }
 
-/// Returns the last reachable place of code, counted from its first one on.
+/// Returns the last reachable position of the code.
 fn last_place(code: &[Instruction]) -> usize
     ensures { tails.IsLast code.now result }
 {
@@ -44,7 +45,8 @@ fn last_place(code: &[Instruction]) -> usize
     last
 }
 
-/// Returns the replacement of the instruction at place `index` of `count`: in the tail, a jump to the next place.
+/// Returns the replacement of the instruction at position `index` of `count`: in the unreachable tail, a jump to
+/// the next position.
 fn tailless_instruction(
     last: usize,
     index: usize,
@@ -63,7 +65,7 @@ fn tailless_instruction(
     }
 }
 
-/// Returns the code with its tail emptied.
+/// Returns the code in which the instructions of the unreachable tail are replaced by jumps.
 pub(crate) fn without_tail(
     alloc: Global,
     code: &[Instruction],

@@ -1,4 +1,4 @@
-//! Simplifies the code of a function, each instruction under the facts known at its place.
+//! Simplifies the code of a function, each instruction under the facts known at its position.
 ghost use Rattle.std.specs.Prelude.{◌≡◌, ℕ, ◌+◌, ◌<◌, ◌^◌, true, IfOk, IfSome, OnOk, length};
 ghost use Rattle.cyc_plain.specs.inside.Program.{routine_of};
 ghost use Rattle.cyc_plain.specs.inside.Uses.{At};
@@ -20,16 +20,16 @@ use crate::replacement::put_at;
 use cyc_plain::{Function, Instruction, Plain};
 use std::alloc::{AllocError, Global};
 
-/// A function of a program, and its pinned slots.
+/// A function of a program, and its slots whose address is taken.
 #[derive(Clone, Copy)]
 struct Setting<'a> {
     plain: &'a Plain,
     function: &'a Function,
-    /// For each slot whether it is pinned.
+    /// For each slot of the function, true if its address is taken.
     pinned: &'a [bool],
 }
 
-/// Returns true if an instruction jumps only to a place whose required facts are known.
+/// Returns true if an instruction jumps only to targets whose required facts are known.
 fn jumps_well(
     pinned: &[bool],
     entries: &[Entry],
@@ -57,7 +57,7 @@ fn jumps_well(
     }
 }
 
-/// Returns true if the next place requires only known facts, or control cannot reach it.
+/// Returns true if the next instruction requires only known facts, or control cannot reach it.
 fn goes_well(entries: &[Entry], following: &[Fact], instruction: Instruction, index: usize) -> bool
     requires { index + 1 < 2 ^ 64 }
     ensures { result ≡ entries_of.goes_well (entries_of.entry_in entries.now) following.now instruction index }
@@ -72,8 +72,8 @@ fn goes_well(entries: &[Entry], following: &[Fact], instruction: Instruction, in
     }
 }
 
-/// Updates the facts to those at the next place, if no jump leads there. After an instruction that never falls through, the place is
-/// unreachable.
+/// Updates the known facts to those at the next position, if no jump goes there. After an instruction that never falls through, the
+/// next position is unreachable.
 pub(crate) fn come_after(
     plain: &Plain,
     pinned: &[bool],
@@ -94,8 +94,8 @@ pub(crate) fn come_after(
     facts.remember(Some(never()))
 }
 
-/// Returns true if what is known at a jump narrows what is known at its target, which stands further on. A jump that no run reaches leads
-/// nowhere, and a searched region has the facts of its places already, but for those where a run ends.
+/// Returns true if the facts known at a forward jump must be merged into those of its target. An unreachable jump has no effect. In a
+/// searched code region, the facts are known already, except where a run ends.
 fn is_merged(
     code: &[Instruction],
     is_searched: bool,
@@ -108,7 +108,8 @@ fn is_merged(
     index < target && (!is_unreached(facts) && (!is_searched || is_end(code, target)))
 }
 
-/// Keeps at the target of a jump the facts that are known at the jump too. Returns true if the entry of the target requires no other fact.
+/// Keeps only those facts of a jump target that are also known at the jump. Returns true if the target's entry then requires only known
+/// facts.
 fn merge_at(
     entries: &mut Vec<Entry>,
     code: &[Instruction],
@@ -125,8 +126,8 @@ fn merge_at(
     Ok(is_inside)
 }
 
-/// Keeps at the place that an instruction may jump to, further on, what is known here too. Returns true if the entry of the target is
-/// implied by the known facts.
+/// Keeps only those facts of an instruction's forward jump target that are also known at the instruction. Returns true if the known
+/// facts imply the target's entry.
 #[tactic(auto, using(crate::proofs::Entered::jumped_well))]
 fn merge_target(
     entries: &mut Vec<Entry>,
@@ -164,7 +165,7 @@ fn merge_target(
     }
 }
 
-/// Begins a region at a place, if one begins there.
+/// Begins a code region at a position, if a region begins there.
 fn begin_at(
     setting: &Setting,
     search: &mut Search,
@@ -188,8 +189,8 @@ fn begin_at(
     Ok(())
 }
 
-/// Keeps the facts of a jump target that are known after the previous instruction too. Returns true if the target then requires only known
-/// facts.
+/// Keeps only those facts of a jump target that are also known after the previous instruction. Returns true if the target then requires
+/// only known facts.
 fn join(
     entries: &mut Vec<Entry>,
     code: &[Instruction],
@@ -209,7 +210,8 @@ fn join(
     Ok(is_inside)
 }
 
-/// Control reaches a place from the previous instruction. Returns true only if the entry of the place requires no other fact.
+/// Updates the facts at a position that control reaches from the previous instruction. Returns true only if the entry of the
+/// position requires only known facts.
 fn come_next(
     setting: &Setting,
     search: &mut Search,
@@ -232,7 +234,8 @@ fn come_next(
     Ok(is_known)
 }
 
-/// The code comes to the place after an instruction. Returns true if it does not go on to that, or no more is asked for there.
+/// Updates the facts at the position after an instruction. Returns true if control does not continue there, or if only known
+/// facts are required there.
 fn continue_after(
     setting: &Setting,
     search: &mut Search,
@@ -252,8 +255,8 @@ fn continue_after(
     Ok(goes_well(entries, following, instruction, index))
 }
 
-/// Returns true if an instruction does not jump, and the next place is no jump target and begins no region. An unreachable jump counts as
-/// no jump.
+/// Returns true if an instruction does not jump, and the next position is no jump target and begins no region. An unreachable jump is
+/// treated as not jumping.
 fn is_straight(
     search: &Search,
     entries: &[Entry],
@@ -273,8 +276,8 @@ fn is_straight(
     }
 }
 
-/// Processes an instruction that jumps, or whose next place is a jump target or begins a region: `facts` become those at the next place.
-/// Returns true if the entry of the next place is implied by the known facts.
+/// Processes an instruction that jumps, or whose next position is a jump target or begins a region. `facts` become those at the next
+/// position. Returns true if the known facts imply the entry of the next position.
 fn merge_into_successor(
     setting: &Setting,
     search: &mut Search,
@@ -315,8 +318,8 @@ fn merge_into_successor(
     Ok(true)
 }
 
-/// Processes one instruction: `facts` become those at the next place. Returns true if the entry of the next place is implied by the known
-/// facts.
+/// Processes one instruction. `facts` become those at the next position. Returns true if the known facts imply the entry of the next
+/// position.
 fn pass_on(
     setting: &Setting,
     search: &mut Search,
@@ -348,7 +351,8 @@ fn instruction_at(function: &Function, index: usize) -> Instruction
     function.code[index]
 }
 
-/// Returns the code of a function, each instruction simplified under the facts at its place, if the facts that the search found are right.
+/// Returns the code of a function, each instruction simplified under the facts at its position, if the facts that the search found pass
+/// the check.
 fn walked(
     alloc: Global,
     plain: &Plain,
@@ -387,7 +391,8 @@ fn walked(
     Ok(Some(code))
 }
 
-/// Returns the simplified code, found by a short search if that succeeds, as it mostly does.
+/// Returns the simplified code of a function. A short search is tried first, since it mostly
+/// succeeds.
 pub(crate) fn walked_soon(
     alloc: Global,
     plain: &Plain,

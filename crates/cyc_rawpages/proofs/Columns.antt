@@ -1,4 +1,4 @@
--- The meaning of a pool's words after a word is written.
+-- Lemmas: the contents of a page pool after one word of its headers is written.
 use Rattle.std.proofs.Common.{◌≡◌, ℕ, zero, suc, ◌+◌, ◌*◌, ◌%◌, ◌^◌, ◌<◌, ◌≤◌, ◌∷◌, length, set, length-set, replicate, refl, ap, sym, ◌∙◌, inl, inr, arith, get_or-set_same, get_or-set_other}
 use Rattle.std.specs.Prelude.{◌==◌, Bool, slice_index, slice_index_or}
 use Rattle.std.specs.Int.{bit_at}
@@ -40,7 +40,7 @@ module _ (pages : ℕ) (raw : Parts) (k v : ℕ) where
   abbrev new : Parts
   new = headed raw k v
 
-  -- The written word is this field of no page.
+  -- If the written word is not the given field of a page, the field keeps its value.
   pub field-kept : (field page : ℕ) → (header_at page field ≡ k → ⊥) → field_of new field page ≡ field_of raw field page
   field-kept field page ne = get_or-set_other raw.heads k (header_at page field) v 0 ne
 
@@ -51,12 +51,12 @@ module _ (pages : ℕ) (raw : Parts) (k v : ℕ) where
       → tabulate pages (serial_of new) ≡ tabulate pages (serial_of raw)
   serials-kept low high = tab-ext pages (serial_of new) (serial_of raw) (λ i lt. λ j. field-kept LOW i (low i lt) j + 2 ^ 32 * field-kept HIGH i (high i lt) j)
 
-  -- The written word contains the bits of no page.
+  -- If the written word contains no page's bits, all bits keep their values.
   bits-kept : ((number : ℕ) → number < 1024 * pages → bits_at number ≡ k → ⊥) → tabulate (1024 * pages) (bit_of new) ≡ tabulate (1024 * pages) (bit_of raw)
   bits-kept ne = tab-ext (1024 * pages) (bit_of new) (bit_of raw) (λ i lt. ap (λ w. bit_at w (i % 32) == 1) (get_or-set_other raw.heads k (bits_at i) v 0 (ne i lt)))
 
 module _ (pages : ℕ) (raw : Parts) (l : Lists) (whole : length raw.heads ≡ 40 * pages) where
-  -- The fill mark of a page is written.
+  -- Writing the fill-mark field of a page's header sets the page's fill mark.
   pub filled : (page v : ℕ) → page < pages
       → state_of pages (headed raw (header_at page FILL) v) l ≡ record (state_of pages raw l) { fills = set (state_of pages raw l).fills page v }
   filled page v there =
@@ -72,7 +72,7 @@ module _ (pages : ℕ) (raw : Parts) (l : Lists) (whole : length raw.heads ≡ 4
         chains = l.chains;
       }
 
-  -- The owner of a page is written.
+  -- Writing the owner field of a page's header sets the page's owner.
   pub owned : (page v : ℕ) → page < pages
       → state_of pages (headed raw (header_at page OWNER) v) l ≡ record (state_of pages raw l) { owners = set (state_of pages raw l).owners page v }
   owned page v there =
@@ -88,7 +88,7 @@ module _ (pages : ℕ) (raw : Parts) (l : Lists) (whole : length raw.heads ≡ 4
         chains = l.chains;
       }
 
-  -- The two halves of a page's serial are written.
+  -- Writing the two serial fields of a page's header sets the page's serial.
   pub numbered : (page low high : ℕ) → page < pages
       → state_of pages (headed (headed raw (header_at page LOW) low) (header_at page HIGH) high) l ≡ record (state_of pages raw l) { serials = set (state_of pages raw l).serials page (low + 2 ^ 32 * high) }
   numbered page low high there =
@@ -107,7 +107,7 @@ module _ (pages : ℕ) (raw : Parts) (l : Lists) (whole : length raw.heads ≡ 4
         chains = l.chains;
       }
 
-  -- A link or a tail is written, which only the lists depend on.
+  -- Writing a link or a tail changes only the lists of pages, not the pool's other contents.
   pub linked : (page field v : ℕ) → 4 ≤ field → field < 8 → state_of pages (headed raw (header_at page field) v) l ≡ state_of pages raw l
   linked page field v low high =
       let k = header_at page field in
@@ -122,7 +122,7 @@ module _ (pages : ℕ) (raw : Parts) (l : Lists) (whole : length raw.heads ≡ 4
         chains = l.chains;
       }
 
-  -- A bit of a page is set or cleared.
+  -- Writing a word in which one bit differs sets or clears that bit of a page.
   pub marked : (page bit w : ℕ) (v : Bool) → page < pages → bit < 1024 → (bit_at w (bit % 32) == 1) ≡ v
       → ((i : ℕ) → i < 32 → (i ≡ bit % 32 → ⊥) → bit_at w i ≡ bit_at (slice_index raw.heads (bits_at (1024 * page + bit))) i)
       → state_of pages (headed raw (bits_at (1024 * page + bit)) w) l ≡ record (state_of pages raw l) { bits = set (state_of pages raw l).bits (1024 * page + bit) v }
@@ -147,7 +147,7 @@ module _ (pages : ℕ) (raw : Parts) (l : Lists) (whole : length raw.heads ≡ 4
         chains = l.chains;
       }
 
-  -- A word of bits is written.
+  -- Writing a word of bits changes only the pool's bits.
   pub rewritten : (k w : ℕ) → ((page field : ℕ) → field < 8 → header_at page field ≡ k → ⊥) → state_of pages (headed raw k w) l ≡ record (state_of pages raw l) { bits = tabulate (1024 * pages) (bit_of (headed raw k w)) }
   rewritten k w apart =
       λ j. record {

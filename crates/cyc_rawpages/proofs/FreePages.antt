@@ -1,4 +1,4 @@
--- The set of free pages agrees with the list in which they are linked.
+-- Lemmas: the set of free pages agrees with the list in which the free pages are linked.
 use Rattle.std.proofs.Common.{◌≡◌, ℕ, ◌<◌, List, [], ◌∷◌, ◌++◌, replicate, set, refl, sym, ap, ◌∙◌, inl, inr}
 use Rattle.std.specs.Prelude.{◌==◌, true, false}
 use Rattle.std.specs.List.{AllByRecursion}

@@ -1,4 +1,5 @@
--- A pool whose pages are linked, beginning with the last one.
+-- Lemmas about creating a pool, whose pages are linked one after the other, beginning with the last
+-- page.
 use Rattle.std.proofs.Common.{◌≡◌, ℕ, zero, suc, ◌+◌, ◌-◌, ◌*◌, ◌%◌, ◌^◌, ◌<◌, ◌≤◌, [], ◌∷◌, length, replicate, refl, sym, ap, subst, ◌∙◌, arith, length-set, inl, inr}
 use Rattle.std.specs.Prelude.{◌==◌, true, false, slice_index}
 use Rattle.std.specs.List.{AllByRecursion}
@@ -14,7 +15,7 @@ use Rattle.cyc_rawpages.proofs.Columns.{tab-all, linked}
 use Rattle.cyc_rawpages.proofs.Links.{put-there, put-elsewhere, all-map, linked-same}
 use Rattle.cyc_rawpages.proofs.PoolLemmas.{header-in, field-put}
 
--- The pages from `left` on are linked as free pages.
+-- Says that the pages from number `left` on are linked as free pages.
 pub record IsLinking (pages : ℕ) (old new : Parts) (first left : ℕ) : Type 0 where
   pub fits : left ≤ pages
   pub whole : length new.heads ≡ 40 * pages

@@ -1,4 +1,4 @@
--- The free pages and the chains of a pool, given by the links in its headers.
+-- Lemmas about the free pages and the chains of a pool, computed from the links in its headers.
 use Rattle.std.proofs.Common.{◌≡◌, ℕ, ◌<◌, List, [], ◌∷◌, ◌++◌, length, set, drop, refl, sym, ap, subst, ◌∙◌, arith, inl, inr, length-set, get_or-set_same, get_or-set_other}
 use Rattle.std.specs.Prelude.{◌==◌, if◌then◌else◌}
 use Rattle.std.specs.List.{AllByRecursion}
@@ -27,7 +27,7 @@ all-append : (P : ℕ → Type 0) (xs ys : List ℕ) → AllByRecursion P xs →
 all-append P [] ys p q = q
 all-append P (x ∷ xs) ys p q = (p.0, all-append P xs ys p.1 q)
 
--- The concatenation of two lists with different elements has no duplicates.
+-- If two lists have no duplicates and no common element, their concatenation has no duplicates.
 distinct-append : (P Q : ℕ → Type 0) (xs ys : List ℕ) → ((x y : ℕ) → P x → Q y → x ≡ y → ⊥) → IsDistinct xs → AllByRecursion P xs → IsDistinct ys → AllByRecursion Q ys → IsDistinct (xs ++ ys)
 distinct-append P Q [] ys apart dx p dy q = dy
 distinct-append P Q (x ∷ xs) ys apart dx p dy q = (all-append (λ y. x ≡ y → ⊥) xs ys dx.0 (all-map ys (λ y has. apart x y p.0 has) q), distinct-append P Q xs ys apart dx.1 p.1 dy q)
@@ -41,7 +41,7 @@ runs-same : (next new : ℕ → ℕ) (x : ℕ) (xs : List ℕ) (last : ℕ) → 
 runs-same next new x [] last all r = r
 runs-same next new x (y ∷ ys) last all r = (all.0 ∙ r.0, runs-same next new y ys last all.1 r.1)
 
--- The last page is an element of the chain.
+-- The last page of a chain is an element of the chain.
 last-in : (P : ℕ → Type 0) (next : ℕ → ℕ) (x : ℕ) (xs : List ℕ) (last : ℕ) → AllByRecursion P (x ∷ xs) → Runs next x xs last → P last
 last-in P next x [] last all r = subst P r all.0
 last-in P next x (y ∷ ys) last all r = last-in P next y ys last all.1 r.1
@@ -69,7 +69,7 @@ chain-same pages next tail home next' tail' home' head (x ∷ xs) e same c = (
 
 -- ---- the calls of a pool
 module _ (pages : ℕ) (next tail : ℕ → ℕ) (first : ℕ) (l : Lists) (up : IsLinkedUp pages next tail first l) where
-  -- A page's number differs from `NONE`.
+  -- The number of a page differs from `NONE`, which represents no page.
   small : (p : ℕ) → p < pages → p ≡ NONE → ⊥
   small p there e = omega (arith, there, e, up.few)
 
@@ -108,7 +108,7 @@ module _ (pages : ℕ) (next tail : ℕ → ℕ) (first : ℕ) (l : Lists) (up :
         ];
       }
 
-  -- The last page of a chain has the chain as its home.
+  -- The last page of a chain belongs to the chain: its home is the chain's head.
   pub tail-in : (head : ℕ) (rest : List ℕ) → head < pages → chain_at l.chains head ≡ head ∷ rest → IsIn pages up.home head (tail head)
   tail-in head rest below e = let c = subst (IsChain pages next tail up.home head) e (up.run head below) in last-in (IsIn pages up.home head) next head rest (tail head) c.3 c.1
 

@@ -1,4 +1,4 @@
--- A mask of `count` bits from one bit on, as the code computes it.
+-- Lemmas about a mask of `count` bits from a given bit on, as the code computes it.
 use Rattle.std.proofs.Common.{◌≡◌, ℕ, ◌+◌, ◌-◌, ◌*◌, ◌%◌, ◌^◌, ◌<◌, ◌≤◌, ap, ◌∙◌, arith, inl, inr, pow_mono}
 use Rattle.std.specs.Prelude.{◌⊎◌, bit_and, bit_or, bit_xor}
 use Rattle.std.specs.Int.{bit_at}
@@ -28,14 +28,14 @@ module _ (first count : ℕ) (short : first + count ≤ 32) where
   mask-outside i (inl below) = ap (λ m. bit_at m i) mask-is ∙ bit_at_mask_below first (first + count) i below
   mask-outside i (inr past) = ap (λ m. bit_at m i) mask-is ∙ bit_at_mask_above first (first + count) i past
 
--- Exactly the bits of a mask are set.
+-- An `or` with a mask sets exactly the bits of the mask.
 pub set-in : (w m i : ℕ) → bit_at m i ≡ 1 → bit_at (bit_or w m) i ≡ 1
 set-in w m i one = let or = bit_at_or w m i in let bit = bit_at-lt w i in omega (arith, or, bit, one)
 
 pub set-out : (w m i : ℕ) → bit_at m i ≡ 0 → bit_at (bit_or w m) i ≡ bit_at w i
 set-out w m i none = let or = bit_at_or w m i in omega (arith, or, none)
 
--- Exactly the bits of a mask are cleared.
+-- Clearing the bits of a mask in a word clears exactly these bits.
 pub cleared-in : (w m i : ℕ) → bit_at m i ≡ 1 → bit_at (bit_xor w (bit_and w m)) i ≡ 0
 cleared-in w m i one = let xor = bit_at_xor w (bit_and w m) i in let and = bit_at_and w m i in let bit = bit_at-lt w i in omega (arith, xor, and, bit, one)
 

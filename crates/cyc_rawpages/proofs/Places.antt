@@ -1,4 +1,5 @@
--- Adjacent cells: one is taken out and put back, or borrowed. Assumes `Logic`.
+-- Lemmas about adjacent memory cells: one cell is taken out and put back, or borrowed. Assumes
+-- `Logic`.
 use mathlib.Core.Path.{◌≡◌, refl, sym, ap, subst, ◌∙◌}
 use Prim.Native.Nat.{ℕ, zero, suc, ◌+◌, ◌*◌, ◌<◌, ◌≤◌}
 use native.Mathlib.Omega.{arith}
@@ -37,7 +38,7 @@ module _ {M : Type 1} {𝓤 : Ura M} (𝓛 : Logic 𝓤) (b : ℕ) where
       use2 𝓛 (‵ (places b (o + 4) (xs ++ ys))) (glue xs ys (o + 4) at (omega (arith, e))) $ move ! (1 ∷ 0 ∷ []) $ fjoin ! $ done !
 
   module _ (o : ℕ) (cs : List (Option ℕ)) (i : ℕ) where
-    -- All cells except the i-th.
+    -- The assertion that owns all cells except the i-th.
     abbrev pub besides : Fml
     besides = fsep (places b o (take i cs)) (places b (i * 4 + o + 4) (drop (suc i) cs))
 
@@ -55,12 +56,13 @@ module _ {M : Type 1} {𝓤 : Ura M} (𝓛 : Logic 𝓤) (b : ℕ) where
         use2 𝓛 (‵ (places b o (take i cs ++ c ∷ drop (suc i) cs))) (glue (take i cs) (c ∷ drop (suc i) cs) o (i * 4 + o) (before (omega arith))) $
         rewrite ! 0 (λ (l : List (Option ℕ)). ‵ (places b o l)) (sym (set_split cs i c lt)) refl $ done !
 
-  -- A cell, whatever it contains, is room for a word.
+  -- Ownership of a cell, whatever it contains, gives ownership of space for a word.
   pub place_room : (o : ℕ) (c : Option ℕ) → ent 𝓤 (sem 𝓛 (place b o c)) (H.room (ty_int w32) b o)
   place_room o (Some w) = via 𝓤 _ (uint_out 𝓛 full_share w32 w b o) (𝓛.laws.at_room (ty_int w32) b o (vint w32 w))
   place_room o None = id⊢ 𝓤 _
 
-  -- The room of a block consists of empty cells, and its cells, whatever they contain, are its room.
+  -- Ownership of a block's space is ownership of its empty cells. Ownership of its cells, whatever
+  -- they contain, gives ownership of the space.
   pub of_room : (n o : ℕ) → ent 𝓤 (H.room (ty_array (ty_int w32) n) b o) (sem 𝓛 (places b o (replicate n None)))
   of_room zero o = qed 𝓛 (‵ (froom (ty_array (ty_int w32) 0) b o) ∷ []) ∵ keep ! [] $ done !
   of_room (suc n) o = qed 𝓛 (‵ (froom (ty_array (ty_int w32) (suc n)) b o) ∷ []) ∵

@@ -1,4 +1,4 @@
--- The proof obligations of the calls of a pool.
+-- Lemmas for the proof obligations of the functions of a page pool.
 use Rattle.std.proofs.Common.{◌≡◌, ℕ, ◌+◌, ◌*◌, ◌/◌, ◌%◌, ◌^◌, ◌<◌, ◌≤◌, List, [], ◌∷◌, ◌++◌, drop, length, replicate, set, sym, ap, subst, ◌∙◌, arith, inl, inr, length-set, get_or-set_same}
 use Rattle.std.specs.Prelude.{◌==◌, false, slice_index, slice_index_or}
 use Rattle.std.specs.List.{AllByRecursion}
@@ -13,14 +13,15 @@ use Rattle.cyc_rawpages.proofs.Columns.{tab-read, field-kept}
 use Rattle.cyc_rawpages.proofs.FreePages.{other-among, among-following, free-none as none-free, free-first, free-taken, free-given}
 use Rattle.cyc_rawpages.proofs.Links.{put-there, put-elsewhere, all-map, free-none, free-some, free-there, taken, tail-in, given, pushed}
 
--- A header is within the heads of the pool.
+-- The index of a page's header field is below the number of head words of the pool.
 pub header-in : (pages page field : ℕ) (raw : Parts) → length raw.heads ≡ 40 * pages → page < pages → field < 8 → header_at page field < length raw.heads
 header-in pages page field raw whole there low = omega (arith, whole, there, low)
 
 pub word-in : (pages page word : ℕ) (raw : Parts) → length raw.words ≡ 1024 * pages → page < pages → word < 1024 → 1024 * page + word < length raw.words
 word-in pages page word raw whole there low = omega (arith, whole, there, low)
 
--- A field as a function of the page, after it is written for one page.
+-- After a header field is written for one page, the field's values are the old values, except for
+-- that page.
 pub field-put : (pages page field v : ℕ) (raw : Parts) → header_at page field < length raw.heads → field_of (headed raw (header_at page field) v) field ≡ put (field_of raw field) page v
 field-put pages page field v raw inside = λ j p. at p j where
   at : (p : ℕ) → field_of (headed raw (header_at page field) v) field p ≡ put (field_of raw field) page v p
@@ -33,7 +34,7 @@ field-apart : (pages page written v field : ℕ) (raw : Parts) → written < 8 �
 field-apart pages page written v field raw low high ne = λ j p. field-kept pages raw (header_at page written) v field p (λ e. ne (omega (arith, e, low, high))) j
 
 module _ (pages : ℕ) (raw : Parts) (first : ℕ) (l : Lists) (is : IsPool pages raw first l) where
-  -- Writing a header word that is no link keeps the pool's invariant.
+  -- Writing a header word that is neither a link nor a tail keeps the pool's invariant.
   pub kept : (k v : ℕ) → ((page : ℕ) → (header_at page NEXT ≡ k → ⊥) × (header_at page TAIL ≡ k → ⊥)) → IsPool pages (headed raw k v) first l
   kept k v ne = record {
     whole = length-set raw.heads k v ∙ is.whole;
@@ -48,7 +49,7 @@ module _ (pages : ℕ) (raw : Parts) (first : ℕ) (l : Lists) (is : IsPool page
       let had = free-some pages (field_of raw NEXT) (field_of raw TAIL) first l is.up some in
       free-there pages (field_of raw NEXT) (field_of raw TAIL) first l is.up had.0 had.1
 
-  -- The first free page is taken.
+  -- The pool's invariant holds after the first free page is taken.
   pub pool-taken : (first ≡ NONE → ⊥) → (made : ℕ) → raw.made ≤ made → 1024 * (first + 1) ≤ made
       → IsPool pages (record (headed raw (header_at first TAIL) first) { made = made }) (field_of raw NEXT first) (after l (Taken first))
   pool-taken some made more least =
@@ -91,7 +92,7 @@ module _ (pages : ℕ) (raw : Parts) (first : ℕ) (l : Lists) (is : IsPool page
     pub tail-there : tail < pages
     tail-there = (tail-in pages (field_of raw NEXT) (field_of raw TAIL) first l is.up head rest below e).0
 
-    -- A chain is freed.
+    -- The pool's invariant holds after a chain is freed.
     pub pool-given : IsPool pages (headed raw (header_at tail NEXT) first) head (after l (Given head))
     pool-given = record {
       whole = length-set raw.heads (header_at tail NEXT) first ∙ is.whole;
@@ -110,7 +111,7 @@ module _ (pages : ℕ) (raw : Parts) (first : ℕ) (l : Lists) (is : IsPool page
         let chain = subst (IsChain pages (field_of raw NEXT) (field_of raw TAIL) is.up.home head) e (is.up.run head below) in
         free-given pages (chain_at l.chains head) l.free (subst (AllByRecursion (λ page. page < pages)) (sym e) (all-map (head ∷ rest) (λ page here. here.0) chain.3))
 
-    -- A page is appended to a chain.
+    -- The pool's invariant holds after a page is appended to a chain.
     pub pool-pushed : (page : ℕ) → page < pages → (head ≡ page → ⊥) → chain_at l.chains page ≡ page ∷ []
         → IsPool pages (headed (headed raw (header_at tail NEXT) page) (header_at head TAIL) page) first (after l (Pushed head page))
     pool-pushed page there ne alone =

@@ -1,4 +1,5 @@
--- A shared reference to the cells exists if there is one to each word. Assumes `Logic`.
+-- A shared reference to the cells exists if there is a shared reference to each word. Assumes
+-- `Logic`.
 use Rattle.std.specs.Prelude.{ℕ, ◌+◌, List, [], ◌∷◌, Option, Some, None}
 use seplogic.Ra.Ura.{Ura}
 use base.Fml.{Lft, ftrue, ffalse}

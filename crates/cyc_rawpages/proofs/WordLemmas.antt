@@ -1,4 +1,4 @@
--- Lists of cells as lists of words.
+-- Lemmas about lists of cells that are read as lists of words.
 use Rattle.std.proofs.Common.{◌≡◌, ℕ, zero, suc, ◌+◌, ◌<◌, ◌≤◌, List, [], ◌∷◌, length, replicate, set, take, drop, get_or, refl, ap, sym, subst, ◌∙◌, arith, inl, inr, get_or-set_same, get_or-set_other}
 use Rattle.std.specs.Prelude.{Option, Some, None, slice_index}
 use Rattle.std.proofs.lemmas.Bool.{cases_eq, cases_lt}
@@ -52,7 +52,8 @@ written-set cs end i w low there is = record {
   blank = λ k past. get_or-set_other cs i k (Some w) None (λ e. omega (arith, e, low, past)) ∙ is.blank k past;
 }
 
--- The written cells among empty ones, after 0 is written to each up to `end`.
+-- If 0 is written to each cell before `end` of an empty list, the cells before `end` contain words
+-- and the others are empty.
 pub written-first : (n end : ℕ) (cs : List (Option ℕ)) → ((i : ℕ) → 0 ≤ i → i < end → get_or cs i None ≡ Some 0) → ((i : ℕ) → end ≤ i → get_or cs i None ≡ get_or (empty n) i None) → AreWritten cs end
 written-first n end cs cleared above = record {
   filled = λ i below. (0, cleared i (omega arith) below);
@@ -72,7 +73,7 @@ module _ (old new : List (Option ℕ)) (from to : ℕ) (is : AreWritten old from
     blank = λ i past. above i past ∙ is.blank i (omega (arith, past, up));
   }
 
-  -- Clearing the words from an index on changes no word that can be read.
+  -- Clearing cells that were not written yet leaves the words that can be read unchanged.
   pub words-cleared : length new ≡ length old → words_of new ≡ words_of old
   words-cleared long = words-same new old long (λ i. elim (cases_lt i from) [
     | inl early ↦ ap value_of (below i early)

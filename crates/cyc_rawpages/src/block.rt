@@ -1,4 +1,4 @@
-//! A block of words, as lists. Raw pointers occur only in the module `cells`.
+//! A block of words, which contracts see as lists. Raw pointers occur only in the module `cells`.
 
 ghost use Rattle.std.specs.Prelude.{◌≡◌, ℕ, ◌+◌, ◌<◌, ◌≤◌, ◌^◌, None, Some, IfOk, get_or, length, replicate, slice_index, slice_set};
 ghost use Rattle.cyc_rawpages.specs.inside.Words.{headed, headed_all};
@@ -7,18 +7,19 @@ use super::cells::{Cells, Lease, Start, acquire, release};
 use std::alloc::{AllocError, Global};
 use std::marker::Model;
 
-/// The least number of words that are cleared at once.
+/// The minimum number of words that are cleared at once.
 const STRETCH: usize = 1024;
 
-/// One block of memory with `heads` heads, followed by `words` words. Dropping the struct frees the block.
+/// One block of memory with `heads` head words, followed by `words` further words. Dropping the struct
+/// frees the block.
 ///
-/// The heads are written when the block is made. The words are written up to the last one that was set, and some words after it. Unwritten
-/// words are read as 0, so that the operating system provides no memory for unused words.
+/// The head words are initialised when the block is allocated. The other words are initialised up to the last word that was set, and some
+/// words after it. Uninitialised words are read as 0, so the operating system provides no memory for unused words.
 pub struct Block {
     start: Start,
     count: usize,
     heads: usize,
-    /// The number of words that are already written.
+    /// The number of words that are already initialised.
     made: usize,
     cells: Cells,
     lease: Lease<Global>,
@@ -35,7 +36,7 @@ impl Model for Block {
     ghost invariant = { λ b. IsBlock b.start b.count b.heads b.made b.cells b.lease b.alloc };
 }
 
-/// Writes 0 to each cell from `from` up to `to`.
+/// Writes 0 to each cell from index `from` up to index `to`, exclusive.
 #[inline(never)]
 fn clear(cells: &mut Cells, start: Start, from: usize, to: usize)
     requires at { start.at ≡ cells.old.at }
@@ -52,7 +53,7 @@ fn clear(cells: &mut Cells, start: Start, from: usize, to: usize)
 }
 
 impl Block {
-    /// Allocates a block of heads and words, each 0.
+    /// Allocates a block of head words and further words, all of which read as 0.
     pub fn new(alloc: Global, heads: usize, words: usize) -> Result<Block, AllocError>
         requires { heads + words < 2 ^ 32 }
         ensures { IfOk result (λ b. b ≡ record { heads = replicate heads 0; words = replicate words 0; made = 0 }) }
@@ -73,7 +74,7 @@ impl Block {
         })
     }
 
-    /// Returns the head at an index.
+    /// Returns the head word at an index.
     #[inline]
     pub fn head(&self, index: usize) -> u32
         requires { index < length self.now.heads }
@@ -82,7 +83,7 @@ impl Block {
         self.cells.read(self.start, index)
     }
 
-    /// Writes the head at an index.
+    /// Writes the head word at an index.
     #[inline]
     pub fn set_head(&mut self, index: usize, word: u32)
         requires { index < length self.old.heads }
@@ -91,20 +92,20 @@ impl Block {
         self.cells.write(self.start, index, word)
     }
 
-    /// Writes one word to each of `count` heads from `first` on.
+    /// Writes the same word to each of `count` head words from `first` on.
     pub fn set_heads(&mut self, first: usize, count: usize, word: u32)
         requires inside { first + count ≤ length self.old.heads }
         requires few { first + count < 2 ^ 32 }
         ensures { self.new ≡ headed_all self.old first count word }
     {
-        // Loaded once, so that it is not reloaded after each write.
+        // The field `start` is loaded once, so that it is not reloaded after each write.
         let start = self.start;
         for number in 0..count {
             self.cells.write(start, first + number, word);
         }
     }
 
-    /// Returns the number of words, from the first on, that are written.
+    /// Returns the number of words, counted from the first, that are initialised.
     #[inline]
     pub fn made(&self) -> usize
         ensures is { result ≡ self.now.made }
@@ -113,7 +114,7 @@ impl Block {
         self.made
     }
 
-    /// Writes 0 to each of the first `count` words that was not written.
+    /// Writes 0 to each of the first `count` words that is not initialised yet.
     #[inline]
     pub fn make(&mut self, count: usize)
         requires { count ≤ length self.old.words }
@@ -125,7 +126,8 @@ impl Block {
         }
     }
 
-    /// Writes 0 to each of the first `count` words that was not written. The last of the first `count` words was not written before.
+    /// Writes 0 to each of the first `count` words that is not initialised yet. At least the last of these words must not be
+    /// initialised yet.
     #[cold]
     #[inline(never)]
     fn make_far(&mut self, count: usize)
@@ -169,7 +171,8 @@ impl Block {
         }
     }
 
-    /// Writes the word at an index, and 0 to each earlier cell and to a stretch after it that was not written.
+    /// Writes the word at an index. Also writes 0 to each uninitialised word before it and to a stretch of
+    /// words after it.
     #[cold]
     #[inline(never)]
     fn set_far_word(&mut self, index: usize, word: u32)

@@ -1,4 +1,4 @@
-//! One block of memory as a sequence of cells for words. The only code of the crate with raw pointers is in this file.
+//! One block of memory as a sequence of cells for words. All code of the crate with raw pointers is in this file.
 
 ghost use Rattle.std.specs.Prelude.{◌≡◌, ℕ, ◌<◌, ◌≤◌, ◌^◌, List, Option, None, Some, IfSome, length, replicate, get_or, slice_set};
 ghost use denote.RawPtr.{Ptr};
@@ -7,13 +7,13 @@ ghost use Rattle.cyc_rawpages.specs.inside.Ownership.{places_at, lent_at, words_
 use std::alloc::Allocator;
 use std::marker::{Model, PhantomData};
 
-/// The address of a block, without ownership of its memory.
+/// The start address of a block, without ownership of the block's memory.
 #[derive(Clone, Copy)]
 pub(crate) struct Start {
     at: *mut u32,
 }
 
-/// The ownership of a block's cells, a value of size 0.
+/// The ownership of a block's cells, as a value of size 0.
 pub(crate) struct Cells {
     ghost at: { Ptr },
     ghost slots: { List (Option ℕ) },
@@ -26,7 +26,7 @@ impl Model for Cells {
     ghost also_shares = { λ c _ κ. lent_at c.at c.slots κ };
 }
 
-/// The right to free a block of this many words, a value of size 0.
+/// The right to free a block with the given number of words, as a value of size 0.
 pub(crate) struct Lease<A: Allocator> {
     by: PhantomData<A>,
     ghost alloc: { A },
@@ -38,7 +38,7 @@ impl<A: Allocator> Model for Lease<A> {
     ghost also_owns = { λ l. A.dealloc_token l.alloc (words_type l.count) l.at };
 }
 
-/// Allocates a block of `count` words, each not yet written.
+/// Allocates a block of `count` words, none of which is initialised.
 pub(crate) fn acquire<A: Allocator>(alloc: &A, count: usize) -> Option<(Start, Cells, Lease<A>)>
     requires { count < 2 ^ 32 }
     ensures { IfSome result (λ t. (t.1.at ≡ t.0.at) × (t.1.slots ≡ replicate count None) × (t.2.at ≡ t.0.at) × (t.2.count ≡ count) × (t.2.alloc ≡ alloc.now)) }
@@ -53,7 +53,7 @@ pub(crate) fn acquire<A: Allocator>(alloc: &A, count: usize) -> Option<(Start, C
     }
 }
 
-/// Frees a block of `count` words.
+/// Frees a block of `count` words, whose ownership the caller gives up.
 pub(crate) fn release<A: Allocator>(
     alloc: &A,
     start: Start,
@@ -69,7 +69,7 @@ pub(crate) fn release<A: Allocator>(
 }
 
 impl Cells {
-    /// Returns the word in a cell that contains one.
+    /// Returns the word in a cell; the cell must contain a word.
     pub(crate) fn read(&self, start: Start, index: usize) -> u32
         requires { (start.at ≡ self.now.at) × IsFilled self.now.slots index }
         ensures { get_or self.now.slots index None ≡ Some result }

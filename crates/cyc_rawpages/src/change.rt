@@ -1,14 +1,14 @@
 //! The effect of a call on the free pages and the chains of a pool.
 
-/// A change of the free pages and the chains of a pool.
+/// A change of the free pages and the chains of a pool, made by one call.
 #[derive(Clone, Copy)]
 pub enum Change {
-    /// All pages were created, each as a free page.
+    /// All pages were created; each page is free.
     Made(u32),
-    /// The first free page was taken.
+    /// The first free page was taken from the list of free pages.
     Taken(u32),
-    /// A page was appended to the chain with this head.
+    /// A page was appended to the chain with the given head.
     Pushed(u32, u32),
-    /// The chain with this head was freed.
+    /// The chain with the given head was freed.
     Given(u32),
 }

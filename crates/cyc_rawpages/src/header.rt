@@ -1,43 +1,43 @@
-//! The heads of a pool: for each page a header, followed by its bits.
+//! The head words of a pool: for each page, a header followed by the page's bits.
 
 ghost use Rattle.std.specs.Int.{bit_at};
 ghost use Rattle.std.specs.Prelude.{◌==◌, if◌then◌else◌, ◌≡◌, ◌≢◌, ℕ, ◌+◌, ◌*◌, ◌<◌, ◌≤◌, ◌⊎◌};
 ghost use Rattle.cyc_rawpages.specs.inside.Pool.{header_at, bits_at};
 
-/// The number of words of a page, and of its bits.
+/// The number of words of a page, which is also the number of the page's bits.
 pub const PAGE_WORDS: u32 = 1024;
 
-/// The number of words of a page's header.
+/// The number of words in the header of a page.
 pub const HEADER_WORDS: u32 = 8;
 
-/// The number of words of a page's header and its bits.
+/// The total number of words of a page's header and of its bits.
 pub const HEAD_WORDS: u32 = 40;
 
-/// The most pages of a pool.
+/// The maximum number of pages of a pool.
 pub const MOST_PAGES: u32 = 65536;
 
-/// The index in a header of the fill mark: the number of the page's words that are filled.
+/// The index, in a page's header, of the fill mark: the number of the page's words that are filled.
 pub const FILL: u32 = 0;
 
-/// The index in a header of the owner.
+/// The index, in a page's header, of the page's owner.
 pub const OWNER: u32 = 1;
 
-/// The index in a header of the low half of the serial.
+/// The index, in a page's header, of the low half of the page's serial.
 pub const LOW: u32 = 2;
 
-/// The index in a header of the high half of the serial.
+/// The index, in a page's header, of the high half of the page's serial.
 pub const HIGH: u32 = 3;
 
-/// The index in a header of the link to the next page, in its chain or among the free ones.
+/// The index, in a page's header, of the link to the next page of its chain or of the free list.
 pub const NEXT: u32 = 4;
 
-/// The index, in the header of a chain's head, of the last page of the chain.
+/// The index, in the header of a chain's head page, of the chain's last page.
 pub const TAIL: u32 = 5;
 
-/// Stands for the absence of a page.
+/// The page number that represents the absence of a page.
 pub const NONE: u32 = 0xffff_ffff;
 
-/// Returns the index of a field of a page's header among all heads of the pool.
+/// Returns the index, among all head words of the pool, of a field of a page's header.
 #[inline]
 pub(crate) fn header_at(page: u32, field: u32) -> usize
     ensures { result ≡ header_at page field }
@@ -45,7 +45,7 @@ pub(crate) fn header_at(page: u32, field: u32) -> usize
     HEAD_WORDS as usize * page as usize + field as usize
 }
 
-/// Returns the index of the word that contains a bit of a page, among all heads of the pool.
+/// Returns the index, among all head words of the pool, of the word that contains a bit of a page.
 #[inline]
 pub(crate) fn bits_at(page: u32, bit: u32) -> usize
     requires { bit < PAGE_WORDS }
@@ -68,7 +68,7 @@ pub(crate) fn marked(word: u32, bit: u32, value: bool) -> u32
     }
 }
 
-/// Returns a word with `count` of its bits from `first` on set or cleared.
+/// Returns a word in which `count` bits from bit `first` on are set or cleared.
 #[inline]
 pub(crate) fn marked_from(word: u32, first: u32, count: u32, value: bool) -> u32
     requires { first + count ≤ 32 }

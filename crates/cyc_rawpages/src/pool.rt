@@ -1,4 +1,4 @@
-//! A pool of pages over one block of memory.
+//! A pool of pages in one block of memory.
 
 ghost use Rattle.std.specs.Prelude.{◌==◌, ◌≡◌, ◌≢◌, ℕ, [], ◌∷◌, ◌++◌, ◌+◌, ◌*◌, ◌%◌, ◌^◌, ◌<◌, ◌≤◌, ◌⊎◌, IfOk, MatchOption, false, length, replicate};
 ghost use Rattle.std.specs.Prelude.{set, slice_index, slice_index_or};
@@ -18,11 +18,11 @@ use std::marker::Model;
 /// A page of a pool, by its number.
 #[derive(Clone, Copy, Debug, PartialEq, Eq)]
 pub struct PageNo {
-    /// A number from 0 up to the number of pages of the pool.
+    /// The page number, from 0 up to the pool's number of pages, exclusive.
     pub number: u32,
 }
 
-/// A chain of pages, by its head.
+/// A chain of pages, identified by its head page.
 #[derive(Clone, Copy, Debug, PartialEq, Eq)]
 pub struct Chain {
     /// The first page of the chain.
@@ -30,14 +30,15 @@ pub struct Chain {
 }
 
 /// A pool of pages. A page is free or in a chain, which is identified by its first page, the head. Each page has 1,024 words, 1,024 bits, a
-/// fill mark, an owner and a serial. The meaning of a page's words, bits, marks and numbers is up to the caller.
+/// fill mark, an owner and a serial. The meaning of a page's words, bits, mark, owner and serial is up to the caller.
 ///
-/// After [`Pool::new`] no call allocates. The pool's memory is freed when the pool is dropped.
+/// After [`Pool::new`], no function of the pool allocates. The pool's memory is freed when the pool
+/// is dropped.
 #[derive(Drop)]
 pub struct Pool {
     block: Block,
     pages: u32,
-    /// The first page in the list of free pages.
+    /// The first page in the pool's list of free pages.
     first: u32,
     roll: Roll,
 }
@@ -52,7 +53,7 @@ impl Model for Pool {
     ghost invariant = { λ p. IsPool p.pages p.block p.first p.roll.lists };
 }
 
-/// Links each page to the next one, and returns the first.
+/// Links each page of a pool to the next page, and returns the first page.
 fn link_all(block: &mut Block, pages: u32) -> u32
     requires few { pages ≤ MOST_PAGES }
     requires whole { length block.old.heads ≡ HEAD_WORDS * pages }
@@ -69,7 +70,7 @@ fn link_all(block: &mut Block, pages: u32) -> u32
 }
 
 impl Pool {
-    /// Allocates a pool of pages, each of which is free. Every word and field is 0, and no bit is set.
+    /// Allocates a pool of free pages. In a new pool every word and field is 0, and no bit is set.
     pub fn new(alloc: Global, pages: u32) -> Result<Pool, AllocError>
         requires { pages ≤ MOST_PAGES }
         ensures { IfOk result (λ p. p ≡ new_pool pages) }
@@ -88,7 +89,8 @@ impl Pool {
         })
     }
 
-    /// Takes a free page, which becomes a chain of its own. Returns `None` if no page is free.
+    /// Takes a free page, which becomes a chain that consists of this page. Returns `None` if no
+    /// page is free.
     pub fn take(&mut self) -> Option<PageNo>
         ensures { MatchOption result ((self.old.free ≡ replicate self.old.pages false) × (self.new ≡ self.old))
             (λ page. (page.number < self.old.pages) × IsFree self.old.free page.number
@@ -105,7 +107,7 @@ impl Pool {
         Some(PageNo { number: page })
     }
 
-    /// Appends a page that is a chain of its own to another chain.
+    /// Appends a page, which must be a chain of one page, to another chain.
     pub fn chain_push(&mut self, head: PageNo, page: PageNo)
         requires head { (head.number < self.old.pages) × IsHead self.old.chains head.number }
         requires page { (page.number < self.old.pages) × (chain_at self.old.chains page.number ≡ page.number ∷ []) }
@@ -120,7 +122,7 @@ impl Pool {
         self.roll = Roll::with(&self.roll, &Change::Pushed(head.number, page.number));
     }
 
-    /// Frees all pages of a chain by one splice, in constant time.
+    /// Frees all pages of a chain in constant time, by linking the chain to the free list.
     pub fn give_chain(&mut self, chain: Chain)
         requires there { chain.head.number < self.old.pages }
         requires head { IsHead self.old.chains chain.head.number }
@@ -133,8 +135,8 @@ impl Pool {
         self.roll = Roll::with(&self.roll, &Change::Given(head));
     }
 
-    /// Returns the number of words, from those of the first page on, that are written. The words of each page that is not free are among
-    /// them. The words of free pages are 0.
+    /// Returns the number of initialised words, counted from the first word of the first page. The words of each page that is not free
+    /// are initialised. The uninitialised words of free pages read as 0.
     #[inline]
     pub fn made(&self) -> usize
         ensures within { result ≤ PAGE_WORDS * self.now.pages }
@@ -244,7 +246,8 @@ impl Pool {
         self.block.set_head(at, marks);
     }
 
-    /// Sets or clears at once `count` bits of a page from `bit` on. The `count` bits are all in one word.
+    /// Sets or clears `count` bits of a page from `bit` on in one operation. All `count` bits must lie in
+    /// one word.
     pub fn set_bits(&mut self, page: PageNo, bit: u32, count: u32, value: bool)
         requires there { (page.number < self.old.pages) × (bit < PAGE_WORDS) }
         requires few { bit % 32 + count ≤ 32 }

@@ -1,4 +1,5 @@
-//! The free pages and the chains of a pool, as contracts and proofs see them.
+//! The free pages and the chains of a pool, as contracts and proofs see them, without a
+//! representation at run time.
 
 ghost use Rattle.std.specs.Prelude.{◌≡◌};
 ghost use Rattle.std.specs.Borrow.{ftrue};
@@ -7,8 +8,8 @@ ghost use Rattle.cyc_rawpages.specs.inside.Lists.{Lists, no_pages, after};
 use super::change::Change;
 use std::marker::Model;
 
-/// The free pages and the chains of a pool, for contracts only. The record's size is 0, and its functions do nothing at run time: the pool
-/// finds the free pages and the chains by the links in its headers.
+/// The free pages and the chains of a pool, for contracts only. The struct `Roll` has size 0, and its functions do nothing at run time. At
+/// run time the pool finds the free pages and the chains by the links in its headers.
 #[derive(Drop)]
 pub struct Roll {
     pub ghost lists: { Lists },
@@ -19,14 +20,14 @@ impl Model for Roll {
 }
 
 impl Roll {
-    /// Returns the lists without pages.
+    /// Returns the record of a pool without pages.
     pub(crate) fn new() -> Roll
         ensures { result.lists ≡ no_pages }
     {
         Roll {}
     }
 
-    /// Returns the lists after a change.
+    /// Returns the record of the lists after a change.
     pub(crate) fn with(_before: &Roll, _change: &Change) -> Roll
         ensures { result.lists ≡ after _before.now.lists _change.now }
     {

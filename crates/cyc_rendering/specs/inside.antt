@@ -1,2 +1,2 @@
--- the tree of a text
+-- the syntax tree of a text
 pub mod Reading

@@ -1,18 +1,19 @@
-//! Finds the beginnings of declarations in a text, as far as its bytes show them, even if the text has no tokens or no tree.
+//! Finds the beginnings of declarations in a text from its bytes, even if the text has no tokens or no syntax tree.
 //!
-//! A declaration begins with one of the keywords that can begin it, outside of all brackets and after a semicolon or a brace. A line that
-//! looks like the signature of a struct or a function also begins one, so an unclosed bracket ends with its declaration.
+//! A declaration begins with one of certain keywords, outside of all brackets and after a semicolon or a brace. A line that looks like
+//! the signature of a struct or a function also begins a declaration, so that an unclosed bracket does not extend past its declaration.
 use cyc_cli::is_in_name;
 use std::alloc::{AllocError, Global};
 
-/// The extent of a declaration, in bytes.
+/// The first and last byte offsets of a declaration in its text.
 #[derive(Clone, Copy)]
 pub struct Extent {
     pub start: usize,
     pub end: usize,
 }
 
-/// Returns the length of the text up to the first occurrence of two bytes in sequence, including them, or of the whole text.
+/// Returns the length of the text up to and including the first occurrence of two bytes in sequence, or the length of the
+/// whole text.
 fn after_pair(text: &[u8], first: u8, second: u8) -> usize {
     let mut last = 0u8;
     for (n, byte) in text.iter().enumerate() {
@@ -24,7 +25,7 @@ fn after_pair(text: &[u8], first: u8, second: u8) -> usize {
     text.len()
 }
 
-/// Returns the text up to the end of its line.
+/// Returns the beginning of the text up to its first line feed.
 fn rest_of_line(text: &[u8]) -> &[u8] {
     match text.iter().position(|byte| *byte == b'\n') {
         Some(end) => &text[..end],
@@ -32,7 +33,8 @@ fn rest_of_line(text: &[u8]) -> &[u8] {
     }
 }
 
-/// Returns the length of a comment, a character or a string that begins a text, or 0. A string must end on its line.
+/// Returns the length of a comment, a character constant or a string that begins a text, or 0. A string must end on
+/// its line.
 pub fn quoted_length(text: &[u8]) -> usize {
     match text {
         [b'/', b'*', rest @ ..] => after_pair(rest, b'*', b'/').saturating_add(2),
@@ -47,10 +49,10 @@ pub fn quoted_length(text: &[u8]) -> usize {
     }
 }
 
-/// The words that begin a declaration.
+/// The keywords with which a declaration can begin.
 const FIRST_WORDS: &str = "int~char~void~struct~datatype~region_t~uregion_key_t";
 
-/// Returns true if a text begins with one of the words that begin a declaration.
+/// Returns true if a text begins with a keyword that can begin a declaration.
 fn begins_declaration(text: &[u8]) -> bool {
     let word = match text.iter().position(|byte| !is_in_name(*byte)) {
         Some(end) => &text[..end],
@@ -64,7 +66,8 @@ fn begins_declaration(text: &[u8]) -> bool {
     false
 }
 
-/// Returns true if a line begins like a struct, a list of exceptions or a function.
+/// Returns true if a line looks like the first line of a struct, a list of exceptions or a
+/// function.
 fn is_head(line: &[u8]) -> bool {
     let Some(end) = line.iter().position(|byte| !is_in_name(*byte)) else {
         return line == b"datatype".as_slice();
@@ -89,7 +92,7 @@ fn is_head(line: &[u8]) -> bool {
     }
 }
 
-/// The nesting depth of brackets, and whether the last token ends a declaration.
+/// The nesting depth of brackets, and a flag that is true if the last token ends a declaration.
 #[derive(Clone, Copy)]
 struct Depth {
     braces: usize,
@@ -97,7 +100,7 @@ struct Depth {
     is_ended: bool,
 }
 
-/// Returns the depth after a byte other than a blank.
+/// Returns the nesting depth after one more byte, which is not a blank.
 fn following_byte(depth: Depth, byte: u8) -> Depth {
     let Depth { braces, others, .. } = depth;
     let (braces, others) = match byte {
@@ -114,7 +117,8 @@ fn following_byte(depth: Depth, byte: u8) -> Depth {
     }
 }
 
-/// Returns the number of starts up to a signature whose brackets are closed and whose body has not begun, after one more byte.
+/// Returns the number of declarations that begin before a signature whose brackets are closed and whose body has not begun,
+/// after one more byte.
 fn heads_after(heads: usize, starts: usize, depth: Depth, byte: u8) -> usize {
     match byte {
         b'(' if depth.braces == 0 => starts,
@@ -123,7 +127,7 @@ fn heads_after(heads: usize, starts: usize, depth: Depth, byte: u8) -> usize {
     }
 }
 
-/// Returns the beginnings of the declarations of a text, in order.
+/// Returns the byte offsets at which the declarations of a text begin, in order.
 pub fn starts_of(alloc: Global, text: &[u8]) -> Result<Vec<usize>, AllocError> {
     let mut starts = Vec::new(alloc);
     let mut depth = Depth {
@@ -149,7 +153,8 @@ pub fn starts_of(alloc: Global, text: &[u8]) -> Result<Vec<usize>, AllocError> {
             };
         } else if !byte.is_ascii_whitespace() {
             if *byte == b'{' && depth.is_ended {
-                // The text between a signature and its body declares parameters in the old style of C.
+                // Text between a signature and its body declares parameters in the old style of C, so
+                // no declaration begins there.
                 starts.truncate(heads);
             }
             heads = heads_after(heads, starts.len(), depth, *byte);
@@ -160,7 +165,8 @@ pub fn starts_of(alloc: Global, text: &[u8]) -> Result<Vec<usize>, AllocError> {
     Ok(starts)
 }
 
-/// Returns the extent of the declaration at a position of a text of this length with these starts.
+/// Returns the extent of the declaration that contains a byte offset, in a text of this length
+/// whose declarations begin at `starts`.
 pub fn extent_of(starts: &[usize], length: usize, place: usize) -> Extent {
     let mut extent = Extent {
         start: 0,

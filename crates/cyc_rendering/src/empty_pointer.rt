@@ -1,26 +1,26 @@
-//! The advice for a pointer that is declared without a value and used before it receives one.
+//! The advice on a pointer that is declared without a value and used before it receives one.
 use cyc_lex::lex;
 use cyc_syntax::{Keyword, Sign, Token, TokenKind};
 use cyc_words::Fault;
 use std::alloc::{AllocError, Global};
 use std::mem::ManuallyDrop;
 
-/// The type that a pointer refers to.
+/// The type of the object to which a pointer refers.
 #[derive(Clone, Copy)]
 enum Target<'t> {
     Int,
     Char,
-    /// A struct of this name.
+    /// A struct type with this name.
     Struct(&'t Token),
 }
 
-/// The object that a pointer should refer to.
+/// The object to which a pointer should refer.
 #[derive(Clone, Copy)]
 struct Object<'t> {
     target: Target<'t>,
     is_array: bool,
     is_unique: bool,
-    /// True if the pointer may be NULL.
+    /// True if the type of the pointer allows NULL.
     may_lack: bool,
 }
 
@@ -36,12 +36,12 @@ fn ends_statement(token: &Token) -> bool {
     )
 }
 
-/// Returns true if a declaration may begin after a token.
+/// Returns true if a declaration may begin directly after a token.
 fn ends_item(token: &Token) -> bool {
     ends_statement(token) || matches!(token.kind, TokenKind::Sign(Sign::LeftBrace | Sign::Colon))
 }
 
-/// Returns the tokens of a statement or a declaration up to the one of this number.
+/// Returns the tokens of a statement or a declaration up to the token with the index `last`.
 fn item_up_to(tokens: &[Token], last: usize) -> &[Token] {
     let mut start = last;
     for _ in 0..last {
@@ -54,7 +54,8 @@ fn item_up_to(tokens: &[Token], last: usize) -> &[Token] {
     tokens.get(start..=last).unwrap_or(&[])
 }
 
-/// Returns the target of the type at the beginning of some tokens, and the tokens after the type.
+/// Returns the type at the beginning of some tokens, as the type of a pointer's object, and the
+/// tokens after it.
 fn target_of<'t>(tokens: &'t [Token]) -> Option<(Target<'t>, &'t [Token])> {
     match tokens {
         [first, rest @ ..] if first.kind == TokenKind::Keyword(Keyword::Int) => {
@@ -70,7 +71,8 @@ fn target_of<'t>(tokens: &'t [Token]) -> Option<(Target<'t>, &'t [Token])> {
     }
 }
 
-/// Returns true if a mark with this region, or without one, is that of unique pointers; `None` if the region is another one than the heap.
+/// Returns true if a pointer sign with this region name belongs to unique pointers. Returns `None` if the region is not the heap or the
+/// unique region.
 fn is_unique(text: &[u8], region: Option<&Token>) -> Option<bool> {
     match region {
         None => Some(false),
@@ -82,7 +84,8 @@ fn is_unique(text: &[u8], region: Option<&Token>) -> Option<bool> {
     }
 }
 
-/// Returns the object for a local that these tokens declare as a pointer with one mark.
+/// Returns the object to which a local should refer that these tokens declare as a pointer with one
+/// pointer sign.
 fn object_of<'t>(text: &[u8], tokens: &'t [Token]) -> Option<Object<'t>> {
     let (target, rest) = target_of(tokens)?;
     let (mark, region) = match rest {
@@ -108,15 +111,16 @@ fn object_of<'t>(text: &[u8], tokens: &'t [Token]) -> Option<Object<'t>> {
     })
 }
 
-/// A declaration without a value. The flag tells whether the variable is used to compute its own first value.
+/// A declaration without a value, with a flag that is true if the variable is used to compute its own first
+/// value.
 #[derive(Clone, Copy)]
 struct Declared<'t> {
     tokens: &'t [Token],
     is_built: bool,
 }
 
-/// Returns the last declaration without a value, before the token of this number, of the variable used there. `None` if the statement
-/// before assigns the variable.
+/// Returns the last declaration without a value, before the token at the index `place`, of the variable used there. Returns `None` if
+/// a statement in between assigns the variable.
 fn declaration_before<'t>(text: &[u8], tokens: &'t [Token], place: usize) -> Option<Declared<'t>> {
     let name = match tokens.get(place) {
         Some(token) => spelled(text, token),
@@ -146,7 +150,7 @@ fn declaration_before<'t>(text: &[u8], tokens: &'t [Token], place: usize) -> Opt
     None
 }
 
-/// Returns the bytes from the first token to the last one, if they are on one line.
+/// Returns the source bytes from the first token to the last one, if they are on one line.
 fn line_of<'a>(text: &'a [u8], tokens: &[Token]) -> Option<&'a [u8]> {
     match (tokens.first(), tokens.last()) {
         (Some(first), Some(last)) if first.span.line == last.span.line => {
@@ -156,7 +160,7 @@ fn line_of<'a>(text: &'a [u8], tokens: &[Token]) -> Option<&'a [u8]> {
     }
 }
 
-/// Returns the advice on a pointer that is declared without a value and used to build its own value, such as a list from a longer one.
+/// Returns the advice on a pointer that is declared without a value and used to build its own value, for example to extend a list.
 fn words_on_built(alloc: Global, declared: &[u8]) -> Result<Vec<u8>, AllocError> {
     let mut words = Vec::new(alloc);
     words.extend_from_slice(b"hint: give it a value where it is declared: ")?;
@@ -193,7 +197,7 @@ fn words_on_object(
     Ok(words)
 }
 
-/// Returns the advice, as a hint line, for the pointer used at a fault, if it is declared without a value and never assigned before.
+/// Returns the advice, as a hint line, on the pointer used at a fault, if it is declared without a value and never assigned before.
 /// Returns `None` if memory runs out.
 pub fn words_on_empty(alloc: Global, text: &[u8], fault: Fault) -> Option<Vec<u8>> {
     let tokens = ManuallyDrop::new(lex(alloc, text).ok()?);

@@ -1,8 +1,8 @@
-//! Finds the tokens that could stand in place of an unexpected token, or at the premature end of a text.
+//! Finds the tokens that could replace an unexpected token, or follow at the premature end of a text.
 //!
-//! The expected tokens are found by trial: the text up to the fault's place is parsed again with each candidate on a line after it. A
-//! candidate fits if the text is not rejected at the candidate. If the text before the declaration is a complete program, only the
-//! declaration is parsed.
+//! The expected tokens are found by trial: the text up to the fault is parsed again with each candidate on a line after it. A
+//! candidate fits if the parser does not reject the text at the candidate. If the text before the declaration is a complete program,
+//! only the declaration is parsed.
 use crate::declarations::{extent_of, starts_of};
 use crate::reading::tree_of;
 use cyc_words::{Code, Fault};
@@ -12,19 +12,21 @@ use std::mem::ManuallyDrop;
 /// The greatest number of expected tokens listed in a message.
 const MOST: usize = 3;
 
-/// A token, and the name of the construct that it begins.
+/// The first token of a construct, and the name of the construct in messages.
 type Candidate = (&'static str, &'static str);
 
-/// The candidates that can stand at the given places, in the order in which they are listed.
+/// A group of constructs that can begin at the same points of a text, in the order in which
+/// messages list them.
 #[derive(Clone, Copy)]
 struct Group {
-    /// A token that fits at each place of this group and at none of another group; empty if there is none.
+    /// A token that fits wherever a construct of this group can begin, and where no construct of another
+    /// group can; empty if no token does.
     token: &'static str,
     candidates: &'static [Candidate],
 }
 
-/// The groups of constructs, in the order in which they are tried. A part of a listed construct is not listed separately, such as a name if
-/// an expression fits.
+/// The groups of constructs, in the order in which they are tried. A construct that is part of a listed one is not listed separately; for
+/// example, a name is not listed if an expression fits.
 const GROUPS: &[Group] = &[
     Group {
         token: "/",
@@ -127,7 +129,7 @@ pub fn text_before(text: &[u8], line: u32, column: u32) -> &[u8] {
     text
 }
 
-/// Returns the part of the text before a fault that each trial parses: the part before it is a complete program, or empty.
+/// Returns the part of the text that each trial parses. The text before this part is a complete program, or empty.
 fn part_before<'a>(alloc: Global, before: &'a [u8]) -> Result<&'a [u8], AllocError> {
     let starts = starts_of(alloc, before)?;
     let start = extent_of(&starts, before.len(), before.len()).start;
@@ -144,21 +146,21 @@ fn part_before<'a>(alloc: Global, before: &'a [u8]) -> Result<&'a [u8], AllocErr
     }
 }
 
-/// A text that is parsed repeatedly, each time with another token on a line after it.
+/// A text that is parsed repeatedly, each time with a different token on a line after it.
 #[derive(Drop)]
 struct Trial {
     alloc: Global,
     text: Vec<u8>,
-    /// The length of the text with the token removed.
+    /// The length of the text without the token that is tried.
     length: usize,
-    /// The line of the token.
+    /// The line of the token that is tried.
     line: u32,
 }
 
 impl Trial {
     fn new(alloc: Global, before: &[u8]) -> Result<Trial, AllocError> {
         let mut text = Vec::from_slice(alloc, part_before(alloc, before)?)?;
-        // The text before the position may end in a comment up to the end of its line.
+        // The line feed ends a comment with which the text before the position may end.
         text.push(b'\n')?;
         let mut line = 1_u32;
         for byte in &text {
@@ -175,7 +177,8 @@ impl Trial {
         })
     }
 
-    /// Returns true if the text is not rejected at this token after it.
+    /// Returns true if the parser does not reject the text at this token when the token follows the
+    /// text.
     fn goes_on(&mut self, token: &str) -> Result<bool, AllocError> {
         self.text.truncate(self.length);
         self.text.extend_from_slice(token.as_bytes())?;
@@ -191,7 +194,7 @@ impl Trial {
         }
     }
 
-    /// Returns the candidates of a group that can stand after the text.
+    /// Returns the names of the constructs of a group that can begin after the text.
     fn names_of(&mut self, group: &Group) -> Result<Vec<&'static str>, AllocError> {
         let mut names = Vec::new(self.alloc);
         if !group.token.is_empty() && !self.goes_on(group.token)? {
@@ -206,7 +209,7 @@ impl Trial {
     }
 }
 
-/// Returns the candidates that fit at the place of a text's fault.
+/// Returns the names of the constructs that can begin at the fault of a text.
 fn names_at(alloc: Global, text: &[u8], fault: Fault) -> Result<Vec<&'static str>, AllocError> {
     let mut trial = Trial::new(alloc, text_before(text, fault.line, fault.column))?;
     for group in GROUPS {
@@ -218,7 +221,7 @@ fn names_at(alloc: Global, text: &[u8], fault: Fault) -> Result<Vec<&'static str
     Ok(Vec::new(alloc))
 }
 
-/// Returns the names as a line.
+/// Returns the names of the expected constructs as one line.
 fn line_of(alloc: Global, names: &[&'static str]) -> Result<Vec<u8>, AllocError> {
     let mut line = Vec::new(alloc);
     let mut left = names.len();
@@ -239,7 +242,7 @@ fn line_of(alloc: Global, names: &[&'static str]) -> Result<Vec<u8>, AllocError>
     Ok(line)
 }
 
-/// Returns the candidates that fit at the place of a text's fault, as a line, if the fault is an unexpected token or end. Returns `None` if
+/// Returns the constructs that can begin at the fault of a text, as a line, if the fault is an unexpected token or end. Returns `None` if
 /// memory runs out.
 pub fn expected_at(alloc: Global, text: &[u8], fault: Fault) -> Option<Vec<u8>> {
     if !matches!(fault.code, Code::UnexpectedToken | Code::UnexpectedEnd) {

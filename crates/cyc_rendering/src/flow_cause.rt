@@ -1,4 +1,5 @@
-//! Explains why a variable is empty or locked where it is used: the place where it became so.
+//! Explains why a variable is empty or locked where it is used, by the source position where it
+//! became empty or locked.
 use crate::declarations::quoted_length;
 use crate::expected::text_before;
 use crate::reading::tree_of;
@@ -9,8 +10,8 @@ use cyc_words::{Code, Fault, Span};
 use std::alloc::Global;
 use std::fmt;
 
-/// Returns the place where the variable of a text's first fault became empty or locked, if there is one. The fault must be one of flow.
-/// Returns `None` if memory runs out.
+/// Returns the position where the variable of a text's first fault became empty or locked, if there is one. The fault must be a flow
+/// fault. Returns `None` if memory runs out.
 pub fn cause_of(alloc: Global, text: &[u8], fault: Fault) -> Option<Cause> {
     match fault.code {
         Code::EmptyVariable | Code::LockedVariable | Code::LoopEmptiesVariable => {}
@@ -25,7 +26,7 @@ pub fn cause_of(alloc: Global, text: &[u8], fault: Fault) -> Option<Cause> {
     explained.cause
 }
 
-/// Returns true if the name at a position is the argument of a call of this function.
+/// Returns true if the name at a source position is the argument of a call of this function.
 fn is_given_to(function: &[u8], text: &[u8], line: u32, column: u32) -> bool {
     let before = excerpt_at(text, line, column).before;
     match before.strip_suffix(function) {
@@ -37,9 +38,9 @@ fn is_given_to(function: &[u8], text: &[u8], line: u32, column: u32) -> bool {
 /// The purpose for which a variable's value is moved.
 #[derive(Clone, Copy)]
 enum Goal {
-    /// `ufree` frees the variable's object.
+    /// `ufree` receives the variable's value and frees its object.
     Freed,
-    /// `free_ukey` consumes the variable's key.
+    /// `free_ukey` receives the variable's key and consumes it.
     FreedKey,
     /// A function receives the variable's value as an argument.
     Argument,
@@ -47,7 +48,7 @@ enum Goal {
     Other,
 }
 
-/// Returns the destination of the variable at a position.
+/// Returns the purpose for which the variable at a source position is moved.
 fn goal_of(text: &[u8], line: u32, column: u32) -> Goal {
     let before = excerpt_at(text, line, column).before;
     if is_given_to(b"free_ukey(", text, line, column) {
@@ -61,7 +62,7 @@ fn goal_of(text: &[u8], line: u32, column: u32) -> Goal {
     }
 }
 
-/// Returns true if a `catch` stands between a position and that of a fault.
+/// Returns true if a `catch` stands between a source position and that of a fault.
 fn is_after_try(text: &[u8], span: Span, fault: Fault) -> bool {
     let before = text_before(text, fault.line, fault.column);
     match before.strip_prefix(text_before(text, span.line, span.column)) {
@@ -76,12 +77,13 @@ fn is_after_try(text: &[u8], span: Span, fault: Fault) -> bool {
     }
 }
 
-/// Returns true if the variable at a place is a key that an item opens.
+/// Returns true if the variable at a source position is a key that an item opens.
 fn is_opened(text: &[u8], line: u32, column: u32) -> bool {
     is_given_to(b"open(", text, line, column)
 }
 
-/// Returns the words for the fault, by where a variable came to be as it is: its name stands for the `%`, and that place for the `@`.
+/// Returns the words on a fault, which depend on how the variable became empty or locked. In the words, `%` stands for the variable's
+/// name, and `@` for the position where this happened.
 fn title_of(text: &[u8], fault: Fault, cause: Cause) -> &'static str {
     let goal = goal_of(text, cause.span.line, cause.span.column);
     match (cause.change, fault.code, goal) {
@@ -100,8 +102,8 @@ fn title_of(text: &[u8], fault: Fault, cause: Cause) -> &'static str {
     }
 }
 
-/// Returns the words for the change of the variable. A variable that was assigned or locked but counts as empty became so by a `try`, whose
-/// body did that.
+/// Returns the words on a change of the variable. If a variable was assigned or locked but is reported as empty, the body of a `try` may
+/// have emptied it.
 fn words_of(text: &[u8], code: Code, cause: Cause) -> &'static str {
     let span = cause.span;
     match (cause.change, code, goal_of(text, span.line, span.column)) {
@@ -116,7 +118,7 @@ fn words_of(text: &[u8], code: Code, cause: Cause) -> &'static str {
     }
 }
 
-/// Returns the line on which the block ends that a place stands in.
+/// Returns the line on which the block ends that contains a source position.
 fn end_of_block(text: &[u8], span: Span) -> Option<u32> {
     let start = text_before(text, span.line, span.column).len();
     let rest = text.get(start..)?;
@@ -137,7 +139,7 @@ fn end_of_block(text: &[u8], span: Span) -> Option<u32> {
     None
 }
 
-/// Returns the line on which the block ends up to which a variable is locked, if that is below the fault.
+/// Returns the last line of the block that locks a variable, if this line is below the fault.
 pub fn end_of_use(text: &[u8], fault: Fault, cause: Cause) -> Option<u32> {
     if fault.code != Code::LockedVariable {
         return None;
@@ -153,7 +155,7 @@ pub fn end_of_use(text: &[u8], fault: Fault, cause: Cause) -> Option<u32> {
 
 const FREED_KEY: &str = "move free_ukey after the last use of the key";
 
-/// Returns the advice on a variable that was moved at a place.
+/// Returns the advice on a variable that was moved at a source position.
 fn advice_on_move(text: &[u8], fault: Fault, span: Span) -> &'static str {
     let goal = goal_of(text, span.line, span.column);
     match goal {
@@ -173,7 +175,8 @@ fn advice_on_move(text: &[u8], fault: Fault, span: Span) -> &'static str {
     }
 }
 
-/// Returns the advice for a fault with a known cause, if it is more specific than the code's.
+/// Returns the advice on a fault with a known cause, if it is more specific than the advice for the
+/// fault's code.
 pub fn advice_for(text: &[u8], fault: Fault, cause: Cause) -> Option<&'static str> {
     match (cause.change, fault.code) {
         (Change::Moved, Code::EmptyVariable) => Some(advice_on_move(text, fault, cause.span)),
@@ -188,7 +191,7 @@ pub fn advice_for(text: &[u8], fault: Fault, cause: Cause) -> Option<&'static st
     }
 }
 
-/// Returns the name at a position, shortened for display.
+/// Returns the name at a source position, shortened for display.
 pub fn name_at(text: &[u8], line: u32, column: u32) -> &[u8] {
     let after = excerpt_at(text, line, column).after;
     match after.iter().position(|byte| !is_in_name(*byte)) {
@@ -197,7 +200,7 @@ pub fn name_at(text: &[u8], line: u32, column: u32) -> &[u8] {
     }
 }
 
-/// The first line of the explanation of a fault with a known cause.
+/// Writes the first line of the explanation of a fault with a known cause.
 #[derive(Drop)]
 pub struct Headline<'a> {
     pub text: &'a [u8],
@@ -231,7 +234,7 @@ impl fmt::Display for Headline<'_> {
     }
 }
 
-/// The change of the variable, with its name.
+/// The words on the change of a variable that caused a fault, with the variable's name.
 #[derive(Drop)]
 pub struct Deed<'a> {
     pub text: &'a [u8],
@@ -251,10 +254,10 @@ impl fmt::Display for Deed<'_> {
     }
 }
 
-/// A line about the place where the variable became empty or locked.
+/// A line of the message about the position where the variable became empty or locked.
 #[derive(Drop)]
 pub struct Note<'a> {
-    /// The name of the file.
+    /// The name of the source file.
     pub name: &'a str,
     pub text: &'a [u8],
     pub code: Code,

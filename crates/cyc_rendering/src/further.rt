@@ -1,6 +1,7 @@
-//! Finds the faults of a text after its first one, as if that were repaired: in tokens, grammar and flow.
+//! Finds the faults of tokens, grammar and flow that remain in a text once its first fault is repaired.
 //!
-//! If a text has no tokens or no tree, the declarations with such a fault are blanked out, and the remaining text is parsed.
+//! If a text has no tokens or no syntax tree, the declarations with a fault of tokens or grammar are blanked out, and the
+//! remaining text is parsed.
 ghost use Rattle.std.specs.Prelude.{◌≤◌, IfSome, length};
 ghost use Rattle.cyc_front.specs.Front.{IsRefusedText};
 
@@ -16,10 +17,10 @@ use cyc_words::{Code, Fault, Span};
 use std::alloc::{AllocError, Global};
 use std::mem::{ManuallyDrop, replace};
 
-/// The most faults that are reported after the first.
+/// The most faults that are reported after the first one.
 pub const MOST_FURTHER: usize = 20;
 
-/// Returns true if a fault is at or between two places.
+/// Returns true if a fault is at or between two source positions.
 pub fn is_between(first: Span, fault: Fault, last: Span) -> bool {
     let place = (fault.line, fault.column);
     (first.line, first.column) <= place && place <= (last.line, last.column)
@@ -27,7 +28,8 @@ pub fn is_between(first: Span, fault: Fault, last: Span) -> bool {
 
 // ---- flow
 
-/// Returns the number of functions up to and including the one that contains a fault; all if none does.
+/// Returns the number of functions up to and including the one that contains a fault, or the number of
+/// all functions if none contains it.
 fn count_up_to(functions: &[Function], fault: Fault) -> usize
     ensures { result ≤ length functions.now }
 {
@@ -39,7 +41,7 @@ fn count_up_to(functions: &[Function], fault: Fault) -> usize
     functions.len()
 }
 
-/// Reports the flow faults of a typed tree, one function after another, except the first fault.
+/// Reports the flow faults of a typed tree except the first one, one function after another.
 pub fn tell_flow(
     alloc: Global,
     text: &[u8],
@@ -72,7 +74,7 @@ pub fn tell_flow(
 
 // ---- tokens and grammar
 
-/// Returns true if a fault is one of the tokens.
+/// Returns true if a fault's code is one of the lexer's.
 fn is_of_token(code: Code) -> bool {
     matches!(
         code,
@@ -80,7 +82,7 @@ fn is_of_token(code: Code) -> bool {
     )
 }
 
-/// Blanks out a part of a text and keeps its lines.
+/// Replaces a part of a text by blanks and keeps its line feeds.
 fn make_blank(text: &mut [u8], start: usize, end: usize) {
     for byte in text.iter_mut().take(end).skip(start) {
         if *byte != b'\n' {
@@ -89,8 +91,8 @@ fn make_blank(text: &mut [u8], start: usize, end: usize) {
     }
 }
 
-/// Returns the text from this byte on, preceded by as many empty lines and blanks as the omitted part has. Positions in the remaining text
-/// are unchanged, and the omitted part is not parsed again.
+/// Returns the text from the byte offset `end` on, preceded by as many empty lines and blanks as the omitted part has. Positions in the
+/// remaining text are unchanged, and the omitted part is not parsed again.
 fn rest_in_place(alloc: Global, text: &[u8], end: usize) -> Result<Vec<u8>, AllocError> {
     let mut left = Vec::new(alloc);
     let mut column = 0_usize;
@@ -110,7 +112,7 @@ fn rest_in_place(alloc: Global, text: &[u8], end: usize) -> Result<Vec<u8>, Allo
     Ok(left)
 }
 
-/// Returns the fault of a text's tokens or its grammar.
+/// Returns the fault that the lexer or the parser finds in a text.
 fn refused_reading(alloc: Global, text: &[u8]) -> Option<Fault>
     ensures { IfSome result (IsRefusedText text.now) }
 {
@@ -124,8 +126,8 @@ fn refused_reading(alloc: Global, text: &[u8]) -> Option<Fault>
     }
 }
 
-/// Reports faults of tokens or grammar. After a fault of a token it reports the faults of the text without that declaration. After one of
-/// the grammar it reports those of the later declarations.
+/// Reports further faults of tokens or grammar. After a fault of a token, it reports the faults of the text without the declaration that
+/// contains this token. After a fault of grammar, it reports those of the later declarations.
 pub fn tell_readings(
     alloc: Global,
     text: &[u8],
@@ -138,7 +140,8 @@ pub fn tell_readings(
     for _ in 0..MOST_FURTHER {
         let place = text_before(text, fault.line, fault.column).len();
         let Extent { start, end } = extent_of(&starts, text.len(), place);
-        // The remaining text ends at the end of the whole text.
+        // The remaining text is a suffix of the whole text, so byte offsets are counted from their
+        // common end.
         let gone = text.len().saturating_sub(left.len());
         let end = end.saturating_sub(gone);
         if is_of_token(fault.code) {
@@ -149,7 +152,7 @@ pub fn tell_readings(
         let Some(found) = refused_reading(alloc, &left) else {
             return Ok(());
         };
-        // If no text remains, it cannot be cut off in the middle of a declaration.
+        // If no declaration remains, the end of the text cuts off none.
         if found.code == Code::UnexpectedEnd && starts_of(alloc, &left)?.is_empty() {
             return Ok(());
         }

@@ -1,4 +1,4 @@
-//! Faults and warnings as JSON: the members of the objects that `--json` prints.
+//! Faults and warnings as JSON objects, as `--json` prints them.
 use crate::expected::text_before;
 use crate::flow_cause::Deed;
 use crate::message::{Advice, Lines, Message, Summary};
@@ -10,7 +10,7 @@ use std::alloc::{AllocError, Global};
 
 // ---- ranges
 
-/// The operators of more than one byte, longest first, and the beginning of a comment.
+/// The operators of more than one byte, longest first, and the two bytes that begin a comment.
 const SIGNS: &str = ":=:~&&~||~==~!=~<=~>=~<<~>>~->~/*";
 
 /// Returns the length of the name or number at the beginning of a text.
@@ -34,7 +34,8 @@ fn number_length(text: &[u8]) -> usize {
     end.unwrap_or(text.len())
 }
 
-/// Returns the length of the token at the beginning of a text; 1 for a byte that begins no token and for each operator that is not listed.
+/// Returns the length of the token at the beginning of a text. The length is 1 for a byte that begins no token and for each operator that
+/// is not listed.
 fn token_length(text: &[u8]) -> usize {
     match text {
         [] | [b'\n', ..] => return 0,
@@ -53,19 +54,19 @@ fn token_length(text: &[u8]) -> usize {
     name_length(text).max(1)
 }
 
-/// Returns the bytes of a text from a position on.
+/// Returns the bytes of a text from a line and column on.
 fn text_from(text: &[u8], line: u32, column: u32) -> &[u8] {
     let start = text_before(text, line, column).len();
     text.get(start..).unwrap_or(&[])
 }
 
-/// Returns the token at a position.
+/// Returns the token at a line and column of a text.
 fn token_at(text: &[u8], line: u32, column: u32) -> &[u8] {
     let rest = text_from(text, line, column);
     rest.get(..token_length(rest)).unwrap_or(rest)
 }
 
-/// Returns the range of `length` bytes at a position of a line.
+/// Returns the range of `length` bytes from a line and column on.
 fn range_of(line: u32, column: u32, length: usize) -> Range {
     let length = u32::try_from(length).unwrap_or(0);
     Range {
@@ -76,13 +77,14 @@ fn range_of(line: u32, column: u32, length: usize) -> Range {
     }
 }
 
-/// Returns the range of the token at a position.
+/// Returns the range of the token at a source position.
 fn range_at(text: &[u8], span: Span) -> Range {
     let token = token_at(text, span.line, span.column);
     range_of(span.line, span.column, token.len())
 }
 
-/// Returns the range of a fault. A missing `main` has no token.
+/// Returns the source range of a fault. The fault of a missing `main` has no token, so its range is
+/// empty.
 fn range_of_fault(text: &[u8], fault: Fault) -> Range {
     let Fault { code, line, column } = fault;
     if code == Code::BadMain && (line, column) == (1, 1) {
@@ -93,7 +95,7 @@ fn range_of_fault(text: &[u8], fault: Fault) -> Range {
 
 // ---- edits
 
-/// The replacement of the token at a fault, if its hint describes one. An insertion before the token has an empty range there.
+/// The edit that a fault's hint describes: a replacement of the token at the fault, or an insertion before it.
 #[derive(Clone, Copy)]
 struct Change<'a> {
     is_before: bool,
@@ -105,7 +107,7 @@ fn has_byte(text: &str, byte: u8) -> bool {
     text.as_bytes().iter().position(|b| *b == byte).is_some()
 }
 
-/// Returns a replacement of the token at a fault.
+/// Returns the edit that replaces the token at a fault by a text.
 fn in_place(text: &str) -> Option<Change<'_>> {
     Some(Change {
         is_before: false,
@@ -113,7 +115,8 @@ fn in_place(text: &str) -> Option<Change<'_>> {
     })
 }
 
-/// The beginning of a hint about a word, the word, and its replacement.
+/// Hints about misspelled operators: the beginning of the hint, the word in the source, and the
+/// operator that replaces the word.
 const WORDS: [(&str, &str, &str); 9] = [
     ("write && for and", "and", "&&"),
     ("write || for or", "or", "||"),
@@ -126,7 +129,8 @@ const WORDS: [(&str, &str, &str); 9] = [
     ("delete the word: there is no const", "restrict", ""),
 ];
 
-/// Returns the text that a hint suggests in place of a token, or before it.
+/// Returns the edit that a hint suggests: a text to insert before a token or to replace the token
+/// by.
 fn change_by<'a>(hint: &'a str, token: &str) -> Option<Change<'a>> {
     if let Some(rest) = hint.strip_prefix("did you mean `") {
         let name = rest.strip_suffix("`?")?;
@@ -157,7 +161,8 @@ fn change_by<'a>(hint: &'a str, token: &str) -> Option<Change<'a>> {
     None
 }
 
-/// The edit that a hint is, of the token that has this range. A keyword that is spelled otherwise stands before the token.
+/// Returns the edit that a hint describes for the token in this range. A hint about a misspelled keyword yields no edit,
+/// since the keyword stands before the token.
 fn edit_by<'a>(hint: &'a str, code: Code, token: &[u8], range: Range) -> Option<Edit<'a>> {
     if code == Code::UnexpectedToken && hint.starts_with("did you mean") {
         return None;
@@ -176,12 +181,12 @@ fn edit_by<'a>(hint: &'a str, code: Code, token: &[u8], range: Range) -> Option<
 
 // ---- output lines
 
-/// Returns a text, if it is not empty.
+/// Returns the text, or `None` if it is empty.
 fn if_any(text: &str) -> Option<&str> {
     if text.is_empty() { None } else { Some(text) }
 }
 
-/// Returns another place that belongs to a fault, if there is one.
+/// Returns the second source position that belongs to a fault, if there is one.
 fn other_place(message: &Message<'_>) -> Option<Span> {
     match message.refusal.cause {
         Some(cause) => Some(cause.span),
@@ -189,7 +194,7 @@ fn other_place(message: &Message<'_>) -> Option<Span> {
     }
 }
 
-/// Returns the words about a related place.
+/// Returns the words about the second source position of a fault.
 fn words_on_place(alloc: Global, message: &Message<'_>) -> Result<String, AllocError> {
     let Message { text, refusal, .. } = *message;
     match refusal.cause {
@@ -206,7 +211,7 @@ fn words_on_place(alloc: Global, message: &Message<'_>) -> Result<String, AllocE
 }
 
 /// Returns a fault as a JSON object and a line feed. The JSON strings are those for human readers: a byte of the source file that is not
-/// part of UTF-8, or a control character, is written as `\x` and two hexadecimal digits.
+/// valid UTF-8, or a control character, is written as `\x` and two hexadecimal digits.
 pub fn line_of_refusal(
     alloc: Global,
     message: &Message<'_>,
@@ -248,7 +253,7 @@ pub fn line_of_refusal(
     format!(in alloc; "{entry}\n")
 }
 
-/// Returns the name of a warning.
+/// Returns the name of a kind of warning.
 fn name_of(warning: Warning) -> &'static str {
     match warning {
         Warning::DoubleMinus => "DoubleMinus",
@@ -273,7 +278,7 @@ fn name_of(warning: Warning) -> &'static str {
     }
 }
 
-/// Returns the object for a warning in this file, with this message.
+/// Returns the JSON entry for a warning about this file, with this message.
 fn entry_of_warning<'a>(file: &'a str, message: &'a str, text: &[u8], found: &Found) -> Entry<'a> {
     Entry {
         kind: "warning",

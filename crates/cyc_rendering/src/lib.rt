@@ -1,4 +1,5 @@
-//! The texts of faults and warnings for human readers, as far as they need no explanation of the rule: as lines and as JSON objects.
+//! The texts of faults and warnings for human readers, as lines and as JSON objects, without explanations that need an analysis of
+//! the rule.
 #![tactic(auto)]
 
 pub use expected::expected_at;

@@ -1,4 +1,4 @@
-//! The message on a rejected text for human readers.
+//! The message for human readers on a rejected text.
 use crate::flow_cause::{Headline, Note, advice_for, end_of_use, name_at};
 use crate::named::{AtToken, Naming, token_at};
 use crate::reported::Refusal;
@@ -7,9 +7,9 @@ use cyc_flow::Cause;
 use cyc_words::{Code, Fault};
 use std::fmt;
 
-/// The message on a fault in the file `name`. The message states the place and the fault, the first line on the violated rule, and the
-/// source line with a mark. The other lines and the advice follow the source line. For an empty or locked variable the message also names
-/// the place where the variable became so.
+/// The message on a fault in the file `name`. The message states the position and the fault, the first line on the violated rule, and the
+/// source line with a marker. After the source line, the message shows the remaining lines on the rule and the advice. For an empty or
+/// locked variable, the message also names the position where it became empty or locked.
 #[derive(Clone, Copy)]
 pub struct Message<'a> {
     pub name: &'a str,
@@ -17,12 +17,14 @@ pub struct Message<'a> {
     pub refusal: &'a Refusal,
 }
 
-/// Returns true if a fault has a source line to show; a missing `main` has none.
+/// Returns true if the message on a fault shows a source line. The fault of a missing `main` has
+/// none.
 fn has_line(fault: Fault) -> bool {
     fault.code != Code::BadMain || (fault.line, fault.column) != (1, 1)
 }
 
-/// Returns the advice on a fault, by its cause or else by its code and the tokens that fit there.
+/// Returns the advice on a fault, chosen by its cause, or else by its code and the tokens that are
+/// expected.
 fn hint_for(text: &[u8], fault: Fault, cause: Option<Cause>, words: &[u8]) -> &'static str {
     let expected = match words.strip_prefix(b"expected ") {
         Some(expected) => expected,
@@ -34,7 +36,7 @@ fn hint_for(text: &[u8], fault: Fault, cause: Option<Cause>, words: &[u8]) -> &'
     }
 }
 
-/// Returns the value of a digit in this base.
+/// Returns the value of a digit in this number base, if it is one.
 fn digit_of(byte: u8, base: u32) -> Option<u32> {
     let digit = match byte {
         b'0'..=b'9' => byte - b'0',
@@ -46,7 +48,8 @@ fn digit_of(byte: u8, base: u32) -> Option<u32> {
     if digit < base { Some(digit) } else { None }
 }
 
-/// Returns the bits of a number that is too large, if it fits 32 bits and no minus precedes it.
+/// Returns the bits of the number in a fault for too large numbers, if it fits 32 bits and no minus
+/// precedes it.
 fn bits_of(text: &[u8], fault: Fault) -> Option<u32> {
     let Fault { code, line, column } = fault;
     if code != Code::NumberTooLarge {
@@ -71,7 +74,7 @@ fn bits_of(text: &[u8], fault: Fault) -> Option<u32> {
     }
 }
 
-/// The suggestion for a number that is too large: the int with the bits of that number.
+/// The suggestion for a number that is too large: the signed int with the same 32 bits.
 #[derive(Drop)]
 struct Signed {
     bits: u32,
@@ -88,17 +91,17 @@ impl fmt::Display for Signed {
     }
 }
 
-/// The lines on a rule, split into parts.
+/// The lines of an explanation of a violated rule, split into parts.
 #[derive(Clone, Copy)]
 struct Parts<'a> {
     first: &'a [u8],
-    /// The lines after the first; empty if there are none.
+    /// The lines after the first line; empty if the explanation has one line only.
     others: &'a [u8],
-    /// The advice in the last line, if that is a hint.
+    /// The advice in the last line, if the last line is a hint.
     hint: Option<&'a [u8]>,
 }
 
-/// Returns the last of several lines.
+/// Returns the last line of a text of several lines.
 fn last_of(lines: &[u8]) -> &[u8] {
     let mut last = lines;
     for line in lines.split(|byte| *byte == b'\n') {
@@ -107,7 +110,7 @@ fn last_of(lines: &[u8]) -> &[u8] {
     last
 }
 
-/// Returns the lines without the last one, if that is a hint.
+/// Returns the lines of an explanation without the last one, if it is a hint.
 fn without_hint(lines: &[u8]) -> &[u8] {
     let last = last_of(lines);
     if !last.starts_with(b"hint: ") {
@@ -117,7 +120,7 @@ fn without_hint(lines: &[u8]) -> &[u8] {
     rest.strip_suffix(b"\n").unwrap_or(rest)
 }
 
-/// Returns the parts of several lines.
+/// Returns the parts of the lines of an explanation.
 fn parts_of(lines: &[u8]) -> Parts<'_> {
     let hint = last_of(lines).strip_prefix(b"hint: ");
     let lines = without_hint(lines);
@@ -136,7 +139,7 @@ fn parts_of(lines: &[u8]) -> Parts<'_> {
 }
 
 impl Message<'_> {
-    /// Returns the lines on the rule.
+    /// Returns the parts of the explanation of the violated rule.
     fn parts(&self) -> Parts<'_> {
         match &self.refusal.words {
             Some(words) => parts_of(words),
@@ -144,18 +147,18 @@ impl Message<'_> {
         }
     }
 
-    /// Returns the line on which the block ends up to which the variable is locked, if that is below the place.
+    /// Returns the last line of the block that locks the variable, if this line is below the fault.
     fn end_of_use(&self) -> Option<u32> {
         let cause = self.refusal.cause?;
         end_of_use(self.text, self.refusal.fault, cause)
     }
 
-    /// Returns the lines after the first; empty if there are none.
+    /// Returns the lines of the explanation after the first line; empty if it has one line only.
     pub fn detail(&self) -> &[u8] {
         self.parts().others
     }
 
-    /// Returns all lines of an explanation except the hint.
+    /// Returns all lines of the explanation except the hint.
     pub fn said(&self) -> &[u8] {
         match &self.refusal.words {
             Some(words) => without_hint(words),
@@ -164,7 +167,7 @@ impl Message<'_> {
     }
 }
 
-/// The lines of a message, prepared for display.
+/// Writes the lines of a message for display.
 #[derive(Drop)]
 pub struct Lines<'a>(pub &'a [u8]);
 
@@ -180,7 +183,8 @@ impl fmt::Display for Lines<'_> {
     }
 }
 
-/// The fault, on one line: the line on its rule that is said first, and else the words of its code with the name or the token at the place.
+/// Writes a fault on one line: the first line of the explanation of its rule, or else the words for its code with the name or token at the
+/// fault.
 #[derive(Drop)]
 pub struct Summary<'a>(pub &'a Message<'a>);
 
@@ -195,7 +199,8 @@ impl fmt::Display for Summary<'_> {
         if first.is_empty() {
             return write!(f, "{}", AtToken { text, fault });
         }
-        // A token that is not shown is not searched for, since that reads the text up to its line.
+        // The token is looked up only if it is shown, since the lookup reads the text up to the
+        // token's line.
         match fault.code {
             Code::MissingReturn => write!(
                 f,
@@ -215,7 +220,7 @@ impl fmt::Display for Summary<'_> {
     }
 }
 
-/// The advice on a fault.
+/// Writes the advice on a fault for display.
 #[derive(Drop)]
 pub struct Advice<'a>(pub &'a Message<'a>);
 

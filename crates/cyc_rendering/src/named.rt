@@ -1,11 +1,11 @@
-//! The first line on a refusal of whose rule nothing more is known than its code and the token at its place. `docs/codes.txt` is the table
-//! of codes; a test of the suite compares the words in this file with that table.
+//! The first line of the message on a fault of which only its code and the token at its position are known. `docs/codes.txt` is the table
+//! of codes; a test of the suite compares the words in this file with this table.
 use crate::flow_cause::name_at;
 use cyc_cli::{Shown, excerpt_at, meaning};
 use cyc_words::{Code, Fault};
 use std::fmt;
 
-/// Returns the words on a fault with this code, in which the token stands for the `%`.
+/// Returns the words on a fault with this code. In the words, `%` stands for the token.
 fn named(code: Code) -> &'static str {
     match code {
         Code::UnknownByte => "unexpected character `%`",
@@ -24,10 +24,11 @@ fn named(code: Code) -> &'static str {
     }
 }
 
-/// The signs of more than one byte.
+/// The operators and punctuation of more than one byte.
 const SIGNS: &str = ":=:~&&~||~==~!=~<=~>=~<<~>>~->";
 
-/// How many bytes the character has that begins a text: one that is not ASCII has those that go on with it in UTF-8.
+/// Returns the number of bytes of the character that begins a text. A character that is not ASCII includes its
+/// continuation bytes in UTF-8.
 fn character_length(text: &[u8]) -> usize {
     match text {
         [0xc0..=0xff, rest @ ..] => {
@@ -38,7 +39,8 @@ fn character_length(text: &[u8]) -> usize {
     }
 }
 
-/// The token at a place, as far as it is shown; a character constant by its quote.
+/// Returns the token at a source position, as far as messages show it. A character constant is
+/// shown by its quote only.
 pub(crate) fn token_at(text: &[u8], line: u32, column: u32) -> &[u8] {
     let name = name_at(text, line, column);
     if !name.is_empty() {
@@ -53,8 +55,8 @@ pub(crate) fn token_at(text: &[u8], line: u32, column: u32) -> &[u8] {
     after.get(..character_length(after)).unwrap_or(after)
 }
 
-/// Returns true if the token at a fault shows the error: an expression that is no place may have more tokens, and the end of a function is
-/// not its name.
+/// Returns true if the token at a fault should be shown. An expression that cannot be assigned may consist of more tokens, and the end of
+/// a function is not its name.
 fn is_by_token(text: &[u8], fault: Fault, token: &[u8]) -> bool {
     match fault.code {
         Code::NotAPlace => {
@@ -65,12 +67,12 @@ fn is_by_token(text: &[u8], fault: Fault, token: &[u8]) -> bool {
         }
         Code::MissingReturn => false,
         Code::UnknownByte => true,
-        // In a region's name, the first sign is the backquote.
+        // The first token of a region's name is a backquote, which is not shown.
         _ => token != b"`".as_slice(),
     }
 }
 
-/// The words on a fault that name this.
+/// Writes the words on a fault, with the name that they mention.
 #[derive(Drop)]
 pub(crate) struct Naming<'a> {
     pub(crate) code: Code,
@@ -86,7 +88,7 @@ impl fmt::Display for Naming<'_> {
     }
 }
 
-/// The words on a fault, with the token at its place if that tells what is wrong.
+/// Writes the words on a fault, with the token at the fault if the token shows the error.
 #[derive(Drop)]
 pub(crate) struct AtToken<'a> {
     pub(crate) text: &'a [u8],

@@ -1,4 +1,4 @@
-//! The tree of a text with a fault of names, types, regions or flow.
+//! Computes the syntax tree of a text with a fault of names, types, regions or flow.
 ghost use Rattle.std.specs.Prelude.{◌≡◌, ◌⊎◌, IfOk, IfErr};
 ghost use Rattle.cyc_words.specs.Fault.{memory_fault};
 ghost use Rattle.cyc_front.specs.Front.{IsRefusedText};
@@ -10,7 +10,7 @@ use cyc_syntax::Tree;
 use cyc_words::Fault;
 use std::alloc::Global;
 
-/// Returns the tree of a text.
+/// Returns the syntax tree of a text, or its fault if it has none.
 pub fn tree_of(alloc: Global, text: &[u8]) -> Result<Tree, Fault>
     ensures tree { IfOk result (HasTree text.now) }
     ensures refused { IfErr result (λ f. (f ≡ memory_fault) ⊎ IsRefusedText text.now f) }

@@ -1,4 +1,4 @@
-//! A fault with its explanations, except those that need an analysis of the rule.
+//! A fault with its explanations, except those that need an analysis of the violated rule.
 use crate::empty_pointer::words_on_empty;
 use crate::flow_cause::name_at;
 use cyc_flow::Cause;
@@ -6,20 +6,22 @@ use cyc_syntax::{Declaration, Tree};
 use cyc_words::{Code, Fault, Span};
 use std::alloc::Global;
 
-/// A fault with the explanations beyond its code.
+/// A fault with the explanations that go beyond its code.
 #[derive(Drop)]
 pub struct Refusal {
     pub fault: Fault,
-    /// The violated rule, in lines; a hint in the last line replaces the one for the fault's code.
+    /// The lines that explain the violated rule. A hint in the last line replaces the hint for the
+    /// fault's code.
     pub words: Option<Vec<u8>>,
-    /// A place that the lines name, if they name one.
+    /// The source position that the lines mention, if they mention one.
     pub place: Option<Span>,
-    /// The place where the empty or locked variable became so.
+    /// The source position where the empty or locked variable became empty or locked.
     pub cause: Option<Cause>,
 }
 
 impl Refusal {
-    /// Returns a fault of names, types or regions, with the lines of its explanation and a place that they name.
+    /// Returns a fault of names, types or regions, with the lines of its explanation and the source position
+    /// that they mention.
     pub fn explained(fault: Fault, words: Option<Vec<u8>>, place: Option<Span>) -> Refusal {
         Refusal {
             fault,
@@ -29,7 +31,7 @@ impl Refusal {
         }
     }
 
-    /// Returns a fault with the given lines as its only explanation.
+    /// Returns a fault whose only explanation is the given lines.
     pub fn with_words(fault: Fault, words: Option<Vec<u8>>) -> Refusal {
         Refusal {
             fault,
@@ -39,7 +41,8 @@ impl Refusal {
         }
     }
 
-    /// Returns a flow fault, with its lines, or with the cause of the variable's state.
+    /// Returns a flow fault, with the lines that explain it, or with the cause of the variable's
+    /// state.
     pub fn of_flow(fault: Fault, words: Option<Vec<u8>>, cause: Option<Cause>) -> Refusal {
         Refusal {
             fault,
@@ -50,7 +53,8 @@ impl Refusal {
     }
 }
 
-/// Returns the name of the function whose end a path reaches, according to the fault.
+/// Returns the name of the function with a result whose end can be reached, if the fault is of this
+/// kind.
 pub fn name_of_ended(alloc: Global, text: &[u8], tree: &Tree, fault: Fault) -> Option<Vec<u8>> {
     if fault.code != Code::MissingReturn {
         return None;
@@ -66,8 +70,7 @@ pub fn name_of_ended(alloc: Global, text: &[u8], tree: &Tree, fault: Fault) -> O
     None
 }
 
-/// Returns the words on a variable that is empty or locked without a place where it became so: the advice for a pointer that never had a
-/// value.
+/// Returns the advice on a pointer that never had a value, if a variable is empty or locked and no position is known where it became so.
 pub fn words_on_variable(
     alloc: Global,
     text: &[u8],

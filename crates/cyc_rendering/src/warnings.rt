@@ -4,7 +4,7 @@ use cyc_cli::{FileName, Shown, excerpt_at};
 use cyc_warnings::{Found, MOST_WARNINGS, text_of};
 use std::fmt;
 
-/// The words of a warning about a text, with the word at the place that it names.
+/// Writes the words of a warning about a text, with the word at the warning's source position.
 #[derive(Drop)]
 pub struct WarningText<'a> {
     pub text: &'a [u8],
@@ -25,11 +25,11 @@ impl fmt::Display for WarningText<'_> {
     }
 }
 
-/// The warnings about an accepted text, in order. `Display` writes for each its place, its text, and the source line with a mark under the
-/// place; nothing if there are none.
+/// The warnings about an accepted text, in order. For each warning, `Display` writes its position, its text, and the source line with a
+/// marker under the position. If there are no warnings, `Display` writes nothing.
 #[derive(Drop)]
 pub struct Warnings<'a> {
-    /// The name of the file.
+    /// The name of the source file.
     pub name: &'a str,
     pub text: &'a [u8],
     /// The warnings that were found, in order.

@@ -1,8 +1,8 @@
--- lemmas that the crates above cite
+-- lemmas that proofs of other crates cite
 pub mod PlainLemmas
--- regions that are live in the whole body
+-- lemmas about regions that are live in a function's whole body
 mod ThroughoutLemmas
--- the tables of names
+-- lemmas about the tables that find names
 pub mod TableLemmas
 pub mod EntryLemmas
 pub mod LocalLemmas

@@ -1,4 +1,4 @@
--- The regions that are live in the whole body of a function.
+-- Lemmas about the regions that are live in the whole body of a function.
 use Rattle.std.proofs.Common.{◌≡◌, ◌<◌, ◌≤◌, ℕ, zero, suc, true, List, map, ◌∙◌, arith}
 use Rattle.std.specs.List.{list_any}
 use Rattle.std.proofs.lemmas.Bool.{or_right}
@@ -10,7 +10,7 @@ use Rattle.cyc_types.specs.Types.{region_eq, is_region_among}
 use Rattle.cyc_types.specs.Outlives.{live_regions}
 use Rattle.cyc_scope.specs.inside.Throughout.{AreThroughout}
 
--- a region live before any scope opens is live while scopes are open
+-- a region that is live before any scope opens stays live while scopes are open
 live_before : (r : Region) (live : List Region) (opened : List Scope) → is_region_among r live ≡ true → is_region_among r (live_regions live opened) ≡ true
 live_before r live opened h =
     list_any-append (λ a. region_eq a r) (map (λ (s : Scope). s.region) opened) live

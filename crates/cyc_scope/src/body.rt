@@ -1,4 +1,4 @@
-//! The scope of a function's body, and the tables that the checks of the functions share.
+//! The scope of a function's body, and the tables that the checks of all functions share.
 ghost use Rattle.std.specs.Prelude.{◌≡◌, [], ◌∷◌, map, option_map, IfOk, OnOk, IfErr};
 ghost use Rattle.cyc_syntax.specs.inside.TreeView.{view_name, view_member};
 ghost use Rattle.cyc_types.specs.TypeView.{view_ty};
@@ -18,17 +18,19 @@ use cyc_syntax::{Ident, Member};
 use cyc_types::{Kind, NameSet, Region, RegionNames, Signature, Ty};
 use std::alloc::Global;
 
-/// The tables of a function's names. The tables have an entry for each name of the text, so they are reused for the next function.
+/// The tables of a function's names. The tables have an entry for each name of the source text, so the check of the next function
+/// reuses them.
 #[derive(Drop)]
 pub struct Tables {
-    /// The region names that are known at the start of a body, except for that of the function's own region.
+    /// The region names known at the start of a function's body, except the name of the function's own
+    /// region.
     pub names: RegionNames,
     taken: NameSet,
     locals: Locals,
 }
 
 impl Tables {
-    /// Returns tables without names and locals.
+    /// Returns empty tables, which contain no names and no locals.
     pub fn new(alloc: Global) -> Tables
         ensures { result.names ≡ [] }
     {
@@ -40,7 +42,8 @@ impl Tables {
     }
 }
 
-/// Declares the parameters of a function: they are numbered from 0 and belong to the function's own region.
+/// Declares the parameters of a function. The parameters are numbered from 0 and belong to the function's
+/// own region.
 #[tactic(auto, using(crate::proofs::EntryLemmas::parameters_end))]
 fn declare_parameters(locals: &mut Locals, members: &[Member], types: &[Ty]) -> Result<(), Stop>
     requires { Descends 0 locals.old }
@@ -63,7 +66,8 @@ fn declare_parameters(locals: &mut Locals, members: &[Member], types: &[Ty]) -> 
     Ok(())
 }
 
-/// Returns the regions of a body: the function's own region opens while the regions of its effect are live.
+/// Returns the regions of a function's body: the function's own region opens while the regions of its
+/// effect are live.
 fn regions_of(alloc: Global, signature: &Signature) -> Result<Regions, Stop>
     ensures regions { IfOk result (λ o. o ≡ body_regions (view_signature signature.now)) }
     ensures memory { IfErr result (λ e. e ≡ Memory) }
@@ -84,7 +88,7 @@ fn shared(of_type: &Option<Ty>) -> Result<Option<Ty>, Stop>
 }
 
 impl<'a> Scope<'a> {
-    /// Returns the scope of the body of a function with this signature, name and parameters. The tables contain the region names that the
+    /// Returns the scope of a function's body, from its signature, name and parameters. The tables contain the region names that the
     /// parameters declare.
     pub fn of_body(
         alloc: Global,
@@ -123,7 +127,7 @@ impl<'a> Scope<'a> {
         })
     }
 
-    /// Returns the tables, for reuse by the next function.
+    /// Returns the scope's tables, for reuse by the check of the next function.
     pub fn into_tables(self) -> Tables {
         let Scope {
             names,

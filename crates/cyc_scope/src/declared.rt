@@ -1,4 +1,5 @@
-//! The functions and globals of a program, found by their names in constant time.
+//! The functions and globals of a program; a function or global is found by its name in constant
+//! time.
 
 use crate::meaning::Meaning;
 use crate::routine::Routine;
@@ -15,18 +16,19 @@ pub(crate) enum Entity {
     Function { callee: Callee, routine: Routine },
 }
 
-/// An entry for a function or a global.
+/// A table entry for a declared function or global.
 #[derive(Drop)]
 pub(crate) struct Entry {
     pub(crate) name: usize,
     pub(crate) entity: Entity,
 }
 
-/// The functions and globals in order. If a name is declared twice, the first declaration counts.
+/// The declared functions and globals, in order. If a name is declared twice, the first declaration
+/// counts.
 #[derive(Drop)]
 pub(crate) struct Declared {
     entries: Vec<Entry>,
-    /// For each name, the index of its first entry.
+    /// For each name, the index of the first entry with the name.
     by_name: Vec<Option<usize>>,
 }
 
@@ -70,7 +72,7 @@ impl Entry {
         }
     }
 
-    /// Returns true for a function with a plain signature.
+    /// Returns true if the entry is a function with a plain signature.
     fn is_plain(&self) -> bool
         ensures { IsTrue result → IsPlainRoutine (view_entity self.now.entity) }
     {
@@ -99,7 +101,7 @@ impl Declared {
         }
     }
 
-    /// Returns the index of the first entry of this name.
+    /// Returns the index of the first entry with the given name.
     fn place(&self, name: usize) -> Option<usize>
         ensures { result ≡ first_place (declared_names self.now) name }
     {
@@ -109,7 +111,7 @@ impl Declared {
         }
     }
 
-    /// Returns the first entry of this name.
+    /// Returns the first entry with the given name.
     fn find(&self, name: usize) -> Option<&Entry>
         ensures { option_map (λ e. view_entry e.now) result ≡ first_declared self.now name }
     {

@@ -1,4 +1,4 @@
-//! The demands on a written type.
+//! The demands of the typing rules on a type as written in the source.
 ghost use Rattle.std.specs.Prelude.{◌≡◌, Bool, not, map, option_map};
 ghost use Rattle.cyc_words.specs.declared.fault.Code.TheVariants as codes;
 ghost use Rattle.cyc_syntax.specs.inside.TreeView.{place_of_span, view_name, view_base, view_pointer, view_type};
@@ -12,7 +12,7 @@ use cyc_syntax::{BaseType, Ident, Pointer, PointerKind, WrittenType};
 use cyc_types::{Region, RegionNames, StructNames};
 use cyc_words::{Code, Span};
 
-/// Returns true if the name is known and denotes this region.
+/// Returns true if a name is declared and denotes the given region.
 pub fn is_name_of(names: &RegionNames, region: Region, name: Ident) -> bool
     ensures { result ≡ is_name_of names.now region (view_name name) }
 {
@@ -22,7 +22,8 @@ pub fn is_name_of(names: &RegionNames, region: Region, name: Ident) -> bool
     }
 }
 
-/// Demands that the region name is known; or, in a parameter, that it is not the name of the function.
+/// Demands that a region name is declared; in a parameter, demands instead that the name is not the
+/// function's name.
 pub fn demand_name(settled: &mut Settled, names: &RegionNames, own: Option<usize>, name: Ident)
     ensures { settled.new.known ≡ noted settled.old.known (name_demanded names.now own (view_name name)) }
 {
@@ -35,7 +36,7 @@ pub fn demand_name(settled: &mut Settled, names: &RegionNames, own: Option<usize
     }
 }
 
-/// Demands that the name does not denote this region.
+/// Demands that a region name does not denote the given region.
 pub fn demand_other(settled: &mut Settled, names: &RegionNames, region: Region, name: Ident)
     ensures { settled.new.known ≡ noted settled.old.known
         (demand codes.RegionOrKeyMisused (place_of_span name.span) (not (is_name_of names.now region (view_name name)))) }
@@ -44,7 +45,7 @@ pub fn demand_other(settled: &mut Settled, names: &RegionNames, region: Region, 
     settled.demand(Code::RegionOrKeyMisused, name.span, is_other);
 }
 
-/// Demands on the region arguments of a struct.
+/// Checks the demands on the region arguments of a struct.
 pub fn demand_names(
     settled: &mut Settled,
     names: &RegionNames,
@@ -59,7 +60,7 @@ pub fn demand_names(
     }
 }
 
-/// Returns true if there are no arguments, or as many as the struct has parameters.
+/// Returns true if a struct has no region arguments, or as many as region parameters.
 fn is_count(count: Option<usize>, regions: &[Ident]) -> bool
     ensures { result ≡ is_count count (map view_name regions.now) }
 {
@@ -69,7 +70,8 @@ fn is_count(count: Option<usize>, regions: &[Ident]) -> bool
     }
 }
 
-/// Demands on a struct with its region arguments, in a type that begins at this place.
+/// Checks the demands on a struct with its region arguments; `span` is where the written type
+/// begins.
 pub fn demand_struct(
     settled: &mut Settled,
     structs: &StructNames,
@@ -88,7 +90,8 @@ pub fn demand_struct(
     demand_names(settled, names, own, regions);
 }
 
-/// Demands on a type before its marks, in a type that begins at this place.
+/// Checks the demands on the part of a written type before its pointer marks; `span` is where the
+/// written type begins.
 fn demand_base(
     settled: &mut Settled,
     structs: &StructNames,
@@ -137,7 +140,8 @@ fn demand_marks(settled: &mut Settled, names: &RegionNames, own: Option<usize>, 
     }
 }
 
-/// Returns true if the shape is allowed: a struct only as the target of a thin pointer, and no pointer to a key.
+/// Returns true if the shape of a written type is allowed: a struct only as the target of a thin pointer, and no
+/// pointer to a key.
 fn is_shape(base: &BaseType, marks: &[Pointer]) -> bool
     ensures { result ≡ is_shape (view_base base.now) (map view_pointer marks.now) }
 {
@@ -151,8 +155,8 @@ fn is_shape(base: &BaseType, marks: &[Pointer]) -> bool
     }
 }
 
-/// Demands on a written type, given the known structs and region names. The type of a parameter of the function `own` may declare region
-/// names.
+/// Checks the demands on a written type, from the known structs and region names. The type of a parameter of the function `own` may
+/// declare region names.
 #[tactic(auto, using(cyc_types::proofs::RuleLaws::settled_append))]
 pub fn demand_type(
     settled: &mut Settled,
@@ -178,7 +182,7 @@ fn is_key(base: &BaseType) -> bool
     }
 }
 
-/// Demands on the type of a field.
+/// Checks the demands on the written type of a field.
 #[tactic(auto, using(cyc_types::proofs::RuleLaws::settled_append))]
 pub fn demand_field(
     settled: &mut Settled,
@@ -196,7 +200,7 @@ pub fn demand_field(
     );
 }
 
-/// Returns true if the type is an int, a char or a pointer.
+/// Returns true if a written type is an int, a char or a pointer.
 fn is_global_shape(base: &BaseType, marks: &[Pointer]) -> bool
     ensures { result ≡ is_global_shape (view_base base.now) (map view_pointer marks.now) }
 {
@@ -206,7 +210,7 @@ fn is_global_shape(base: &BaseType, marks: &[Pointer]) -> bool
     }
 }
 
-/// Demands on the type of a global.
+/// Checks the demands on the written type of a global.
 #[tactic(auto, using(cyc_types::proofs::RuleLaws::settled_append))]
 pub fn demand_global(
     settled: &mut Settled,

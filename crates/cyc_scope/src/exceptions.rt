@@ -1,11 +1,12 @@
-//! The exceptions of a program, found by their names in constant time.
+//! The exceptions of a program; an exception is found by its name in constant time.
 
 use crate::stop::Stop;
 use crate::table::grow;
 use std::alloc::Global;
 use std::marker::Model;
 
-/// An exception that can be thrown and caught: its number, and whether it has an int.
+/// An exception that can be thrown and caught: its number, and a flag that is true if it carries an
+/// int.
 #[derive(Clone, Copy)]
 pub struct Thrown {
     pub number: usize,
@@ -18,11 +19,12 @@ pub(crate) struct Entry {
     pub(crate) has_int: bool,
 }
 
-/// The exceptions in order. If a name is declared twice, the first declaration counts.
+/// The exceptions of the program in order. If a name is declared twice, the first declaration
+/// counts.
 #[derive(Drop)]
 pub(crate) struct Exceptions {
     entries: Vec<Entry>,
-    /// For each name, the index of its first entry.
+    /// For each name, the index of the first exception with the name.
     by_name: Vec<Option<usize>>,
 }
 
@@ -54,7 +56,7 @@ impl Exceptions {
         }
     }
 
-    /// Returns the index of the first exception of this name.
+    /// Returns the index of the first exception with the given name.
     fn place(&self, name: usize) -> Option<usize>
         ensures { result ≡ first_place (exception_names self.now) name }
     {
@@ -64,7 +66,7 @@ impl Exceptions {
         }
     }
 
-    /// Returns the exception of this name.
+    /// Returns the exception with the given name.
     pub(crate) fn find(&self, name: usize) -> Option<Thrown>
         ensures has_int { exception_among self.now name ≡ option_map (λ t. t.has_int) result }
         ensures number { IfSome result (λ t. t.number ≡ exception_number self.now name) }

@@ -1,4 +1,4 @@
-//! The locals in scope, found by their names in constant time.
+//! The locals in scope; a local is found by its name in constant time.
 
 use crate::meaning::Meaning;
 use crate::stop::Stop;
@@ -9,7 +9,7 @@ use cyc_types::{Region, Ty};
 use std::alloc::Global;
 use std::marker::Model;
 
-/// The construct that declares a local.
+/// The kind of construct that declares a local.
 #[derive(Clone, Copy)]
 pub(crate) enum Sort {
     Ordinary,
@@ -19,31 +19,31 @@ pub(crate) enum Sort {
     OfLoop,
 }
 
-/// A local or a parameter, or the variable of a `for`.
+/// A local variable or a parameter, or the counter of an array `for`.
 #[derive(Drop)]
 pub(crate) struct Local {
     pub(crate) name: usize,
-    /// The number of the local in its function; for the variable of a `for`, its level.
+    /// The number of the local in its function; for the counter of a `for`, its level.
     pub(crate) number: usize,
     pub(crate) of_type: Ty,
-    /// The number of the region of the block that declares it.
+    /// The number of the region of the block that declares the local.
     pub(crate) region: usize,
     pub(crate) sort: Sort,
 }
 
-/// A local in scope, with the index of the local that it hides.
+/// A local in scope, with the index of the older local that it hides.
 #[derive(Drop)]
 struct Binding {
     local: Local,
     hidden: Option<usize>,
 }
 
-/// The locals in scope. Contracts see them as a list, newest first.
+/// The locals in scope. Contracts see this table as a list of locals, newest first.
 #[derive(Drop)]
 pub(crate) struct Locals {
-    /// The bindings, oldest first.
+    /// The bindings of the locals in scope, oldest first.
     bindings: Vec<Binding>,
-    /// For each name, the index of its newest local.
+    /// For each name, the index of the newest local with the name.
     newest: Vec<Option<usize>>,
 }
 
@@ -71,7 +71,7 @@ impl Local {
     ghost use Rattle.cyc_scope.specs.inside.Meanings.{view_meaning};
     ghost use Rattle.cyc_scope.specs.inside.Entries.{view_sort, view_local};
 
-    /// Returns the meaning of a name at this place that denotes this local.
+    /// Returns the meaning of a name that denotes this local; the name is at position `name.span`.
     fn meaning(&self, name: Ident) -> Meaning<'_>
         ensures { view_meaning result ≡ local_meaning (view_local self.now).sort (view_local self.now) (view_name name).place }
     {
@@ -117,7 +117,7 @@ impl Locals {
         self.bindings.len()
     }
 
-    /// Returns the index of the newest local of this name.
+    /// Returns the index of the newest local with the given name.
     fn place(&self, name: usize) -> Option<usize>
         ensures { result ≡ newest_place (local_names self.now) name }
     {
@@ -127,7 +127,7 @@ impl Locals {
         }
     }
 
-    /// Returns the newest local of this name.
+    /// Returns the newest local with the given name.
     fn find(&self, name: usize) -> Option<&Binding>
         ensures { option_map (λ b. view_binding b.now) result ≡ newest self.now name }
     {
@@ -137,7 +137,7 @@ impl Locals {
         }
     }
 
-    /// Returns the meaning of a name as a local.
+    /// Returns the meaning of a name as a local, or `None` if no local in scope has the name.
     #[inline]
     #[tactic(auto, using(crate::proofs::LocalLemmas::meaning_found, crate::proofs::LocalLemmas::meaning_lost))]
     pub(crate) fn meaning(&self, name: Ident) -> Option<Meaning<'_>>
@@ -150,7 +150,8 @@ impl Locals {
         }
     }
 
-    /// Returns true if the innermost block, which has this region, declares a local of this name.
+    /// Returns true if the innermost block, whose region is `region`, declares a local with the
+    /// given name.
     #[tactic(auto, using(crate::proofs::LocalLemmas::declared_lost))]
     pub(crate) fn is_declared_in(&self, region: usize, name: usize) -> bool
         requires { Descends region self.now }
@@ -176,7 +177,7 @@ impl Locals {
         Ok(())
     }
 
-    /// Removes the newest local.
+    /// Removes the newest local from the table.
     fn undo(&mut self)
         ensures { self.new ≡ drop 1 self.old }
     {
@@ -186,7 +187,7 @@ impl Locals {
         self.newest[binding.local.name] = binding.hidden;
     }
 
-    /// Removes all locals but this number of the oldest.
+    /// Removes all locals except the `count` oldest.
     #[tactic(auto, using(cyc_words::proofs::Lists::drop_one_more))]
     pub(crate) fn close(&mut self, count: usize)
         ensures { self.new ≡ drop (length self.old - count) self.old }

@@ -1,24 +1,25 @@
-//! The meaning of names.
+//! The meanings of names in a program.
 
 use cyc_types::typed::{Callee, Lvalue};
 use cyc_types::{Region, Signature, Ty};
 
-/// The meaning of a name at its use.
+/// The meaning of a name at a position where it is used.
 #[derive(Clone, Copy)]
 pub enum Meaning<'a> {
     Unknown,
-    /// A variable that may be assigned, with the region that contains it.
+    /// The name denotes a variable that may be assigned; `home` is the region that contains it.
     Variable {
         target: Lvalue,
         of_type: &'a Ty,
         home: Region,
     },
-    /// The variable of a `region` item, which may not be assigned.
+    /// The name denotes the handle declared by a `region` item, which may not be assigned.
     Fixed {
         target: Lvalue,
         of_type: &'a Ty,
     },
-    /// The variable of a `for`, by the number of enclosing `for`s; it may not be assigned.
+    /// The name denotes the counter of an array `for`, numbered by the number of enclosing
+    /// `for`s; a counter may not be assigned.
     Counter {
         level: usize,
     },

@@ -1,4 +1,4 @@
-//! Recognizes plain signatures, whose calls have the fewest demands.
+//! Recognises plain signatures, whose calls have the fewest demands.
 ghost use Rattle.std.specs.Prelude.{◌≡◌, [], ◌∷◌, suc, IsTrue, IfSome, map, option_map, List};
 ghost use Rattle.cyc_types.specs.declared.region.Region.{Region};
 ghost use Rattle.cyc_types.specs.Types.{substituted_ty};
@@ -8,7 +8,7 @@ ghost use Rattle.cyc_scope.specs.inside.Plain.{regions_in, all_regions, Ascend, 
 
 use cyc_types::{Region, Signature, Ty};
 
-/// Returns the number after that of the variable, if the region is a variable with at least this number.
+/// Returns the region's number plus one, if the region is a variable with a number of at least `next`.
 fn following(next: usize, region: Region) -> Option<usize>
     ensures { IfSome result (λ n. Ascend next (region ∷ []) n) }
 {
@@ -18,7 +18,7 @@ fn following(next: usize, region: Region) -> Option<usize>
     }
 }
 
-/// Returns the number after the last variable, if the regions are variables with increasing numbers, from this number on.
+/// Returns the last region's number plus one, if the regions are variables with increasing numbers from `next` on.
 fn following_all(next: usize, regions: &[Region]) -> Option<usize>
     ensures { IfSome result (λ n. Ascend next regions.now n) }
 {
@@ -52,7 +52,7 @@ fn after_types(next: usize, types: &[Ty]) -> Option<usize>
     Some(known)
 }
 
-/// Returns true if each region is a variable with at most this number.
+/// Returns true if each region is a variable with a number of at most `count`.
 fn are_variables(count: usize, regions: &[Region]) -> bool
     ensures { IsTrue result → AreVariables count regions.now }
 {
@@ -72,7 +72,7 @@ fn is_same_everywhere(written: &Option<Ty>) -> bool
     matches!(written, None | Some(Ty::Int) | Some(Ty::Char))
 }
 
-/// Returns true if the regions of the parameters are variables that occur only once.
+/// Returns true if the regions of the parameters are variables, each of which occurs only once.
 fn are_apart(signature: &Signature) -> bool
     ensures { IsTrue result → Ascend 1 (all_regions (view_signature signature.now).parameters) (suc signature.now.variables) }
 {

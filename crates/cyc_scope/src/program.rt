@@ -1,4 +1,4 @@
-//! The declarations of a program, found by name in constant time.
+//! The declarations of a program; a declaration is found by its name in constant time.
 
 use crate::declared::{Declared, Entity};
 use crate::exceptions::{Exceptions, Thrown};
@@ -10,7 +10,7 @@ use cyc_types::{Known, Signature, Ty};
 use std::alloc::Global;
 use std::marker::Model;
 
-/// A field of a struct. In the type of a field, the i-th region parameter is the region variable i.
+/// A field of a struct. In the type of a field, the i-th region parameter is region variable i.
 #[derive(Drop)]
 pub struct Field {
     pub name: usize,
@@ -21,10 +21,10 @@ pub struct Field {
 #[derive(Drop)]
 pub struct Program {
     known: Known,
-    /// The fields of the structs, by their numbers.
+    /// The fields of each struct, indexed by the struct's number.
     fields: Vec<Vec<Field>>,
     exceptions: Exceptions,
-    /// The functions and globals.
+    /// The functions and globals of the program.
     declared: Declared,
 }
 
@@ -56,7 +56,7 @@ impl Program {
     ghost use Rattle.cyc_scope.specs.inside.Entries.{view_field, view_fields};
     ghost use Rattle.cyc_scope.specs.inside.Plain.{IsPlainRoutine};
 
-    /// Returns a program with these known names and no declarations yet.
+    /// Returns a program with the given known names and no declarations yet.
     pub fn new(alloc: Global, known: Known) -> Program
         ensures { result ≡ record { known = known; fields = []; exceptions = []; declared = [] } }
     {
@@ -68,14 +68,15 @@ impl Program {
         }
     }
 
-    /// Returns the names that are known in the whole text.
+    /// Returns the names that are known in all of the program's text.
     pub fn known(&self) -> &Known
         ensures { result.now ≡ self.now.known }
     {
         &self.known
     }
 
-    /// Returns the fields of the struct of this number, or none if there is no such struct.
+    /// Returns the fields of the struct with the given number, or an empty list if the struct does
+    /// not exist.
     pub fn fields(&self, number: usize) -> &[Field]
         ensures { map view_field result.now ≡ unwrap_or (slice_get self.now.fields number) [] }
     {
@@ -85,7 +86,7 @@ impl Program {
         }
     }
 
-    /// Returns the exception of this name.
+    /// Returns the exception with the given name.
     pub fn exception(&self, name: usize) -> Option<Thrown>
         ensures has_int { exception_among self.now.exceptions name ≡ option_map (λ t. t.has_int) result }
         ensures number { IfSome result (λ t. t.number ≡ exception_number self.now.exceptions name) }
@@ -100,7 +101,8 @@ impl Program {
         self.declared.meaning(name)
     }
 
-    /// Returns true if a name that denotes no local denotes a function with a plain signature.
+    /// Returns true if a name denotes a function with a plain signature, provided that no local has
+    /// the name.
     pub(crate) fn is_plain(&self, name: usize) -> bool
         ensures { IsTrue result → IsPlainRoutine (scopes.meaning_in self.now.declared name) }
     {
@@ -116,7 +118,7 @@ impl Program {
         Ok(())
     }
 
-    /// Declares an exception of the program after the existing ones.
+    /// Declares an exception of the program after the exceptions declared so far.
     pub fn add_exception(&mut self, name: usize, has_int: bool) -> Result<(), Stop>
         ensures added { OnOk result (self.new ≡ record self.old { exceptions = self.old.exceptions ++ record { name = name; has_int = has_int } ∷ [] }) }
         ensures memory { IfErr result (λ e. e ≡ Memory) }
@@ -124,7 +126,7 @@ impl Program {
         self.exceptions.declare(name, has_int)
     }
 
-    /// Declares the global of this number, which belongs to the heap.
+    /// Declares the global with the given number; the heap region contains the global.
     pub fn declare_global(&mut self, name: usize, number: usize, of_type: Ty) -> Result<(), Stop>
         ensures declared { OnOk result (self.new ≡ record self.old { declared = self.old.declared ++ record { name = name; meaning = scopes.Variable (typed.Global number) (view_ty of_type) regions.Heap } ∷ [] }) }
         ensures memory { IfErr result (λ e. e ≡ Memory) }
@@ -133,7 +135,7 @@ impl Program {
             .declare(name, Entity::Global { number, of_type })
     }
 
-    /// Declares the function of this number with its signature.
+    /// Declares a function of the program with its number and its signature.
     pub fn declare_function(
         &mut self,
         name: usize,

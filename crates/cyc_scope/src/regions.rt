@@ -1,4 +1,5 @@
-//! The live regions and the outlives relation. Regions that are live in the whole body are recognized by their numbers.
+//! The live regions and the outlives relation. Regions that are live in a function's whole body are recognised by their
+//! numbers.
 ghost use Rattle.std.specs.Prelude.{◌∷◌};
 ghost use Rattle.cyc_types.specs.declared.region.Region.TheVariants.{Heap, Unique};
 ghost use Rattle.cyc_scope.specs.inside.Throughout.{AreThroughout};
@@ -8,7 +9,8 @@ use cyc_types::{Kind, Outlives, Region};
 use std::alloc::{AllocError, Global};
 use std::marker::Model;
 
-/// Returns the largest count such that the variables from number 1 up to it are in the effect.
+/// Returns the largest count such that the effect lists the region variables 1 to that count in
+/// order.
 fn count_of(effect: &[Region]) -> usize
     ensures { AreThroughout (Heap ∷ Unique ∷ effect.now) result }
 {
@@ -20,11 +22,12 @@ fn count_of(effect: &[Region]) -> usize
     effect.len()
 }
 
-/// The outlives relation at one point of a body. Contracts see only the outlives relation, not its tables.
+/// The outlives relation at one point of a function's body. Contracts see only the outlives relation, not
+/// its tables.
 #[derive(Drop)]
 pub(crate) struct Regions {
     outlives: Outlives,
-    /// The number of region variables, from number 1 on, that are live in the whole body, as the heap is.
+    /// The region variables from number 1 to this number are live in the whole body, as the heap is.
     throughout: usize,
 }
 
@@ -47,7 +50,8 @@ impl Regions {
     ghost use Rattle.cyc_types.specs.Types.{is_region_among};
     ghost use Rattle.cyc_scope.specs.declared.stop.Stop.TheVariants.{Memory};
 
-    /// Returns the regions without open scopes; the regions of the effect are live.
+    /// Returns the region context without open scopes; the heap, the unique region and the regions
+    /// of the effect are live.
     pub(crate) fn new(
         alloc: Global,
         written: &[(Region, Region)],
@@ -66,7 +70,7 @@ impl Regions {
         })
     }
 
-    /// Returns true if the region is live.
+    /// Returns true if the region is live at the current point.
     #[tactic(auto, using(crate::proofs::ThroughoutLemmas::live_throughout, crate::proofs::ThroughoutLemmas::heap_throughout))]
     pub(crate) fn is_live(&self, region: Region) -> bool
         ensures { result ≡ is_region_among region (live_regions self.now.live self.now.opened) }
@@ -78,7 +82,7 @@ impl Regions {
         }
     }
 
-    /// Returns true if the first region outlives the second.
+    /// Returns true if region `a` outlives region `b`.
     pub(crate) fn outlives(&self, a: Region, b: Region) -> bool
         ensures { result ≡ is_outliving self.now a b }
     {
@@ -99,7 +103,7 @@ impl Regions {
         self.outlives.open_scope(region, kind)
     }
 
-    /// Closes all open scopes but this number of the oldest.
+    /// Closes all open scopes except the `count` oldest.
     pub(crate) fn close(&mut self, count: usize)
         ensures { self.new ≡ record self.old { opened = drop (length self.old.opened - count) self.old.opened } }
     {

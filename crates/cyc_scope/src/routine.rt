@@ -1,10 +1,10 @@
-//! A signature in a program, together with whether it is plain.
+//! A function signature, together with a flag that is true if the signature is plain.
 
 use crate::plain::is_plain;
 use cyc_types::Signature;
 use std::marker::Model;
 
-/// A signature. Contracts see only the signature, not its layout in memory.
+/// A function signature. Contracts see only the signature, not its memory layout.
 #[derive(Drop)]
 pub(crate) struct Routine {
     signature: Signature,

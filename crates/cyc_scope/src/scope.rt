@@ -1,4 +1,4 @@
-//! The context of an expression or a statement.
+//! The context of the type checker at an expression or a statement.
 
 use crate::exceptions::Thrown;
 use crate::locals::{Local, Locals, Sort};
@@ -12,42 +12,43 @@ use cyc_types::{Kind, NameSet, Region, RegionNames, StructNames, Ty};
 use std::alloc::Global;
 use std::marker::Model;
 
-/// The size of a scope at some point. `leave` removes the names that came into scope since then.
+/// The size of a scope at some point. The function `leave` removes the names that came into scope
+/// since that point.
 #[derive(Clone, Copy)]
 pub struct Mark {
-    /// The number of locals, of region names and of open scopes.
+    /// The numbers of locals, of region names and of open scopes.
     pub locals: usize,
     pub names: usize,
     pub opened: usize,
-    /// The region of the innermost block.
+    /// The number of the region of the innermost enclosing block.
     pub region: usize,
     pub in_loop: bool,
-    /// The number of enclosing `for`s.
+    /// The number of enclosing array `for`s.
     pub counters: usize,
 }
 
-/// The context of an expression or a statement in a function body. The context consists of the declarations of the program, the meaning of
-/// names, the live regions, and the numbers of the next local and region.
+/// The context of an expression or a statement in a function's body. The context consists of the declarations of the program, the meaning
+/// of names, the live regions, and the numbers of the next local and region.
 ///
-/// Regions are numbered from the outermost to the innermost, so the newest local of a name decides whether the innermost block declares
-/// that name.
+/// Regions are numbered from the outermost block to the innermost, so the newest local with a name decides if the innermost block
+/// declares that name.
 #[derive(Drop)]
 pub struct Scope<'a> {
     pub(crate) alloc: Global,
     pub(crate) program: &'a Program,
-    /// The type of the function's result.
+    /// The result type of the function being checked.
     pub(crate) result: Option<Ty>,
     pub(crate) names: RegionNames,
-    /// The region names that the function has declared so far, in scope or not.
+    /// The region names that the function has declared so far, including those no longer in scope.
     pub(crate) taken: NameSet,
     pub(crate) regions: Regions,
     pub(crate) locals: Locals,
     pub(crate) next_local: usize,
     pub(crate) next_region: usize,
-    /// The region of the innermost block.
+    /// The number of the region of the innermost enclosing block.
     pub(crate) region: usize,
     pub(crate) in_loop: bool,
-    /// The number of enclosing `for`s.
+    /// The number of enclosing array `for`s.
     pub(crate) counters: usize,
 }
 
@@ -100,7 +101,7 @@ impl<'a> Scope<'a> {
     ghost use Rattle.cyc_scope.specs.inside.Marks.{IsInOrder, mark_of, left_to, with_next_opened};
     ghost use Rattle.cyc_scope.specs.inside.Plain.{IsPlainRoutine};
 
-    /// Returns the allocator for all allocations of a check.
+    /// Returns the allocator that all allocations of the type check use.
     pub fn alloc(&self) -> Global {
         self.alloc
     }
@@ -112,14 +113,15 @@ impl<'a> Scope<'a> {
         self.program.known().structs()
     }
 
-    /// Returns the fields of the struct of this number, or none if there is no such struct.
+    /// Returns the fields of the struct with the given number, or an empty list if the struct does
+    /// not exist.
     pub fn fields(&self, number: usize) -> &[Field]
         ensures { map view_field result.now ≡ unwrap_or (slice_get self.now.fields number) [] }
     {
         self.program.fields(number)
     }
 
-    /// Returns the exception of this name.
+    /// Returns the exception with the given name.
     pub fn exception(&self, name: usize) -> Option<Thrown>
         ensures has_int { exception_among self.now.exceptions name ≡ option_map (λ t. t.has_int) result }
         ensures number { IfSome result (λ t. t.number ≡ exception_number self.now.exceptions name) }
@@ -134,7 +136,7 @@ impl<'a> Scope<'a> {
         &self.names
     }
 
-    /// The type of the function's result.
+    /// Returns the result type of the function being checked.
     pub fn result_type(&self) -> Option<&Ty>
         ensures { option_map (λ t. view_ty t.now) result ≡ self.now.result }
     {
@@ -144,14 +146,14 @@ impl<'a> Scope<'a> {
         }
     }
 
-    /// Returns the number of the next local.
+    /// Returns the number that the next declared local gets.
     pub fn next_local(&self) -> usize
         ensures { result ≡ self.now.next_local }
     {
         self.next_local
     }
 
-    /// Returns the number of the next region.
+    /// Returns the number that the next declared region gets.
     pub fn next_region(&self) -> usize
         ensures { result ≡ self.now.next_region }
     {
@@ -165,7 +167,7 @@ impl<'a> Scope<'a> {
         self.in_loop
     }
 
-    /// Returns the number of enclosing `for`s, which is the level of the next one.
+    /// Returns the number of enclosing array `for`s, which is the level of the next `for`.
     pub fn counters(&self) -> usize
         ensures { result ≡ self.now.counters }
     {
@@ -192,14 +194,14 @@ impl<'a> Scope<'a> {
         }
     }
 
-    /// Returns true if the innermost block declares a local of this name.
+    /// Returns true if the innermost block declares a local with the given name.
     pub fn is_declared(&self, name: Ident) -> bool
         ensures { result ≡ is_declared self.now (view_name name) }
     {
         self.locals.is_declared_in(self.region, name.name.number)
     }
 
-    /// Returns true if the function has declared a region of this name.
+    /// Returns true if the function has declared a region with the given name.
     pub fn is_taken(&self, name: Ident) -> bool
         ensures { result ≡ is_taken self.now (view_name name) }
     {
@@ -213,7 +215,7 @@ impl<'a> Scope<'a> {
         self.regions.is_live(region)
     }
 
-    /// Returns true if the first region outlives the second.
+    /// Returns true if region `a` outlives region `b`.
     pub fn outlives(&self, a: Region, b: Region) -> bool
         ensures { result ≡ is_outliving self.now.regions a b }
     {
@@ -234,7 +236,7 @@ impl<'a> Scope<'a> {
         Ok(())
     }
 
-    /// Enters a labelled block.
+    /// Enters a block that has a label.
     pub fn enter_labelled(&mut self, label: Ident) -> Result<(), Stop>
         ensures entered { OnOk result (self.new ≡ in_labelled (view_name label) self.old) }
         ensures memory { IfErr result (λ e. e ≡ Memory) }
@@ -275,7 +277,7 @@ impl<'a> Scope<'a> {
         self.declare(Sort::Ordinary, name, of_type)
     }
 
-    /// Declares the variable of a `region` item.
+    /// Declares the handle of a `region` item, which may not be assigned.
     pub fn declare_fixed(&mut self, name: Ident, of_type: Ty) -> Result<(), Stop>
         ensures declared { OnOk result (self.new ≡ with_local scopes.OfRegion (view_name name) (view_ty of_type) self.old) }
         ensures memory { IfErr result (λ e. e ≡ Memory) }
@@ -283,7 +285,7 @@ impl<'a> Scope<'a> {
         self.declare(Sort::OfRegion, name, of_type)
     }
 
-    /// Declares the variable of a `for` and enters its element.
+    /// Declares the counter variable of an array `for` and enters the element expression.
     pub fn declare_counter(&mut self, name: Ident) -> Result<(), Stop>
         ensures declared { OnOk result (self.new ≡ with_counter (view_name name) self.old) }
         ensures memory { IfErr result (λ e. e ≡ Memory) }
@@ -301,7 +303,7 @@ impl<'a> Scope<'a> {
         Ok(())
     }
 
-    /// Gives the next region this name.
+    /// Gives the region with the next number the given name.
     pub fn name_region(&mut self, name: Ident) -> Result<(), Stop>
         ensures named { OnOk result (self.new ≡ with_name (view_name name) self.old) }
         ensures memory { IfErr result (λ e. e ≡ Memory) }
@@ -312,7 +314,7 @@ impl<'a> Scope<'a> {
         Ok(())
     }
 
-    /// Declares and opens the next region, which already has its name.
+    /// Declares and opens the region with the next number, which already has a name.
     pub fn open_next(&mut self, kind: Kind) -> Result<(), Stop>
         ensures opened { OnOk result (self.new ≡ with_next_opened kind self.old) }
         ensures memory { IfErr result (λ e. e ≡ Memory) }
@@ -324,7 +326,7 @@ impl<'a> Scope<'a> {
         Ok(())
     }
 
-    /// Declares a region of this name, and opens it.
+    /// Declares a region with the given name, and opens the region.
     pub fn open_region(&mut self, kind: Kind, name: Ident) -> Result<(), Stop>
         ensures opened { OnOk result (self.new ≡ with_opened kind (view_name name) self.old) }
         ensures memory { IfErr result (λ e. e ≡ Memory) }
@@ -333,7 +335,7 @@ impl<'a> Scope<'a> {
         self.open_next(kind)
     }
 
-    /// Declares a region of this name without opening it.
+    /// Declares a region with the given name without opening the region.
     pub fn declare_region(&mut self, name: Ident) -> Result<(), Stop>
         ensures declared { OnOk result (self.new ≡ with_region (view_name name) self.old) }
         ensures memory { IfErr result (λ e. e ≡ Memory) }
@@ -353,7 +355,7 @@ impl<'a> Scope<'a> {
         Ok(())
     }
 
-    /// Returns the present size of the scope.
+    /// Returns the current size of the scope, for `leave`.
     pub fn mark(&self) -> Mark
         ensures mark { result ≡ mark_of self.now }
         ensures order { IsInOrder self.now }
@@ -368,7 +370,8 @@ impl<'a> Scope<'a> {
         }
     }
 
-    /// Removes the names that came into scope since the mark was taken. Used numbers and taken region names stay used.
+    /// Removes the names that came into scope since the mark was taken. Numbers that were used and region names that
+    /// were taken stay so.
     pub fn leave(&mut self, mark: Mark)
         requires { IsInOrder (left_to mark self.old) }
         ensures { self.new ≡ left_to mark self.old }

@@ -1,4 +1,4 @@
-//! The reasons why checking stops.
+//! The reasons for which the type check stops.
 ghost use Rattle.std.specs.Prelude.{◌≡◌};
 ghost use Rattle.cyc_syntax.specs.inside.TreeView.{place_of_span};
 ghost use Rattle.cyc_types.specs.Rules.{fault_at};
@@ -8,7 +8,7 @@ ghost use Rattle.cyc_scope.specs.inside.Code.{fault_of};
 use cyc_words::{Code, Fault, Span};
 use std::alloc::{AllocError, AllocFailed};
 
-/// The reason why a check stops.
+/// The reason for which a type check stops.
 #[derive(Clone, Copy, Debug, PartialEq, Eq)]
 pub enum Stop {
     /// An allocation failed, or a count exceeded the size of memory.
@@ -43,7 +43,7 @@ impl From<Stop> for Fault {
     }
 }
 
-/// Returns the rejection with this code at this place.
+/// Returns the rejection with the given code at the given source position.
 pub fn refused(code: Code, span: Span) -> Stop
     ensures { result ≡ Refused (fault_at code (place_of_span span)) }
 {

@@ -1,10 +1,10 @@
-//! Tables of indices by the numbers of names.
+//! Tables of indices; each table is indexed by the numbers of names.
 ghost use Rattle.std.specs.Prelude.{◌≡◌, ℕ, ◌<◌, length, get_or, None, OnOk, IfErr};
 ghost use Rattle.cyc_scope.specs.declared.stop.Stop.TheVariants.{Memory};
 
 use crate::stop::Stop;
 
-/// Grows the table until it has an entry for this name.
+/// Grows the table until it has an entry for `name`.
 pub(crate) fn grow(table: &mut Vec<Option<usize>>, name: usize) -> Result<(), Stop>
     ensures same { (x : ℕ) → get_or table.new.items x None ≡ get_or table.old.items x None }
     ensures memory { IfErr result (λ e. e ≡ Memory) }
@@ -22,7 +22,7 @@ pub(crate) fn grow(table: &mut Vec<Option<usize>>, name: usize) -> Result<(), St
 
 ghost use Rattle.std.specs.Prelude.{suc, IfOk};
 
-/// Returns the next number.
+/// Returns the number plus one, or fails on overflow.
 pub(crate) fn after(number: usize) -> Result<usize, Stop>
     ensures next { IfOk result (λ n. n ≡ suc number) }
     ensures memory { IfErr result (λ e. e ≡ Memory) }

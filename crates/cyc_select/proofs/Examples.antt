@@ -1,4 +1,4 @@
--- The number of lines of some code, proved by computation.
+-- Examples: the number of MIPS lines selected for some pieces of plain code, proved by computation.
 use Rattle.std.proofs.Common.{◌≡◌, ℕ, false, List, [], ◌∷◌, refl}
 use Rattle.std.specs.Prelude.{sum_by, length}
 use Rattle.cyc_plain.specs.declared.instruction.Instruction.{Instruction}
@@ -22,8 +22,8 @@ frame = record { first_slot = 0; parameters = 0; return_address = 11; saves = fa
 abbrev lines_of : List Instruction → ℕ
 lines_of code = sum_by (body_count nothing (frame ∷ []) 0) code
 
--- Element `i` of a fat pointer in the slots 0 to 2 (address, length, index), with `i` in slot 3: null and range are tested, and the word is
--- loaded into slot 5.
+-- Example: the lines that load element `i` of a fat pointer into slot 5. Slots 0 to 2 hold the pointer's address, length and index, slot 3
+-- holds `i`; a null pointer and an index out of range are tested.
 element_of_a_fat_pointer :
     lines_of (
     Branch Equal (Slot 0) (Word 0) 9
@@ -36,7 +36,7 @@ element_of_a_fat_pointer :
     ≡ 20
 element_of_a_fat_pointer = refl
 
--- A slot at a small offset is accessed without an extra line.
+-- A load from a slot at a small frame offset takes no extra line to compute the address.
 near_load : length (load_at frame LoadWord 0 (Slot 1) 32767) ≡ 3
 near_load = refl
 
@@ -49,10 +49,11 @@ far_store = refl
 three_words_moved : lines_of (MoveWords 0 3 3 ∷ []) ≡ 6
 three_words_moved = refl
 
--- A region with a block of two words, from its opening to its closing, with handle and mark in the slots 0 and 1.
+-- Example: the lines that open a lexical region, allocate a block of two words in it and close it. The region's
+-- handle and the number that closes it are in the slots 0 and 1.
 block_in_a_region : lines_of (Ask (OpenLexical 0) ∷ Ask (Allocate 2 (Slot 0) (Word 2)) ∷ Ask (CloseTo (Slot 1)) ∷ []) ≡ 14
 block_in_a_region = refl
 
--- A slot is stored through its address.
+-- Example: the lines that take a slot's address and store a word through this address.
 stored_by_its_address : lines_of (AddressOf 0 3 1 ∷ Store (Slot 0) 0 (Word 7) ∷ []) ≡ 5
 stored_by_its_address = refl

@@ -1,4 +1,5 @@
--- A folder for each topic; each file begins with its contents.
+-- The proofs of this crate have one folder for each topic. Each file begins with a summary of its
+-- contents.
 pub mod emission
 pub mod layout
 pub mod effects
@@ -6,7 +7,7 @@ pub mod values
 pub mod relation
 pub mod steps
 pub mod runs
--- the results that the contract of `select` rests on
+-- the theorems from which the contract of `select` follows
 pub mod Laws
--- numbers of lines, proved by computation
+-- examples: the numbers of lines selected for some pieces of code, proved by computation
 pub mod Examples

@@ -1,4 +1,5 @@
--- effects of ordinary instructions on registers and memory, and stretches of a run
+-- the effects of ordinary MIPS instructions on registers and memory, and stretches of a run of the
+-- labelled machine
 pub mod Views
 pub mod Effects
 pub mod Sequences

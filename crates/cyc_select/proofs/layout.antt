@@ -1,4 +1,5 @@
--- the code is well-formed, fits the text range, and stands at the counted lines
+-- the proof that the selected code is well-formed, fits the text range, and stands at the counted
+-- lines
 pub mod Whole
 pub mod Inside
 pub mod Formed

@@ -1,4 +1,4 @@
--- the simulation of each group of instructions
+-- the simulation of each kind of instruction
 pub mod Answers
 pub mod Hoisting
 pub mod Simple

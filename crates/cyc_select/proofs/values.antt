@@ -1,4 +1,4 @@
--- the registers after the lines of operands, plans and tests
+-- the registers after the lines that compute operands, plans and tests
 pub mod Blocks
 pub mod Operations
 pub mod Halves

@@ -1,8 +1,8 @@
--- the results that the contract of `select` rests on
+-- the definitions in which the contract of `select` is stated and proved
 pub mod Labelled
 pub mod Machine
 pub mod Selected
--- the contracts between the functions inside the crate
+-- the contracts between the functions of this crate
 pub mod Numbers
 pub mod Plans
 pub mod Instructions

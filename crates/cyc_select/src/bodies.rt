@@ -1,4 +1,4 @@
-//! Emits the lines of an instruction.
+//! Emits the MIPS lines of each instruction of the plain program.
 ghost use Rattle.std.specs.Prelude.{◌≡◌, ◌+◌, ◌<◌, ◌≤◌, ◌++◌, OnOk, length};
 ghost use Rattle.cyc_plain.specs.inside.Program.{routine_at};
 ghost use Rattle.cyc_plain.specs.inside.WellFormed.{IsInRange};
@@ -18,7 +18,7 @@ use cyc_plain::Instruction;
 use std::alloc::AllocError;
 
 impl Emitter {
-    /// Emits the code of an instruction, if its first line has number `here`.
+    /// Emits the lines of an instruction's body; the first line has number `here`.
     fn body(
         &mut self,
         tables: &Tables,
@@ -139,7 +139,7 @@ impl Emitter {
         }
     }
 
-    /// Emits the lines that follow a call, executed after it returns.
+    /// Emits the lines that follow a call and are executed after it returns.
     fn following(&mut self, tables: &Tables, instruction: Instruction) -> Result<(), AllocError>
         requires known { IsKnown tables.now }
         requires in_range { IsInRange tables.now.plain.now (routine_at tables.now.plain.now tables.now.function) instruction }
@@ -156,7 +156,7 @@ impl Emitter {
         }
     }
 
-    /// Emits all lines of the instruction at `index`.
+    /// Emits all lines of the instruction at `index`: its body, and those that follow a call.
     pub(crate) fn instruction(
         &mut self,
         tables: &Tables,

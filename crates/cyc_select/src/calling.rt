@@ -22,10 +22,10 @@ use cyc_plain::{GREATEST_VALUE, MOST_FRAME_WORDS, Operand};
 use cyc_registers::{FIRST_PRESERVED, MOST_SAVED, is_crossing};
 use std::alloc::AllocError;
 
-/// The registers of the results of a function or a service.
+/// The registers that hold the result words of a function or of a service.
 pub(crate) const RESULTS: [u8; 3] = [FIRST_RESULT, SECOND_RESULT, THIRD_RESULT];
 
-/// Returns the instruction that saves one of the callee-saved registers, by its number among them.
+/// Returns the instruction that saves the callee-saved register with this number.
 fn save(frame: &Frame, number: usize) -> Instr
     requires few { number < MOST_SAVED }
     requires inside { frame.now.first_saved ≤ MOST_FRAME_WORDS }
@@ -37,7 +37,7 @@ fn save(frame: &Frame, number: usize) -> Instr
     )
 }
 
-/// Returns the instruction that restores one of the callee-saved registers, by its number among them.
+/// Returns the instruction that restores the callee-saved register with this number.
 fn restore(frame: &Frame, number: usize) -> Instr
     requires few { number < MOST_SAVED }
     requires inside { frame.now.first_saved ≤ MOST_FRAME_WORDS }
@@ -50,8 +50,8 @@ fn restore(frame: &Frame, number: usize) -> Instr
 }
 
 impl Emitter {
-    /// Passes one argument from the caller's slot to the callee's, after the switch to the callee's frame. An argument passed from memory
-    /// goes through the callee's register for it.
+    /// Emits the lines that pass one argument from the caller's slot to the callee's, after the switch to the callee's frame. An argument
+    /// passed from memory goes through the callee's register for it.
     fn argument(
         &mut self,
         caller: &Frame,
@@ -73,7 +73,8 @@ impl Emitter {
         }
     }
 
-    /// Stores a slot that is in a register only to its word in memory, if it is passed from there.
+    /// Emits the store of a slot that is in a register only to its word in memory, if the argument
+    /// is passed from memory.
     fn spill(
         &mut self,
         caller: &Frame,
@@ -93,7 +94,8 @@ impl Emitter {
         self.ordinary(&[store_slot(caller, made_in(caller, source), source)])
     }
 
-    /// Stores each of `count` slots that is passed from memory and is in a register only.
+    /// Emits a store for each of `count` slots that is in a register only and is passed as an
+    /// argument from memory.
     pub(crate) fn spills(
         &mut self,
         caller: &Frame,
@@ -110,7 +112,7 @@ impl Emitter {
         Ok(())
     }
 
-    /// Passes the arguments from the caller's slots to the callee's first slots.
+    /// Emits the lines that pass the arguments from the caller's slots to the callee's first slots.
     fn arguments(
         &mut self,
         caller: &Frame,
@@ -128,7 +130,7 @@ impl Emitter {
         Ok(())
     }
 
-    /// Ends the run if no further call is allowed.
+    /// Emits the lines that end the run if no further call is allowed.
     pub(crate) fn test_room(&mut self, here: usize) -> Result<(), AllocError>
         requires { here ≤ most_lines + MOST_FRAME_WORDS }
         ensures { AddsLines result self.old self.new (room_code here) }
@@ -137,7 +139,7 @@ impl Emitter {
         self.ordinary(&[small(SERVICE, END_FULL as u16), syscall()])
     }
 
-    /// Emits a call of the function whose first line has this label.
+    /// Emits the lines that call the function whose first line has this label.
     pub(crate) fn call(
         &mut self,
         caller: &Frame,
@@ -158,7 +160,7 @@ impl Emitter {
         self.line(Line::Call { label })
     }
 
-    /// Writes registers to the slots from `slot` on.
+    /// Emits the lines that write registers to the slots from `slot` on.
     fn store_all(&mut self, frame: &Frame, slot: usize, sources: &[u8]) -> Result<(), AllocError>
         requires { AreReached frame.now slot (length sources.now) }
         ensures { AddsLines result self.old self.new (ordinary (store_all frame.now slot sources.now)) }
@@ -171,7 +173,7 @@ impl Emitter {
         Ok(())
     }
 
-    /// Loads the slots from `slot` on into registers.
+    /// Emits the lines that load the slots from `slot` on into registers.
     fn load_all(&mut self, frame: &Frame, slot: usize, targets: &[u8]) -> Result<(), AllocError>
         requires { AreReached frame.now slot (length targets.now) }
         ensures { AddsLines result self.old self.new (ordinary (load_all frame.now slot targets.now)) }
@@ -184,7 +186,8 @@ impl Emitter {
         Ok(())
     }
 
-    /// Loads the slots from `slot` on, which are in memory only, into registers.
+    /// Emits the lines that load the slots from `slot` on, which are in memory only, into
+    /// registers.
     fn load_words(&mut self, frame: &Frame, slot: usize, targets: &[u8]) -> Result<(), AllocError>
         requires { AreReached frame.now slot (length targets.now) }
         ensures { AddsLines result self.old self.new (ordinary (load_words frame.now slot targets.now)) }
@@ -197,7 +200,7 @@ impl Emitter {
         Ok(())
     }
 
-    /// Copies words from slots to slots, one by one.
+    /// Emits the lines that copy words from slots to slots, one by one.
     fn move_each(
         &mut self,
         frame: &Frame,
@@ -218,7 +221,8 @@ impl Emitter {
         Ok(())
     }
 
-    /// Copies words from slots to slots, loading all words before the first is written.
+    /// Emits the lines that copy words from slots to slots, loading all words before the first is
+    /// written.
     fn move_all(
         &mut self,
         frame: &Frame,
@@ -235,7 +239,7 @@ impl Emitter {
         self.store_all(frame, destination, &RESULTS[..count])
     }
 
-    /// Copies words from slots to slots.
+    /// Emits the lines that copy words from slots to slots.
     pub(crate) fn move_words(
         &mut self,
         frame: &Frame,
@@ -255,7 +259,7 @@ impl Emitter {
         }
     }
 
-    /// Moves the results of a call to the caller's slots.
+    /// Emits the lines that move the results of a call to the caller's slots.
     pub(crate) fn returned(
         &mut self,
         frame: &Frame,
@@ -271,7 +275,8 @@ impl Emitter {
         self.reloads(frame)
     }
 
-    /// Saves the return address in the frame, at the entry of a function that overwrites its register.
+    /// Emits the line that saves the return address in the frame, at the entry of a function that
+    /// overwrites the return address register.
     fn keep_way(&mut self, frame: &Frame) -> Result<(), AllocError>
         requires { frame.now.return_address ≤ MOST_FRAME_WORDS }
         ensures { AddsLines result self.old self.new (ordinary (way_code frame.now)) }
@@ -282,7 +287,7 @@ impl Emitter {
         self.ordinary(&[store(RETURN_ADDRESS, offset_of(frame.return_address))])
     }
 
-    /// Saves the callee-saved registers that the function uses in the frame.
+    /// Emits the lines that save in the frame the callee-saved registers that the function uses.
     fn saves(&mut self, frame: &Frame) -> Result<(), AllocError>
         requires few { frame.now.saved ≤ MOST_SAVED }
         requires inside { frame.now.first_saved ≤ MOST_FRAME_WORDS }
@@ -294,7 +299,7 @@ impl Emitter {
         Ok(())
     }
 
-    /// Restores the callee-saved registers from the frame.
+    /// Emits the lines that restore the callee-saved registers from the frame.
     fn restores(&mut self, frame: &Frame) -> Result<(), AllocError>
         requires few { frame.now.saved ≤ MOST_SAVED }
         requires inside { frame.now.first_saved ≤ MOST_FRAME_WORDS }
@@ -306,7 +311,8 @@ impl Emitter {
         Ok(())
     }
 
-    /// Emits the lines at a function's entry: saves of registers, then loads of the parameters that belong in them.
+    /// Emits the lines at a function's entry: they save registers, then load the parameters that belong in these
+    /// registers.
     pub(crate) fn saving(&mut self, frame: &Frame) -> Result<(), AllocError>
         requires return_address { frame.now.return_address ≤ MOST_FRAME_WORDS }
         requires few { frame.now.saved ≤ MOST_SAVED }
@@ -319,7 +325,7 @@ impl Emitter {
         self.arrivals(frame)
     }
 
-    /// Restores the return address from the frame, when the function returns.
+    /// Emits the line that restores the return address from the frame when the function returns.
     fn restoring(&mut self, frame: &Frame) -> Result<(), AllocError>
         requires { frame.now.return_address ≤ MOST_FRAME_WORDS }
         ensures { AddsLines result self.old self.new (ordinary (restoring_code frame.now)) }
@@ -330,7 +336,7 @@ impl Emitter {
         self.ordinary(&[load(RETURN_ADDRESS, offset_of(frame.return_address))])
     }
 
-    /// Ends the run if the return is that of the first call of `main`.
+    /// Emits the lines that end the run if the return is that of the first call of `main`.
     fn ending(
         &mut self,
         is_main: bool,

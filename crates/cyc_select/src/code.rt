@@ -1,43 +1,44 @@
-//! Labelled code: machine code before addresses are assigned.
+//! Labelled code is machine code before addresses are assigned: its branches name line numbers.
 ghost use Rattle.std.specs.Prelude.{◌≡◌};
 ghost use Rattle.cyc_select.specs.inside.Labelled.{IsCode};
 
 use cyc_isa::{BranchOp, BranchZeroOp, Instr, Register};
 use std::marker::Model;
 
-/// The condition of a branch.
+/// The condition of a branch in labelled code.
 #[derive(Clone, Copy, Debug, PartialEq, Eq)]
 pub enum Condition {
-    /// Two registers are equal, or they differ.
+    /// Holds if two registers are equal, or if they differ, as `op` says.
     Registers {
         op: BranchOp,
         left: Register,
         right: Register,
     },
-    /// The sign of a register's word.
+    /// Compares a register's word with 0, that is, tests its sign.
     Sign {
         op: BranchZeroOp,
         source: Register,
     },
 }
 
-/// A line of labelled code. A label is the number of the line that it marks, so each label marks one line.
+/// A line of labelled code. The number of a line serves as its label.
 #[derive(Clone, Copy, Debug, PartialEq, Eq)]
 pub enum Line {
-    /// An instruction that is neither a branch nor a jump.
+    /// Executes an instruction that is neither a branch nor a jump.
     Ordinary { instruction: Instr },
-    /// Continues at the line of the label if the condition holds.
+    /// Branches to the line of the label if the condition holds.
     Branch { condition: Condition, label: usize },
     /// Jumps to the line of the label.
     Jump { label: usize },
-    /// Continues at the line of the label, with the address of the next line in register 31.
+    /// Calls a function: writes the address of the next line to register 31 and jumps to the line
+    /// of the label.
     Call { label: usize },
-    /// Continues at the line whose address is in register 31.
+    /// Returns from a function: jumps to the line whose address is in register 31.
     Return,
 }
 
-/// A program as labelled code, well-formed and small enough for the machine's memory. The code that constructs a `Code` proves this, and
-/// every user may rely on it.
+/// A program as labelled code, well-formed and small enough for the machine's memory. The code that constructs a `Code` proves this
+/// invariant, and every user may rely on it.
 #[derive(Drop)]
 pub struct Code {
     lines: Vec<Line>,
@@ -62,7 +63,7 @@ impl Code {
         Code { lines, globals }
     }
 
-    /// Returns the lines. Execution starts at the first line.
+    /// Returns the lines of the program. Execution starts at the first line.
     pub fn lines(&self) -> &[Line]
         ensures value { result.now ≡ self.now.lines }
         ensures code { IsCode self.now }
@@ -70,7 +71,8 @@ impl Code {
         &self.lines
     }
 
-    /// Returns the initial words of the machine's data range.
+    /// Returns the words with which the machine's data range begins: the initial values of the
+    /// globals.
     pub fn globals(&self) -> &[u32]
         ensures value { result.now ≡ self.now.globals }
         ensures code { IsCode self.now }

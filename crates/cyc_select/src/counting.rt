@@ -1,4 +1,4 @@
-//! Counts the lines of each instruction and numbers them.
+//! Counts the lines of each instruction, and numbers all lines of the program.
 ghost use Rattle.std.specs.Prelude.{◌≡◌, ◌+◌, ◌*◌, ◌<◌, ◌≤◌, length, map, sum_by, All, IfOk};
 ghost use Rattle.cyc_plain.specs.inside.Program.{routine_of, routine_at, instruction_size, size};
 ghost use Rattle.cyc_plain.specs.inside.WellFormed.{IsPlain, IsInRange};
@@ -30,7 +30,7 @@ use cyc_plain::{
 use cyc_registers::is_crossing;
 use std::alloc::{AllocError, Global};
 
-/// Returns the number of words that a function returns.
+/// Returns the number of result words of a function.
 pub(crate) fn results_of(plain: &Plain, function: usize) -> usize
     requires { function < length plain.now.functions }
     ensures { result ≡ (routine_at plain.now function).results }
@@ -80,7 +80,7 @@ fn operator_count(frame: &Frame, operator: BinaryOperator, parts: Parts) -> usiz
     }
 }
 
-/// Returns the number of lines of a move of several words, one by one.
+/// Returns the number of lines of a move that copies several words one by one.
 #[tactic(auto, using(crate::proofs::emission::Counts::moves_next))]
 fn moves_count(frame: &Frame, destination: usize, source: usize, count: usize) -> usize
     requires few { count ≤ GREATEST_VALUE }
@@ -122,7 +122,7 @@ fn spill_count(caller: &Frame, callee: &Frame, source: usize, slot: usize) -> us
     }
 }
 
-/// Returns the number of lines before a call that store to memory the slots passed from there.
+/// Returns the number of lines before a call that store to memory the slots passed from memory.
 #[tactic(auto, using(crate::proofs::emission::Counts::spills_next))]
 pub(crate) fn spills_count(caller: &Frame, callee: &Frame, source: usize, count: usize) -> usize
     requires { source + count ≤ MOST_FRAME_WORDS }
@@ -160,7 +160,7 @@ fn copies_count(caller: &Frame, callee: &Frame, source: usize, count: usize) -> 
     lines
 }
 
-/// Returns the number of lines of a call up to the jump to the callee.
+/// Returns the number of lines of a call from its first line to the jump to the callee.
 fn call_count(caller: &Frame, callee: &Frame, arguments: usize, count: usize) -> usize
     requires { arguments + count ≤ MOST_FRAME_WORDS }
     ensures { result ≡ spills_count caller.now (coming callee.now) arguments 0 count + 5 + copies_count caller.now (coming callee.now) arguments 0 count }
@@ -170,7 +170,8 @@ fn call_count(caller: &Frame, callee: &Frame, arguments: usize, count: usize) ->
         + copies_count(caller, callee, arguments, count)
 }
 
-/// Returns 1 if the function saves its return address, which takes one line at the entry and one at each return, else 0.
+/// Returns 1 if the function saves its return address, otherwise 0. The save takes one line at the entry and one at each
+/// return.
 pub(crate) fn way_count(frame: &Frame) -> usize
     ensures value { result ≡ way_count frame.now }
     ensures few { result ≤ 1 }
@@ -188,7 +189,7 @@ pub(crate) fn saving_count(frame: &Frame) -> usize
     way_count(frame) + (frame.saved + arrival_count(frame))
 }
 
-/// Returns the number of lines of a return.
+/// Returns the number of lines of a return instruction.
 fn return_count(plain: &Plain, frames: &[Frame], function: usize) -> usize
     requires fit { AreFrames plain.now frames.now }
     requires function { function < length plain.now.functions }
@@ -300,7 +301,7 @@ fn body_count(plain: &Plain, frames: &[Frame], function: usize, instruction: Ins
     }
 }
 
-/// Returns the number of lines that follow a call, executed after it returns.
+/// Returns the number of lines that follow a call and are executed after it returns.
 fn after_count(plain: &Plain, frames: &[Frame], function: usize, instruction: Instruction) -> usize
     requires fit { AreFrames plain.now frames.now }
     requires function { function < length plain.now.functions }
@@ -315,7 +316,8 @@ fn after_count(plain: &Plain, frames: &[Frame], function: usize, instruction: In
     }
 }
 
-/// Returns true if the place at `index` has no lines. Only an instruction that always continues with the next one may be idle.
+/// Returns true if the instruction at `index` has no lines. Only an instruction that always continues with the next one may be
+/// idle.
 pub(crate) fn is_idle(frame: &Frame, index: usize, instruction: Instruction) -> bool
     ensures { result ≡ is_idle frame.now index instruction }
 {
@@ -330,7 +332,7 @@ pub(crate) fn is_idle(frame: &Frame, index: usize, instruction: Instruction) -> 
     }
 }
 
-/// Returns the number of lines of the instruction at `index`.
+/// Returns the number of lines of the instruction at `index`, including those that follow a call.
 fn count_of(
     plain: &Plain,
     frames: &[Frame],
@@ -354,14 +356,16 @@ fn count_of(
     }
 }
 
-/// The line numbers of a function's instructions, and the number of the line after its last one.
+/// The line numbers of a function's instructions, and the number of the line after the function's
+/// last one.
 #[derive(Drop)]
 struct Counted {
     lines: Vec<usize>,
     following: usize,
 }
 
-/// Returns the number of the first line of each instruction, if the first one begins at `here`.
+/// Returns the number of the first line of each instruction of a function, if the first instruction
+/// begins at line `here`.
 fn instruction_lines(
     alloc: Global,
     plain: &Plain,
@@ -391,7 +395,8 @@ fn instruction_lines(
     })
 }
 
-/// Returns the line numbers of a function that begins at this line, and the number of the line after its last one.
+/// Returns the line numbers of a function that begins at this line, and the number of the line after the
+/// function's last one.
 fn function_lines(
     alloc: Global,
     plain: &Plain,
@@ -417,14 +422,15 @@ fn function_lines(
     )
 }
 
-/// The line numbers of all functions, and the number of the line after the last one.
+/// The line numbers of all functions, and the number of the line after the last function.
 #[derive(Drop)]
 pub(crate) struct Numbered {
     pub(crate) functions: Vec<FunctionLines>,
     pub(crate) following: usize,
 }
 
-/// Returns the line numbers of all functions. Only this function counts the lines of instructions.
+/// Returns the line numbers of all functions of a program. Only `number_lines` counts the lines of
+/// instructions.
 pub(crate) fn number_lines(
     alloc: Global,
     plain: &Plain,

@@ -1,4 +1,4 @@
-//! The lines emitted so far.
+//! The emitter, which holds the lines emitted so far.
 ghost use Rattle.std.specs.Prelude.{◌≡◌, [], ◌∷◌, IfOk, OnOk};
 ghost use Rattle.cyc_isa.specs.Decoding.{register_of};
 ghost use Rattle.cyc_select.specs.declared.code.Condition.TheVariants as conditions;
@@ -11,14 +11,14 @@ use crate::instructions::register;
 use cyc_isa::{BranchOp, Instr};
 use std::alloc::{AllocError, Global};
 
-/// The lines of a program, as far as they are emitted.
+/// The lines of a program that have been emitted so far.
 #[derive(Drop)]
 pub(crate) struct Emitter {
     pub(crate) lines: Vec<Line>,
 }
 
 impl Emitter {
-    /// Returns an emitter without lines, with room for `room` lines.
+    /// Returns an emitter without lines, with capacity for `room` lines.
     pub(crate) fn new(alloc: Global, room: usize) -> Result<Emitter, AllocError>
         ensures { IfOk result (λ emitter. emitter.lines.items ≡ []) }
     {
@@ -35,7 +35,7 @@ impl Emitter {
         Ok(())
     }
 
-    /// Appends a branch on two registers to a label.
+    /// Appends a branch to a label that compares two registers.
     pub(crate) fn branch(
         &mut self,
         op: BranchOp,
@@ -53,7 +53,7 @@ impl Emitter {
         self.line(Line::Branch { condition, label })
     }
 
-    /// Appends lines of one instruction each.
+    /// Appends one line for each of these instructions.
     pub(crate) fn ordinary(&mut self, instructions: &[Instr]) -> Result<(), AllocError>
         ensures { AddsLines result self.old self.new (ordinary instructions.now) }
     {

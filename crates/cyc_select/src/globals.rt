@@ -1,4 +1,5 @@
-//! Access to globals. The first ones are reached from a base register; any other needs the upper half of its address in a register.
+//! Access to globals. The first globals are reached from a base register; each other one needs the upper half of its address in a
+//! register.
 ghost use Rattle.std.specs.Prelude.{◌≡◌, ◌<◌};
 ghost use Rattle.cyc_select.specs.inside.Slots.{is_near, upper_of_global, reach_code, at_global};
 ghost use Rattle.cyc_select.specs.inside.Operands.{reach_count};
@@ -22,14 +23,16 @@ fn is_near(global: usize) -> bool
     global < NEAR_GLOBALS
 }
 
-/// Returns the number of instructions that load the base address for a global.
+/// Returns the number of instructions that load the base address for a global: 0 if a register
+/// holds it.
 pub(crate) fn reach_count(global: usize) -> usize
     ensures { result ≡ reach_count global }
 {
     if is_near(global) { 0 } else { 1 }
 }
 
-/// Returns the instruction that loads the upper half of a global's address, for a sign-extended offset.
+/// Returns the instruction that loads the upper half of a global's address, to which a sign-extended
+/// offset is added.
 fn upper_of_global(global: usize) -> Instr
     requires { global < MOST_GLOBALS }
     ensures { result ≡ upper_of_global global }
@@ -41,7 +44,7 @@ fn upper_of_global(global: usize) -> Instr
     }
 }
 
-/// Returns the load or store of a global whose base address is in a register.
+/// Returns the instruction that loads or stores a global whose base address is in a register.
 fn at_global(op: MemoryOp, target: u8, global: usize) -> Instr
     requires { global < MOST_GLOBALS }
     ensures { result ≡ at_global op target global }
@@ -61,7 +64,7 @@ fn at_global(op: MemoryOp, target: u8, global: usize) -> Instr
 }
 
 impl Emitter {
-    /// Loads the base address for a global, if no register holds that address.
+    /// Emits the load of the base address for a global, if no register holds this address.
     fn reach(&mut self, global: usize) -> Result<(), AllocError>
         requires { global < MOST_GLOBALS }
         ensures { AddsLines result self.old self.new (ordinary (reach_code global)) }
@@ -73,7 +76,7 @@ impl Emitter {
         }
     }
 
-    /// Emits the load of a global into a slot.
+    /// Emits the lines that load a global into a slot.
     pub(crate) fn load_global(
         &mut self,
         frame: &Frame,
@@ -90,7 +93,7 @@ impl Emitter {
         self.keep(frame, destination)
     }
 
-    /// Emits the store of an operand in a global.
+    /// Emits the lines that store an operand in a global.
     pub(crate) fn store_global(
         &mut self,
         frame: &Frame,

@@ -1,4 +1,4 @@
-//! Emits the lines of handlers and of thrown exceptions.
+//! Emits the lines of exception handlers and of thrown exceptions.
 ghost use Rattle.std.specs.Prelude.{◌≡◌, suc, ◌+◌, ◌*◌, ◌<◌, ◌≤◌, [], ◌∷◌, length, OnOk};
 ghost use Rattle.cyc_plain.specs.declared.limits.TheConstants.{RECORD_WORDS};
 ghost use Rattle.cyc_registers.specs.declared.home.TheConstants.{MOST_BOTH};
@@ -22,7 +22,7 @@ use cyc_machine_model::constants::{
 use cyc_plain::{Operand, RECORD_WORDS};
 use std::alloc::AllocError;
 
-/// Returns the load of a word of the newest handler's record into a register.
+/// Returns the instruction that loads a word of the newest handler's record into a register.
 fn load_record(target: u8, offset: u16) -> Instr
     ensures { result ≡ load_record target offset }
 {
@@ -35,7 +35,8 @@ fn load_record(target: u8, offset: u16) -> Instr
 }
 
 impl Emitter {
-    /// Fills the fields of a record, except the line at which an exception arrives.
+    /// Emits the lines that fill the fields of a handler's record, except the line at which an
+    /// exception arrives.
     fn recorded(&mut self, frame: &Frame, first: usize) -> Result<(), AllocError>
         requires { AreReached frame.now first RECORD_WORDS }
         ensures { AddsLines result self.old self.new (ordinary (recorded_code frame.now first)) }
@@ -46,7 +47,8 @@ impl Emitter {
         ])
     }
 
-    /// Stores an exception's tag and value in the record of the handler that it reaches.
+    /// Emits the lines that store an exception's tag and value in the record of the handler that it
+    /// reaches.
     fn landed(&mut self, frame: &Frame, first: usize) -> Result<(), AllocError>
         requires { AreReached frame.now first RECORD_WORDS }
         ensures { AddsLines result self.old self.new (ordinary (store_slot frame.now ARGUMENT first ∷ store_slot frame.now SECOND_ARGUMENT (suc first) ∷ [])) }
@@ -67,7 +69,8 @@ impl Emitter {
         self.reloads(frame)
     }
 
-    /// Fills the other words of a handler's record and makes the record the newest one.
+    /// Emits the lines that fill the other words of a handler's record and make it the newest
+    /// record.
     fn opened(&mut self, frame: &Frame, first: usize) -> Result<(), AllocError>
         requires { AreReached frame.now first RECORD_WORDS }
         ensures { AddsLines result self.old self.new (ordinary (opened_code frame.now first)) }
@@ -78,7 +81,7 @@ impl Emitter {
         ])
     }
 
-    /// Emits the opening of a handler, whose first line has this label.
+    /// Emits the lines that open a handler, whose first line has this label.
     pub(crate) fn open_handler(
         &mut self,
         frame: &Frame,
@@ -101,7 +104,7 @@ impl Emitter {
         self.opened(frame, first)
     }
 
-    /// Emits the closing of the handler with this record.
+    /// Emits the line that closes the handler with this record.
     pub(crate) fn leave(&mut self, frame: &Frame, first: usize) -> Result<(), AllocError>
         requires target { AreReached frame.now first RECORD_WORDS }
         ensures { AddsLines result self.old self.new (ordinary (load HANDLERS (slot_offset frame.now first) ∷ [])) }
@@ -109,7 +112,7 @@ impl Emitter {
         self.ordinary(&[load_word(frame, HANDLERS, first)])
     }
 
-    /// Restores the frame of the newest handler's call.
+    /// Emits the lines that restore the frame of the call whose handler is the newest.
     fn unwound(&mut self) -> Result<(), AllocError>
         ensures { AddsLines result self.old self.new (ordinary unwound_code) }
     {
@@ -120,7 +123,7 @@ impl Emitter {
         ])
     }
 
-    /// Emits the throw of an exception.
+    /// Emits the lines that throw an exception.
     pub(crate) fn throw(
         &mut self,
         frame: &Frame,

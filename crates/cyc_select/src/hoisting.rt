@@ -1,4 +1,4 @@
-//! Hoists the first line of a branch target before the branch.
+//! Hoists the first line of a branch target before the branch, to fill the branch's delay slot.
 ghost use Rattle.std.specs.Prelude.{◌≡◌, ◌+◌, ◌≤◌, slice_get};
 ghost use Rattle.cyc_select.specs.inside.Slots.{value_register, is_own};
 ghost use Rattle.cyc_select.specs.inside.Operands.{test_count};
@@ -22,7 +22,7 @@ use cyc_isa::Instr;
 use cyc_machine_model::constants::{ARGUMENT, GET_BYTE, SERVICE};
 use cyc_plain::{Instruction, Operand};
 
-/// Returns the first line that loads a word into a register.
+/// Returns the first line of the code that loads a word into a register.
 fn word_first(target: u8, word: u32) -> Instr
     ensures { result ≡ word_first target word }
 {
@@ -35,7 +35,8 @@ fn word_first(target: u8, word: u32) -> Instr
     }
 }
 
-/// Returns the first line that loads an operand into a register, or else `following`. None if the line reads memory.
+/// Returns the first line that loads an operand into a register, or `following` if no line is needed. Returns `None`
+/// if the line reads memory.
 fn operand_first(
     frame: &Frame,
     register: u8,
@@ -59,7 +60,7 @@ fn operand_first(
     }
 }
 
-/// Returns the first line that loads two operands, or else `following`.
+/// Returns the first line that loads two operands, or `following` if no load is needed.
 fn operands_first(
     frame: &Frame,
     left: Operand,
@@ -76,7 +77,7 @@ fn operands_first(
     )
 }
 
-/// Returns the instruction of an operation that computes a word in one line.
+/// Returns the instruction of an operation that computes its word in one line, otherwise `None`.
 fn operation_first(operation: Operation, target: u8, left: u8, right: u8) -> Option<Instr>
     ensures { result ≡ operation_first operation target left right }
 {
@@ -89,7 +90,7 @@ fn operation_first(operation: Operation, target: u8, left: u8, right: u8) -> Opt
     }
 }
 
-/// Returns the first line of a plan whose word is computed in this register.
+/// Returns the first line of the code of a plan, whose result is computed in this register.
 fn plan_first(frame: &Frame, target: u8, plan: Plan) -> Option<Instr>
     ensures { result ≡ plan_first frame.now target plan }
 {
@@ -99,7 +100,7 @@ fn plan_first(frame: &Frame, target: u8, plan: Plan) -> Option<Instr>
     operands_first(frame, plan.left, plan.right, computed)
 }
 
-/// Returns the first line of a tested division.
+/// Returns the first line of the code of a division with a test of its divisor.
 fn divided_first(frame: &Frame, left: Operand, right: Operand) -> Option<Instr>
     ensures { result ≡ divided_first frame.now left right }
 {
@@ -107,7 +108,7 @@ fn divided_first(frame: &Frame, left: Operand, right: Operand) -> Option<Instr>
     operands_first(frame, left, right, Some(following))
 }
 
-/// Returns the first line of a branch's test.
+/// Returns the first line of the code that computes a branch's test.
 fn test_first(frame: &Frame, test: Test) -> Option<Instr>
     ensures { result ≡ test_first frame.now test }
 {
@@ -118,7 +119,7 @@ fn test_first(frame: &Frame, test: Test) -> Option<Instr>
     }
 }
 
-/// Returns the first line that loads an operand into the register of a slot.
+/// Returns the first line of the code that loads an operand into the register of a slot.
 fn load_first(frame: &Frame, register: u8, operand: Operand) -> Option<Instr>
     ensures { result ≡ load_first frame.now register operand }
 {
@@ -131,7 +132,7 @@ fn load_first(frame: &Frame, register: u8, operand: Operand) -> Option<Instr>
     }
 }
 
-/// Returns the first line that copies an operand into a slot.
+/// Returns the first line of the code that copies an operand to a slot.
 fn move_first(frame: &Frame, destination: usize, source: Operand) -> Option<Instr>
     ensures { result ≡ move_first (value_register frame.now destination) frame.now source }
 {
@@ -141,8 +142,8 @@ fn move_first(frame: &Frame, destination: usize, source: Operand) -> Option<Inst
     }
 }
 
-/// Returns the first line of an instruction, if it computes a register from registers. More lines must follow, or the instruction must lead
-/// only to the next one.
+/// Returns the first line of an instruction if it may be hoisted: the line computes a register from registers, and more lines follow or
+/// control passes only to the next instruction.
 fn first_line(frame: &Frame, instruction: Instruction) -> Option<Instr>
     ensures { result ≡ first_line frame.now instruction }
 {
@@ -197,7 +198,8 @@ fn given_register(frame: &Frame, instruction: Instruction) -> Option<u8>
     }
 }
 
-/// Returns the register of the slot that an instruction computes, if the frame allows the place to fill delay slots.
+/// Returns the register of the slot that an instruction computes, if the frame permits this instruction's first line
+/// to fill delay slots.
 fn own_register(frame: &Frame, target: usize, instruction: Instruction) -> Option<u8>
     ensures { result ≡ own_register frame.now target instruction }
 {
@@ -208,7 +210,7 @@ fn own_register(frame: &Frame, target: usize, instruction: Instruction) -> Optio
     }
 }
 
-/// Returns the register that an instruction computes from registers only.
+/// Returns the register that an instruction computes, if it reads registers only.
 fn target_of(instruction: Instr) -> Option<u8>
     ensures { result ≡ target_of instruction }
 {
@@ -232,7 +234,7 @@ fn tests_register(condition: Condition, register: u8) -> bool
     }
 }
 
-/// Returns true for a temporary register: no slot has it, and its word is not used later.
+/// Returns true if a register is temporary: no slot has it, and its word is not used later.
 fn is_spare(register: u8) -> bool
     ensures { result ≡ is_spare register }
 {
@@ -248,8 +250,8 @@ fn is_own(own: Option<u8>, register: u8) -> bool
     }
 }
 
-/// Returns true if a line that writes this register may stand before the branch: it writes a temporary or `own`, and the branch does not
-/// test it.
+/// Returns true if a line that writes the register `target` may stand before the branch: `target` is a temporary or `own`, and the
+/// branch does not test `target`.
 fn may_write(condition: Condition, own: Option<u8>, target: Option<u8>) -> bool
     ensures { result ≡ may_write condition own target }
 {
@@ -261,7 +263,7 @@ fn may_write(condition: Condition, own: Option<u8>, target: Option<u8>) -> bool
     }
 }
 
-/// Returns a line if it may stand before the branch.
+/// Returns the line if it may stand before the branch, otherwise `None`.
 fn copied_if(condition: Condition, own: Option<u8>, first: Option<Instr>) -> Option<Instr>
     ensures { result ≡ copied_if condition own first }
 {
@@ -277,7 +279,8 @@ fn copied_if(condition: Condition, own: Option<u8>, first: Option<Instr>) -> Opt
     }
 }
 
-/// Returns the line hoisted before a branch with this test to this place: the first line of the place, if allowed.
+/// Returns the line hoisted before a branch with this test: the first line of the target instruction, if it may
+/// stand before the branch.
 pub(crate) fn hoisted(
     frame: &Frame,
     code: &[Instruction],
@@ -300,7 +303,7 @@ pub(crate) fn hoisted(
     }
 }
 
-/// Returns the number of lines of a branch.
+/// Returns the number of lines of a branch, including its test and the hoisted line.
 pub(crate) fn branch_count(frame: &Frame, code: &[Instruction], test: Test, target: usize) -> usize
     ensures { result ≡ test_count frame.now test + hoisted_count (hoisted frame.now code.now test target) + 1 }
 {

@@ -1,4 +1,4 @@
-//! Single instructions of the machine, named by their use.
+//! Single machine instructions, named by the use that emitted code makes of them.
 ghost use Rattle.std.specs.Prelude.{◌≡◌, ◌+◌, ◌*◌, ◌<◌, ◌≤◌};
 ghost use Rattle.cyc_isa.specs.Decoding.{register_of, shift_amount_of, trap_code_of};
 ghost use Rattle.cyc_select.specs.inside.Instructions.{load, store, copy, slot_offset, store_slot, add_immediate, small, minus, is_zero, syscall};
@@ -15,7 +15,7 @@ use cyc_isa::{
 };
 use cyc_plain::MOST_FRAME_WORDS;
 
-/// Returns the register of this number, taken modulo 32.
+/// Returns the register with this number, taken modulo 32.
 pub(crate) fn register(number: u8) -> Register
     ensures { result ≡ register_of number }
 {
@@ -24,7 +24,7 @@ pub(crate) fn register(number: u8) -> Register
     }
 }
 
-/// Returns this shift amount, taken modulo 32.
+/// Returns the shift amount `number`, taken modulo 32.
 pub(crate) fn shift_amount(number: u8) -> ShiftAmount
     ensures { result ≡ shift_amount_of number }
 {
@@ -39,7 +39,7 @@ pub(crate) fn offset_of(word: usize) -> u16
     (4 * word) as u16
 }
 
-/// Returns the 16-bit immediate of a negative number, given its absolute value.
+/// Returns the 16-bit immediate of the negative of `number`.
 pub(crate) fn minus(number: u16) -> u16
     requires { 0 < number }
     ensures { result ≡ minus number }
@@ -47,7 +47,7 @@ pub(crate) fn minus(number: u16) -> u16
     u16::MAX - number + 1
 }
 
-/// Returns the load of a word at an offset from the frame's address.
+/// Returns the instruction that loads the word at an offset from the frame pointer.
 pub(crate) fn load(target: u8, offset: u16) -> Instr
     ensures { result ≡ load target offset }
 {
@@ -59,7 +59,7 @@ pub(crate) fn load(target: u8, offset: u16) -> Instr
     }
 }
 
-/// Returns the store of a register to a word of memory.
+/// Returns the instruction that stores a register to the word at an offset from the frame pointer.
 pub(crate) fn store(source: u8, offset: u16) -> Instr
     ensures { result ≡ store source offset }
 {
@@ -71,7 +71,7 @@ pub(crate) fn store(source: u8, offset: u16) -> Instr
     }
 }
 
-/// Returns the copy of a register into another one.
+/// Returns the instruction that copies a register to another one.
 pub(crate) fn copy(target: u8, source: u8) -> Instr
     ensures { result ≡ copy target source }
 {
@@ -83,7 +83,7 @@ pub(crate) fn copy(target: u8, source: u8) -> Instr
     }
 }
 
-/// Returns the load of a slot's word from the current frame into a register.
+/// Returns the instruction that loads a slot's word from the current frame into a register.
 pub(crate) fn load_word(frame: &Frame, target: u8, slot: usize) -> Instr
     requires { IsReached frame.now slot }
     ensures { result ≡ load target (slot_offset frame.now slot) }
@@ -91,7 +91,8 @@ pub(crate) fn load_word(frame: &Frame, target: u8, slot: usize) -> Instr
     load(target, offset_of(frame.first_slot + slot))
 }
 
-/// Returns the load of a slot's word into a register, from the slot's register or from the current frame.
+/// Returns the instruction that loads a slot's word into a register, from the slot's register or from the
+/// current frame.
 pub(crate) fn load_slot(frame: &Frame, target: u8, slot: usize) -> Instr
     requires { IsReached frame.now slot }
     ensures { result ≡ load_slot frame.now target slot }
@@ -102,7 +103,7 @@ pub(crate) fn load_slot(frame: &Frame, target: u8, slot: usize) -> Instr
     }
 }
 
-/// Returns the store of a register to a slot of the current frame.
+/// Returns the instruction that stores a register to a slot of the current frame.
 pub(crate) fn store_slot(frame: &Frame, source: u8, slot: usize) -> Instr
     requires { IsReached frame.now slot }
     ensures { result ≡ store_slot frame.now source slot }
@@ -110,7 +111,7 @@ pub(crate) fn store_slot(frame: &Frame, source: u8, slot: usize) -> Instr
     store(source, offset_of(frame.first_slot + slot))
 }
 
-/// Returns the addition of an immediate to a register.
+/// Returns the instruction that adds an immediate to a register.
 pub(crate) fn add_immediate(target: u8, source: u8, half: u16) -> Instr
     ensures { result ≡ add_immediate target source half }
 {
@@ -122,14 +123,14 @@ pub(crate) fn add_immediate(target: u8, source: u8, half: u16) -> Instr
     }
 }
 
-/// Returns the load of a small non-negative number.
+/// Returns the instruction that loads a small non-negative number into a register.
 pub(crate) fn small(target: u8, number: u16) -> Instr
     ensures { result ≡ small target number }
 {
     add_immediate(target, ZERO, number)
 }
 
-/// Returns the load of a zero-extended immediate.
+/// Returns the instruction that loads a zero-extended immediate into a register.
 pub(crate) fn or_immediate(target: u8, half: u16) -> Instr
     ensures { result ≡ or_immediate target half }
 {
@@ -141,7 +142,7 @@ pub(crate) fn or_immediate(target: u8, half: u16) -> Instr
     }
 }
 
-/// Returns the instruction that sets a register to 1 if it is 0, else to 0.
+/// Returns the instruction that sets a register to 1 if its word is 0, otherwise to 0.
 pub(crate) fn is_zero(number: u8) -> Instr
     ensures { result ≡ is_zero number }
 {
@@ -153,7 +154,7 @@ pub(crate) fn is_zero(number: u8) -> Instr
     }
 }
 
-/// Returns a system call.
+/// Returns the `syscall` instruction.
 pub(crate) fn syscall() -> Instr
     ensures { result ≡ syscall }
 {
@@ -163,7 +164,7 @@ pub(crate) fn syscall() -> Instr
     }
 }
 
-/// Returns the load of the upper half of a word into a register.
+/// Returns the instruction that loads the upper half of a word into a register.
 pub(crate) fn load_upper(target: u8, word: u32) -> Instr
     ensures { result ≡ load_upper target word }
 {
@@ -173,7 +174,8 @@ pub(crate) fn load_upper(target: u8, word: u32) -> Instr
     }
 }
 
-/// Returns the addition of the lower half of a word to a register that has the upper one.
+/// Returns the instruction that adds the lower half of a word to a register that holds the upper
+/// half.
 pub(crate) fn or_lower(target: u8, word: u32) -> Instr
     ensures { result ≡ or_lower target word }
 {

@@ -1,4 +1,5 @@
-//! Instruction selection: translates the plain program to labelled machine code.
+//! Instruction selection translates the plain program (three-address code) to labelled machine
+//! code.
 #![tactic(auto)]
 
 mod asking;

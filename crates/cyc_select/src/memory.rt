@@ -16,7 +16,7 @@ use cyc_isa::{Instr, MemoryOp};
 use cyc_plain::Operand;
 use std::alloc::AllocError;
 
-/// Returns the register that the offset is relative to.
+/// Returns the register to which the offset in a load or store instruction is added.
 fn address_register(frame: &Frame, address: Operand, offset: u32) -> u8
     ensures { result ≡ address_register frame.now address offset }
 {
@@ -27,7 +27,8 @@ fn address_register(frame: &Frame, address: Operand, offset: u32) -> u8
     }
 }
 
-/// Returns the offset that is part of the instruction.
+/// Returns the offset that a load or store instruction contains: 0 if the offset is too large for
+/// it.
 fn near_half(offset: u32) -> u16
     ensures { result ≡ near_half offset }
 {
@@ -38,7 +39,8 @@ fn near_half(offset: u32) -> u16
     }
 }
 
-/// Returns the load of a word of memory into a register, or the store from one.
+/// Returns the instruction that loads a word of memory into a register or stores one from a
+/// register.
 fn at_address(frame: &Frame, op: MemoryOp, target: u8, address: Operand, offset: u32) -> Instr
     ensures { result ≡ at_address frame.now op target address offset }
 {
@@ -50,7 +52,7 @@ fn at_address(frame: &Frame, op: MemoryOp, target: u8, address: Operand, offset:
     }
 }
 
-/// Returns the number of lines that compute an address.
+/// Returns the number of lines that compute the address of a load or store.
 pub(crate) fn address_count(frame: &Frame, address: Operand, offset: u32) -> usize
     ensures value { result ≡ address_count frame.now address offset }
     ensures few { result ≤ 6 }
@@ -63,7 +65,8 @@ pub(crate) fn address_count(frame: &Frame, address: Operand, offset: u32) -> usi
 }
 
 impl Emitter {
-    /// Computes an address in a register, except for an offset that fits the instruction.
+    /// Emits the lines that compute an address in a register, without an offset that fits the load
+    /// or store instruction.
     fn address(&mut self, frame: &Frame, address: Operand, offset: u32) -> Result<(), AllocError>
         requires { IsFound frame.now address }
         ensures { AddsLines result self.old self.new (ordinary (address_code frame.now address offset)) }
@@ -74,7 +77,7 @@ impl Emitter {
         self.operation_of(frame, FIRST, far_plan(address, offset))
     }
 
-    /// Emits the write of a slot's address to a slot.
+    /// Emits the lines that write the address of a slot to another slot.
     pub(crate) fn address_of(
         &mut self,
         frame: &Frame,
@@ -91,7 +94,7 @@ impl Emitter {
         self.keep(frame, destination)
     }
 
-    /// Emits the load of a word or a byte of memory into a slot.
+    /// Emits the lines that load a word or a byte of memory into a slot.
     pub(crate) fn load_at(
         &mut self,
         frame: &Frame,
@@ -110,7 +113,7 @@ impl Emitter {
         self.keep(frame, destination)
     }
 
-    /// Emits the store of an operand in a word or a byte of memory.
+    /// Emits the lines that store an operand to a word or a byte of memory.
     pub(crate) fn store_at(
         &mut self,
         frame: &Frame,

@@ -1,4 +1,4 @@
-//! Numbers that fit the immediate field of an instruction.
+//! Decides which numbers fit the immediate field of an instruction.
 ghost use Rattle.std.specs.Prelude.{◌≡◌};
 ghost use Rattle.cyc_select.specs.inside.Numbers.{fits_signed, half_of, signed_half, negated_half, next_half, low_half, is_word, is_zero_word};
 ghost use Rattle.cyc_select.specs.inside.Numbers.{is_plain_divisor, shift_amount, power_of};
@@ -6,14 +6,14 @@ ghost use Rattle.cyc_select.specs.inside.Numbers.{is_plain_divisor, shift_amount
 use cyc_plain::Operand;
 use cyc_words::{add, sub};
 
-/// Returns true if a word equals its lower half sign-extended.
+/// Returns true if a word equals its sign-extended lower half.
 pub(crate) fn fits_signed(word: u32) -> bool
     ensures { result ≡ fits_signed word }
 {
     word < 0x8000 || 0xffff_8000 <= word
 }
 
-/// Returns the 16-bit immediate that sign-extends to this word.
+/// Returns the 16-bit immediate that sign-extends to this word, if one exists.
 fn half_of(word: u32) -> Option<u16>
     ensures { result ≡ half_of word }
 {
@@ -24,7 +24,7 @@ fn half_of(word: u32) -> Option<u16>
     }
 }
 
-/// Returns the sign-extended immediate for an operand's word.
+/// Returns the sign-extended immediate for a constant operand, if one exists.
 pub(crate) fn signed_half(operand: Operand) -> Option<u16>
     ensures { result ≡ signed_half operand }
 {
@@ -34,7 +34,7 @@ pub(crate) fn signed_half(operand: Operand) -> Option<u16>
     }
 }
 
-/// Returns the sign-extended immediate for the negation of an operand's word.
+/// Returns the sign-extended immediate for the negation of a constant operand, if one exists.
 pub(crate) fn negated_half(operand: Operand) -> Option<u16>
     ensures { result ≡ negated_half operand }
 {
@@ -44,7 +44,7 @@ pub(crate) fn negated_half(operand: Operand) -> Option<u16>
     }
 }
 
-/// Returns the sign-extended immediate for the successor of an operand's word.
+/// Returns the sign-extended immediate for the successor of a constant operand, if one exists.
 pub(crate) fn next_half(operand: Operand) -> Option<u16>
     ensures { result ≡ next_half operand }
 {
@@ -54,7 +54,7 @@ pub(crate) fn next_half(operand: Operand) -> Option<u16>
     }
 }
 
-/// Returns the zero-extended immediate for an operand's word.
+/// Returns the zero-extended immediate for a constant operand, if one exists.
 pub(crate) fn low_half(operand: Operand) -> Option<u16>
     ensures { result ≡ low_half operand }
 {
@@ -89,7 +89,7 @@ pub(crate) fn is_zero_word(operand: Operand) -> bool
     }
 }
 
-/// Returns true if an operand is a divisor by which the machine can divide every word.
+/// Returns true if an operand is a constant divisor by which the machine can divide every word.
 pub(crate) fn is_plain_divisor(operand: Operand) -> bool
     ensures { result ≡ is_plain_divisor operand }
 {
@@ -99,7 +99,7 @@ pub(crate) fn is_plain_divisor(operand: Operand) -> bool
     }
 }
 
-/// Returns the shift amount given by a constant operand.
+/// Returns the shift amount of a constant operand: its word modulo 32.
 pub(crate) fn shift_amount(operand: Operand) -> Option<u8>
     ensures { result ≡ shift_amount operand }
 {
@@ -109,7 +109,8 @@ pub(crate) fn shift_amount(operand: Operand) -> Option<u8>
     }
 }
 
-/// Returns the amount of the left shift that multiplies by an operand, if that is a constant power of two.
+/// Returns the amount of the left shift that multiplies by an operand, if the operand is a constant power
+/// of two.
 pub(crate) fn power_of(operand: Operand) -> Option<u8>
     ensures { result ≡ power_of operand }
 {

@@ -21,7 +21,7 @@ use cyc_plain::Operand;
 use cyc_registers::{FIRST_PRESERVED, Home};
 use std::alloc::AllocError;
 
-/// Returns the home of a slot.
+/// Returns the home of a slot: a register, memory, or both.
 fn home(frame: &Frame, slot: usize) -> Home
     ensures { result ≡ home_of frame.now.homes slot }
 {
@@ -41,7 +41,8 @@ pub(crate) fn value_register(frame: &Frame, slot: usize) -> Option<u8>
     }
 }
 
-/// Returns true if a slot's word in the frame holds its value.
+/// Returns true if a slot's value is also in its word of the frame, so that its home includes
+/// memory.
 pub(crate) fn is_kept(frame: &Frame, slot: usize) -> bool
     ensures { result ≡ is_kept frame.now slot }
 {
@@ -51,7 +52,7 @@ pub(crate) fn is_kept(frame: &Frame, slot: usize) -> bool
     }
 }
 
-/// Returns the register in which a slot's word is computed.
+/// Returns the register in which a slot's word is computed: the slot's own, or else a temporary.
 pub(crate) fn made_in(frame: &Frame, slot: usize) -> u8
     ensures { result ≡ made_in frame.now slot }
 {
@@ -61,7 +62,7 @@ pub(crate) fn made_in(frame: &Frame, slot: usize) -> u8
     }
 }
 
-/// Returns the home in which a parameter with this home arrives: memory if the home is a callee-saved register.
+/// Returns the home in which a parameter with this home arrives: memory if the home's register is callee-saved.
 fn coming_home(home: Home) -> Home
     ensures { result ≡ coming_home home }
 {
@@ -73,14 +74,15 @@ fn coming_home(home: Home) -> Home
     }
 }
 
-/// Returns the home in which the parameter at this slot arrives.
+/// Returns the home in which the parameter with this slot arrives: a register, memory, or both.
 fn home_coming(callee: &Frame, slot: usize) -> Home
     ensures { result ≡ home_of (coming callee.now).homes slot }
 {
     coming_home(home(callee, slot))
 }
 
-/// Returns the home into which a parameter that arrives in memory is loaded at the function's entry.
+/// Returns the home of a parameter that arrives in memory and is loaded into a register at the
+/// function's entry.
 fn arriving_home(home: Home) -> Home
     ensures { result ≡ arriving_home home }
 {
@@ -92,7 +94,7 @@ fn arriving_home(home: Home) -> Home
     }
 }
 
-/// Returns the home into which the parameter at this slot is loaded at the function's entry, if it is one.
+/// Returns the home into which the slot is loaded at the function's entry, if the slot is a parameter.
 fn home_arriving(frame: &Frame, slot: usize) -> Home
     ensures { result ≡ home_of (arriving frame.now) slot }
 {
@@ -112,7 +114,7 @@ fn register_coming(callee: &Frame, slot: usize) -> Option<u8>
     }
 }
 
-/// Returns true if a parameter arrives in memory, also or only.
+/// Returns true if a parameter arrives in memory, in addition to a register or not.
 fn is_kept_coming(callee: &Frame, slot: usize) -> bool
     ensures { result ≡ is_kept (coming callee.now) slot }
 {
@@ -122,7 +124,8 @@ fn is_kept_coming(callee: &Frame, slot: usize) -> bool
     }
 }
 
-/// Returns the register through which a parameter is passed.
+/// Returns the register through which an argument is passed: the one in which it arrives, or a
+/// temporary.
 pub(crate) fn comes_by(callee: &Frame, slot: usize) -> u8
     ensures { result ≡ made_in (coming callee.now) slot }
 {
@@ -143,7 +146,7 @@ fn is_taken(callee: &Frame, slot: usize, register: u8) -> bool
     taken
 }
 
-/// Returns the register that an argument is passed from, if it is passed from one.
+/// Returns the register from which an argument is passed, or `None` if it is passed from memory.
 pub(crate) fn passed_from(caller: &Frame, callee: &Frame, source: usize, slot: usize) -> Option<u8>
     ensures { result ≡ passed_from caller.now (coming callee.now) source slot }
 {
@@ -159,7 +162,7 @@ pub(crate) fn passed_from(caller: &Frame, callee: &Frame, source: usize, slot: u
     }
 }
 
-/// Returns the register of an operand: its own, or the given one if it is loaded.
+/// Returns the register of an operand: its slot's own, or `register` if the operand must be loaded.
 pub(crate) fn operand_register(frame: &Frame, register: u8, operand: Operand) -> u8
     ensures { result ≡ operand_register frame.now register operand }
 {
@@ -197,7 +200,8 @@ pub(crate) fn give_count(frame: &Frame, slot: usize) -> usize
     }
 }
 
-/// Returns the number of lines that store an argument in the callee's frame.
+/// Returns the number of lines that store an argument in the callee's frame: 0 if it does not
+/// arrive there.
 pub(crate) fn keep_coming_count(callee: &Frame, slot: usize) -> usize
     ensures value { result ≡ keep_count (coming callee.now) slot }
     ensures few { result ≤ 1 }
@@ -214,7 +218,7 @@ fn is_own_coming(callee: &Frame, source: u8, slot: usize) -> bool
     }
 }
 
-/// Returns the number of lines that write a register to an argument's slot.
+/// Returns the number of lines that write a register to the callee's slot for an argument.
 pub(crate) fn hand_coming_count(callee: &Frame, source: u8, slot: usize) -> usize
     ensures value { result ≡ hand_count (coming callee.now) source slot }
     ensures few { result ≤ 2 }
@@ -268,7 +272,7 @@ pub(crate) fn arrival_count(frame: &Frame) -> usize
     count
 }
 
-/// Returns the number of lines that reload registers of slots with a copy in memory.
+/// Returns the number of lines that reload the registers of slots whose word is also in memory.
 pub(crate) fn reload_count(frame: &Frame) -> usize
     requires { reload_count frame.now ≤ MOST_BOTH }
     ensures { result ≡ reload_count frame.now }
@@ -291,7 +295,7 @@ pub(crate) fn word_count(word: u32) -> usize
     }
 }
 
-/// Returns the number of lines that load an operand into a register.
+/// Returns the number of lines that load an operand into a given register.
 pub(crate) fn load_count(operand: Operand) -> usize
     ensures value { result ≡ load_count operand }
     ensures few { result ≤ 2 }
@@ -334,7 +338,7 @@ pub(crate) fn move_count(frame: &Frame, destination: usize, source: Operand) -> 
 }
 
 impl Emitter {
-    /// Loads a word into a register.
+    /// Emits the lines that load a constant word into a register.
     pub(crate) fn word(&mut self, target: u8, word: u32) -> Result<(), AllocError>
         ensures { AddsLines result self.old self.new (ordinary (word_code target word)) }
     {
@@ -350,7 +354,7 @@ impl Emitter {
         self.ordinary(&[load_upper(target, word), or_lower(target, word)])
     }
 
-    /// Loads an operand into a register.
+    /// Emits the lines that load an operand into a register.
     pub(crate) fn load(
         &mut self,
         frame: &Frame,
@@ -366,7 +370,7 @@ impl Emitter {
         }
     }
 
-    /// Makes an operand available in a register.
+    /// Emits the lines that make an operand available in a register.
     pub(crate) fn operand(
         &mut self,
         frame: &Frame,
@@ -392,7 +396,7 @@ impl Emitter {
         }
     }
 
-    /// Stores a slot's word in the frame, if its home includes memory.
+    /// Emits the store of a slot's word in the frame, if the slot's home includes memory.
     pub(crate) fn keep(&mut self, frame: &Frame, slot: usize) -> Result<(), AllocError>
         requires { IsReached frame.now slot }
         ensures { AddsLines result self.old self.new (ordinary (keep_code frame.now slot)) }
@@ -403,7 +407,7 @@ impl Emitter {
         self.ordinary(&[store_slot(frame, made_in(frame, slot), slot)])
     }
 
-    /// Writes a register to a slot.
+    /// Emits the lines that write a register to a slot.
     pub(crate) fn give(&mut self, frame: &Frame, source: u8, slot: usize) -> Result<(), AllocError>
         requires { IsReached frame.now slot }
         ensures { AddsLines result self.old self.new (ordinary (give_code frame.now source slot)) }
@@ -417,7 +421,8 @@ impl Emitter {
         }
     }
 
-    /// Writes a register to a slot. If registers are reloaded afterwards, a slot with a register and memory is written in memory only.
+    /// Emits the lines that write a register to a slot. If registers are reloaded afterwards, a slot with a register and memory is
+    /// written in memory only.
     fn bring(
         &mut self,
         frame: &Frame,
@@ -434,7 +439,7 @@ impl Emitter {
         self.give(frame, source, slot)
     }
 
-    /// Writes registers to the slots from `slot` on.
+    /// Emits the lines that write registers to the slots from `slot` on.
     pub(crate) fn bring_all(
         &mut self,
         frame: &Frame,
@@ -453,7 +458,7 @@ impl Emitter {
         Ok(())
     }
 
-    /// Stores an argument in the callee's frame, if it arrives there.
+    /// Emits the store of an argument in the callee's frame, if the argument arrives there.
     pub(crate) fn keep_coming(&mut self, callee: &Frame, slot: usize) -> Result<(), AllocError>
         requires { IsReached callee.now slot }
         ensures { AddsLines result self.old self.new (ordinary (keep_code (coming callee.now) slot)) }
@@ -464,7 +469,7 @@ impl Emitter {
         self.ordinary(&[store_slot(callee, comes_by(callee, slot), slot)])
     }
 
-    /// Writes a register to an argument's slot.
+    /// Emits the lines that write a register to the callee's slot for an argument.
     fn give_coming(&mut self, callee: &Frame, source: u8, slot: usize) -> Result<(), AllocError>
         requires { IsReached callee.now slot }
         ensures { AddsLines result self.old self.new (ordinary (give_code (coming callee.now) source slot)) }
@@ -478,7 +483,8 @@ impl Emitter {
         }
     }
 
-    /// Writes a register to an argument's slot; no move is needed if the argument arrives in that register.
+    /// Emits the lines that write a register to the callee's slot for an argument. If the argument arrives
+    /// in this register, no copy is needed.
     pub(crate) fn hand_coming(
         &mut self,
         callee: &Frame,
@@ -494,7 +500,7 @@ impl Emitter {
         self.give_coming(callee, source, slot)
     }
 
-    /// Reloads the register of a home that includes memory.
+    /// Emits the reload of a slot's register, if the slot's home also includes memory.
     fn reload(&mut self, frame: &Frame, home: Home, slot: usize) -> Result<(), AllocError>
         requires { IsReached frame.now slot }
         ensures { AddsLines result self.old self.new (ordinary (reload frame.now home slot)) }
@@ -505,7 +511,7 @@ impl Emitter {
         }
     }
 
-    /// Reloads all registers of slots with a copy in memory.
+    /// Emits the reloads of the registers of all slots whose word is also in memory.
     pub(crate) fn reloads(&mut self, frame: &Frame) -> Result<(), AllocError>
         requires { AreReached frame.now 0 (length frame.now.homes) }
         ensures { AddsLines result self.old self.new (ordinary (reloads frame.now)) }
@@ -516,7 +522,8 @@ impl Emitter {
         Ok(())
     }
 
-    /// Loads parameters that arrived in memory into their callee-saved registers.
+    /// Emits the lines that load parameters that arrived in memory into their callee-saved
+    /// registers.
     pub(crate) fn arrivals(&mut self, frame: &Frame) -> Result<(), AllocError>
         requires { AreReached frame.now 0 (length frame.now.homes) }
         ensures { AddsLines result self.old self.new (ordinary (arrivals frame.now)) }

@@ -1,4 +1,5 @@
-//! Emits the lines of operators and tests, and of other work on a function's own slots.
+//! Emits the lines of operators and tests, and of other instructions that access only the
+//! function's own slots.
 ghost use Rattle.std.specs.Prelude.{◌≡◌, ◌+◌, ◌*◌, ◌<◌, ◌≤◌, ◌^◌, [], ◌∷◌, ◌++◌, OnOk};
 ghost use Rattle.cyc_select.specs.inside.Instructions.{small, syscall, arithmetic_of, immediate_of, shift_of, shift_by_of, multiply_divide_of, move_from_of};
 ghost use Rattle.cyc_select.specs.inside.Slots.{give_code};
@@ -26,7 +27,7 @@ use cyc_machine_model::constants::{
 use cyc_plain::{BinaryOperator, Operand};
 use std::alloc::AllocError;
 
-/// The operands of a binary operator, and the slot of its result.
+/// The operands of a binary operator, and the slot that receives its result.
 #[derive(Clone, Copy)]
 pub(crate) struct Parts {
     pub(crate) destination: usize,
@@ -34,7 +35,7 @@ pub(crate) struct Parts {
     pub(crate) right: Operand,
 }
 
-/// Returns an operation on two registers, into another one.
+/// Returns the instruction that applies an operator to two registers and writes a third one.
 pub(crate) fn arithmetic(op: ArithmeticOp, target: u8, left: u8, right: u8) -> Instr
     ensures { result ≡ arithmetic_of op target left right }
 {
@@ -57,7 +58,7 @@ pub(crate) fn shift(op: ShiftOp, target: u8, source: u8, by: u8) -> Instr
     }
 }
 
-/// Returns an operation on a register and an immediate.
+/// Returns the instruction that applies an operator to a register and an immediate.
 pub(crate) fn immediate(op: ImmediateOp, target: u8, left: u8, half: u16) -> Instr
     ensures { result ≡ immediate_of op target left half }
 {
@@ -69,7 +70,7 @@ pub(crate) fn immediate(op: ImmediateOp, target: u8, left: u8, half: u16) -> Ins
     }
 }
 
-/// Returns a shift by a constant, taken modulo 32.
+/// Returns the instruction that shifts a register by a constant, taken modulo 32.
 pub(crate) fn shift_by(op: ShiftOp, target: u8, source: u8, amount: u8) -> Instr
     ensures { result ≡ shift_by_of op target source amount }
 {
@@ -123,7 +124,7 @@ fn outcome_count(outcome: Outcome) -> usize
     }
 }
 
-/// Returns the number of lines of a plan without its final step.
+/// Returns the number of lines of a plan (a computation from two operands) without its final step.
 pub(crate) fn count_of_operation(frame: &Frame, plan: Plan) -> usize
     ensures value { result ≡ count_of_operation frame.now plan }
     ensures few { result ≤ 6 }
@@ -133,14 +134,14 @@ pub(crate) fn count_of_operation(frame: &Frame, plan: Plan) -> usize
         + operation_count(plan.operation)
 }
 
-/// Returns the number of lines of a plan whose word is written to a slot.
+/// Returns the number of lines that compute a plan and write its result to a slot.
 pub(crate) fn plan_count(frame: &Frame, plan: Plan, destination: usize) -> usize
     ensures { result ≡ plan_count frame.now plan destination }
 {
     count_of_operation(frame, plan) + outcome_count(plan.outcome) + keep_count(frame, destination)
 }
 
-/// Returns the number of lines of a branch's test.
+/// Returns the number of lines that compute the test of a branch.
 pub(crate) fn test_count(frame: &Frame, test: Test) -> usize
     ensures value { result ≡ test_count frame.now test }
     ensures few { result ≤ 6 }
@@ -154,7 +155,7 @@ pub(crate) fn test_count(frame: &Frame, test: Test) -> usize
     }
 }
 
-/// Returns the branch taken if the outcome would be 1.
+/// Returns the branch that is taken if a plan's final step would compute 1.
 fn branch_on(outcome: Outcome) -> BranchOp
     ensures { result ≡ branch_on outcome }
 {
@@ -164,7 +165,7 @@ fn branch_on(outcome: Outcome) -> BranchOp
     }
 }
 
-/// Returns the condition of the branch, after the lines of its test.
+/// Returns the condition of a branch, which holds for the registers after the lines of its test.
 pub(crate) fn condition_of(frame: &Frame, test: Test) -> Condition
     ensures { result ≡ condition_of frame.now test }
 {
@@ -186,7 +187,7 @@ pub(crate) fn condition_of(frame: &Frame, test: Test) -> Condition
     }
 }
 
-/// Returns true if a division needs a test, since its divisor may be -1.
+/// Returns true if the code of a division must test its divisor, which may be 0 or -1.
 pub(crate) fn is_tested(operator: BinaryOperator, divisor: Operand) -> bool
     ensures { result ≡ is_tested operator divisor }
 {
@@ -196,7 +197,7 @@ pub(crate) fn is_tested(operator: BinaryOperator, divisor: Operand) -> bool
     }
 }
 
-/// Returns the result register of a division: quotient or remainder.
+/// Returns the register that holds the result of a division: HI for a remainder, LO for a quotient.
 fn part_of(operator: BinaryOperator) -> MoveFromOp
     ensures { result ≡ part_of operator }
 {
@@ -206,7 +207,7 @@ fn part_of(operator: BinaryOperator) -> MoveFromOp
     }
 }
 
-/// Returns the instruction that computes the quotient and the remainder by -1.
+/// Returns the instruction that computes a quotient or a remainder by -1, as a product.
 fn product(which: MoveFromOp, left: u8) -> Instr
     ensures { result ≡ product_code which left }
 {
@@ -217,7 +218,7 @@ fn product(which: MoveFromOp, left: u8) -> Instr
 }
 
 impl Emitter {
-    /// Emits the copy of an operand into a slot.
+    /// Emits the lines that copy an operand to a slot.
     pub(crate) fn copy(
         &mut self,
         frame: &Frame,
@@ -236,7 +237,7 @@ impl Emitter {
         self.ordinary(&[store_slot(frame, operand_register(frame, FIRST, source), destination)])
     }
 
-    /// Returns the instruction that computes a word from two registers, into another one.
+    /// Emits the instructions that compute a word from two registers and write a third one.
     fn operation(
         &mut self,
         operation: Operation,
@@ -261,7 +262,7 @@ impl Emitter {
         }
     }
 
-    /// Emits the final step of a plan.
+    /// Emits the final step of a plan on the word in a register.
     fn outcome(&mut self, outcome: Outcome, target: u8) -> Result<(), AllocError>
         ensures { AddsLines result self.old self.new (ordinary (outcome_code outcome target)) }
     {
@@ -274,7 +275,7 @@ impl Emitter {
         }
     }
 
-    /// Makes two operands available, each in a register.
+    /// Emits the lines that make two operands available, each in a register.
     fn operands(&mut self, frame: &Frame, left: Operand, right: Operand) -> Result<(), AllocError>
         requires left { IsFound frame.now left }
         requires right { IsFound frame.now right }
@@ -284,7 +285,7 @@ impl Emitter {
         self.operand(frame, SECOND, right)
     }
 
-    /// Emits the operation of a plan, without its final step, into a register.
+    /// Emits the lines that compute a plan, without its final step, in a register.
     pub(crate) fn operation_of(
         &mut self,
         frame: &Frame,
@@ -303,7 +304,7 @@ impl Emitter {
         )
     }
 
-    /// Emits a plan into a register.
+    /// Emits the lines that compute a plan in a register.
     fn computed(&mut self, frame: &Frame, target: u8, plan: Plan) -> Result<(), AllocError>
         requires { IsPlanFound frame.now plan }
         ensures { AddsLines result self.old self.new (ordinary (computed_code frame.now target plan)) }
@@ -312,7 +313,7 @@ impl Emitter {
         self.outcome(plan.outcome, target)
     }
 
-    /// Emits a plan into a slot.
+    /// Emits the lines that compute a plan and write its result to a slot.
     pub(crate) fn plan(
         &mut self,
         frame: &Frame,
@@ -327,7 +328,7 @@ impl Emitter {
         self.keep(frame, destination)
     }
 
-    /// Emits the test of a branch.
+    /// Emits the lines that compute the test of a branch.
     fn test(&mut self, frame: &Frame, test: Test) -> Result<(), AllocError>
         requires { IsTestFound frame.now test }
         ensures { AddsLines result self.old self.new (ordinary (test_code frame.now test)) }
@@ -339,7 +340,8 @@ impl Emitter {
         }
     }
 
-    /// Emits a branch on a test, with the hoisted line before it.
+    /// Emits a branch that is taken if a test holds, with the hoisted line, if any, before the
+    /// branch.
     pub(crate) fn branch_where(
         &mut self,
         frame: &Frame,
@@ -365,7 +367,8 @@ impl Emitter {
         }
     }
 
-    /// Makes dividend and divisor available in registers, and loads -1 into a third.
+    /// Emits the lines that make the dividend and the divisor available in registers and load -1
+    /// into a third one.
     fn dividend_and_divisor(
         &mut self,
         frame: &Frame,
@@ -380,7 +383,8 @@ impl Emitter {
         self.ordinary(&[add_immediate(THIRD, ZERO, minus(1))])
     }
 
-    /// Divides the registers and writes one of the results to a slot.
+    /// Emits the lines that divide one register by another and write the quotient or the remainder
+    /// to a slot.
     fn quotient(
         &mut self,
         frame: &Frame,
@@ -400,8 +404,8 @@ impl Emitter {
         self.keep(frame, destination)
     }
 
-    /// Emits a quotient or a remainder. For the divisor -1 it multiplies instead, since the machine cannot divide the least number by -1.
-    /// The product is read from the place of the quotient.
+    /// Emits the code of a quotient or a remainder. For the divisor -1 the code multiplies instead, since the machine cannot divide the
+    /// least number by -1. The product's result is in the same register (HI or LO) as that of the division.
     fn divide(
         &mut self,
         frame: &Frame,
@@ -427,7 +431,7 @@ impl Emitter {
         self.quotient(frame, which, parts.destination, left, right)
     }
 
-    /// Emits an operator on two operands.
+    /// Emits the lines of an operator on two operands.
     pub(crate) fn binary(
         &mut self,
         frame: &Frame,
@@ -448,7 +452,7 @@ impl Emitter {
         self.plan(frame, plan, parts.destination)
     }
 
-    /// Emits the read of an input byte into a slot.
+    /// Emits the lines that read an input byte into a slot.
     pub(crate) fn read_byte(&mut self, frame: &Frame, destination: usize) -> Result<(), AllocError>
         requires { IsReached frame.now destination }
         ensures { AddsLines result self.old self.new (ordinary (small SERVICE GET_BYTE ∷ syscall ∷ give_code frame.now SERVICE destination)) }
@@ -457,7 +461,7 @@ impl Emitter {
         self.give(frame, SERVICE, destination)
     }
 
-    /// Emits the output of an operand's low byte.
+    /// Emits the lines that print an operand's low byte.
     pub(crate) fn write_byte(&mut self, frame: &Frame, source: Operand) -> Result<(), AllocError>
         requires { IsFound frame.now source }
         ensures { AddsLines result self.old self.new (write_code frame.now source) }
@@ -466,7 +470,7 @@ impl Emitter {
         self.ordinary(&[small(SERVICE, PUT_BYTE as u16), syscall()])
     }
 
-    /// Emits the end of the run with an uncaught exception.
+    /// Emits the lines that end the run with an uncaught exception.
     pub(crate) fn uncaught(
         &mut self,
         frame: &Frame,

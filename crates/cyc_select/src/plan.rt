@@ -1,4 +1,4 @@
-//! Plans: the machine operations and operands that compute an operator or a comparison.
+//! A plan consists of the machine operations and operands that compute an operator or a comparison.
 ghost use Rattle.std.specs.Prelude.{◌≡◌};
 ghost use Rattle.cyc_select.specs.inside.Operands.{far_plan};
 ghost use Rattle.cyc_select.specs.inside.Plans.{arithmetic_plan, immediate_plan, immediate_or, shift_plan, multiply_divide_plan, product_plan};
@@ -14,44 +14,45 @@ use cyc_isa::{
 };
 use cyc_plain::{BinaryOperator, Comparison, Operand, UnaryOperator};
 
-/// An operation that computes a word from two registers, or from a register and a constant.
+/// A machine operation that computes a word from two registers, or from a register and a constant.
 #[derive(Clone, Copy)]
 pub(crate) enum Operation {
     Arithmetic {
         op: ArithmeticOp,
     },
-    /// The right operand is an immediate.
+    /// An operator on a register and an immediate, which is the right operand.
     Immediate {
         op: ImmediateOp,
         half: u16,
     },
-    /// The left operand is shifted.
+    /// A shift of the left operand by the right one.
     Shift {
         op: ShiftOp,
     },
-    /// The shift amount is a constant.
+    /// A shift of the left operand by a constant amount.
     ShiftBy {
         op: ShiftOp,
         amount: u8,
     },
-    /// A word of the product, or a result of the division.
+    /// A multiplication or division, whose result is read from HI or LO.
     MultiplyDivide {
         op: MultiplyDivideOp,
         from: MoveFromOp,
     },
 }
 
-/// The final step of a plan, on the computed word.
+/// The final step of a plan, which turns the computed word into the result.
 #[derive(Clone, Copy)]
 pub(crate) enum Outcome {
     AsItIs,
-    /// The result is 1 if the computed word is 0, else 0.
+    /// Turns the computed word into 1 if it is 0, otherwise into 0.
     WhetherZero,
-    /// The result is 0 if the computed word is 0, else 1.
+    /// Turns the computed word into 0 if it is 0, otherwise into 1.
     WhetherNotZero,
 }
 
-/// A computation from two operands. If the instruction contains an immediate, the right operand is the word 0, which needs no line.
+/// A plan is a computation from two operands. If its instruction contains an immediate, the right operand is the word 0, which
+/// needs no line.
 #[derive(Clone, Copy)]
 pub(crate) struct Plan {
     pub(crate) operation: Operation,
@@ -60,7 +61,7 @@ pub(crate) struct Plan {
     pub(crate) outcome: Outcome,
 }
 
-/// The test of a branch.
+/// The test that decides a branch.
 #[derive(Clone, Copy)]
 pub(crate) enum Test {
     /// Compares two operands.
@@ -69,12 +70,12 @@ pub(crate) enum Test {
         left: Operand,
         right: Operand,
     },
-    /// Tests the sign of an operand.
+    /// Tests the sign of an operand's word.
     Sign {
         op: BranchZeroOp,
         operand: Operand,
     },
-    /// Tests that a computed word is not 0.
+    /// Tests that the word that a plan computes is not 0.
     Computed {
         plan: Plan,
     },
@@ -91,7 +92,7 @@ fn arithmetic_plan(op: ArithmeticOp, left: Operand, right: Operand, outcome: Out
     }
 }
 
-/// Returns the plan of the sum of an address and an offset.
+/// Returns the plan that adds an offset to an address.
 pub(crate) fn far_plan(address: Operand, offset: u32) -> Plan
     ensures { result ≡ far_plan address offset }
 {
@@ -110,7 +111,7 @@ fn immediate_plan(op: ImmediateOp, left: Operand, half: u16, outcome: Outcome) -
     }
 }
 
-/// Returns a plan with an immediate, if there is one, else another plan.
+/// Returns a plan with the immediate, if one is given, otherwise the plan `other`.
 fn immediate_or(
     half: Option<u16>,
     op: ImmediateOp,
@@ -157,7 +158,8 @@ fn multiply_divide_plan(
     }
 }
 
-/// Returns the plan of a product: a shift if one factor is a power of two.
+/// Returns the plan of a product: a shift if one factor is a power of two, otherwise a
+/// multiplication.
 fn product_plan(left: Operand, right: Operand) -> Plan
     ensures { result ≡ product_plan left right }
 {
@@ -175,7 +177,8 @@ fn product_plan(left: Operand, right: Operand) -> Plan
     }
 }
 
-/// Returns the comparison with its operands exchanged.
+/// Returns the comparison that holds for the exchanged operands exactly if this one holds for the
+/// operands in order.
 fn mirrored(comparison: Comparison) -> Comparison
     ensures { result ≡ mirrored comparison }
 {
@@ -188,7 +191,7 @@ fn mirrored(comparison: Comparison) -> Comparison
     }
 }
 
-/// Returns the plan of the test that a word is 0, or is not.
+/// Returns the plan that tests that a word is 0, or that it is not 0 if `holds` is false.
 fn zero_plan(operand: Operand, holds: bool) -> Plan
     ensures { result ≡ zero_plan operand holds }
 {
@@ -204,7 +207,8 @@ fn zero_plan(operand: Operand, holds: bool) -> Plan
     }
 }
 
-/// Returns the plan of the test that two words are equal, or differ: their difference is 0, or is not.
+/// Returns the plan that tests two words for equality, or for difference if `holds` is false, by
+/// testing their difference for 0.
 fn equal_plan(left: Operand, right: Operand, holds: bool) -> Plan
     ensures { result ≡ equal_plan left right holds }
 {
@@ -226,7 +230,8 @@ fn equal_plan(left: Operand, right: Operand, holds: bool) -> Plan
     )
 }
 
-/// Returns the plan of the test that the left word is less than the right one, or of its negation.
+/// Returns the plan that tests that the left word is less than the right one, or that it is not
+/// less.
 fn less_plan(left: Operand, right: Operand, outcome: Outcome) -> Plan
     ensures { result ≡ less_plan left right outcome }
 {
@@ -253,7 +258,8 @@ fn less_unsigned_plan(left: Operand, right: Operand, outcome: Outcome) -> Plan
     )
 }
 
-/// Returns the plan of the test that the left word is at most the right one: it is less than its successor.
+/// Returns the plan that tests that the left word is at most the right one: it is less than the right
+/// word's successor.
 fn at_most_plan(left: Operand, right: Operand, holds: bool) -> Plan
     ensures { result ≡ at_most_plan left right holds }
 {
@@ -272,7 +278,8 @@ fn at_most_plan(left: Operand, right: Operand, holds: bool) -> Plan
     )
 }
 
-/// Returns the plan of a comparison whose left operand is no constant, if possible.
+/// Returns the plan of a comparison whose operands were exchanged, if possible, so that the left
+/// one is no constant.
 fn compared_plan(comparison: Comparison, left: Operand, right: Operand) -> Plan
     ensures { result ≡ compared_plan comparison left right }
 {
@@ -290,7 +297,8 @@ fn compared_plan(comparison: Comparison, left: Operand, right: Operand) -> Plan
     }
 }
 
-/// Returns true if the operands should be exchanged: the left one is a constant, and the comparison can be mirrored.
+/// Returns true if the operands of a comparison should be exchanged: the left one is a constant, and the comparison
+/// can be mirrored.
 fn is_mirrored(comparison: Comparison, left: Operand) -> bool
     ensures { result ≡ is_mirrored comparison left }
 {
@@ -300,7 +308,7 @@ fn is_mirrored(comparison: Comparison, left: Operand) -> bool
     }
 }
 
-/// Returns the plan of a comparison's value: 1 or 0.
+/// Returns the plan of a comparison's truth value, 1 or 0.
 pub(crate) fn comparison_plan(comparison: Comparison, left: Operand, right: Operand) -> Plan
     ensures { result ≡ comparison_plan comparison left right }
 {
@@ -366,8 +374,8 @@ fn bits_plan(op: ArithmeticOp, number_op: ImmediateOp, left: Operand, right: Ope
     )
 }
 
-/// Returns the plan of an operator whose left operand is no constant, if possible. (The plan of a division assumes a divisor by which the
-/// machine can divide every word.)
+/// Returns the plan of an operator whose operands were exchanged, if possible, so that the left one is no constant. (For a division, the
+/// machine must be able to divide every word by the divisor.)
 fn operator_plan(operator: BinaryOperator, left: Operand, right: Operand) -> Plan
     ensures { result ≡ operator_plan operator left right }
 {
@@ -392,7 +400,8 @@ fn operator_plan(operator: BinaryOperator, left: Operand, right: Operand) -> Pla
     }
 }
 
-/// Returns true if the operands should be exchanged: the left one is a constant, and the operator commutes.
+/// Returns true if the operands of an operator should be exchanged: the left one is a constant, and the
+/// operator commutes.
 fn is_swapped(operator: BinaryOperator, left: Operand) -> bool
     ensures { result ≡ is_swapped operator left }
 {
@@ -417,7 +426,7 @@ pub(crate) fn binary_plan(operator: BinaryOperator, left: Operand, right: Operan
     }
 }
 
-/// Returns the branch on a sign that performs a comparison with 0, if there is one.
+/// Returns the branch on a word's sign that performs a comparison with 0, if there is one.
 fn sign_of(comparison: Comparison) -> Option<BranchZeroOp>
     ensures { result ≡ sign_of comparison }
 {
@@ -430,7 +439,8 @@ fn sign_of(comparison: Comparison) -> Option<BranchZeroOp>
     }
 }
 
-/// Returns the test by this branch on a sign, or else another test.
+/// Returns a test of the operand's sign if a branch on the sign is given, otherwise the test
+/// `other`.
 fn sign_or(sign: Option<BranchZeroOp>, operand: Operand, other: Test) -> Test
     ensures { result ≡ sign_or sign operand other }
 {
@@ -440,7 +450,8 @@ fn sign_or(sign: Option<BranchZeroOp>, operand: Operand, other: Test) -> Test
     }
 }
 
-/// Returns the test of an order; a comparison with 0 tests the sign.
+/// Returns the test of an order comparison. A comparison with 0 tests the sign of the other
+/// operand.
 fn order_test(comparison: Comparison, left: Operand, right: Operand) -> Test
     ensures { result ≡ order_test comparison left right }
 {
@@ -456,7 +467,7 @@ fn order_test(comparison: Comparison, left: Operand, right: Operand) -> Test
     }
 }
 
-/// Returns the test of a branch.
+/// Returns the test that a branch on a comparison performs.
 pub(crate) fn test_of(comparison: Comparison, left: Operand, right: Operand) -> Test
     ensures { result ≡ test_of comparison left right }
 {

@@ -26,8 +26,8 @@ use cyc_words::Fault;
 use std::alloc::{AllocError, Global};
 
 impl Emitter {
-    /// Emits the start: loads the base register of the globals and calls `main`, whose first line has this label. The frame of `main` lies
-    /// below the end of the stack, which has room for the frames of all allowed calls.
+    /// Emits the start code, which loads the base register of the globals and calls `main` at this label. The frame of `main` lies below
+    /// the end of the stack; the stack has space for the frames of all allowed calls.
     fn start(&mut self, label: usize) -> Result<(), AllocError>
         ensures { AddsLines result self.old self.new (start_code label) }
     {
@@ -41,7 +41,7 @@ impl Emitter {
         self.line(Line::Jump { label })
     }
 
-    /// Emits the lines of a function's code.
+    /// Emits the lines of all instructions of a function.
     fn code(&mut self, tables: &Tables, code: &[Instruction]) -> Result<(), AllocError>
         requires known { IsKnown tables.now }
         requires code { code.now ≡ (routine_at tables.now.plain.now tables.now.function).code }
@@ -55,7 +55,7 @@ impl Emitter {
         Ok(())
     }
 
-    /// Emits the lines of a function.
+    /// Emits the lines of a function: those at its entry, then those of its instructions.
     fn function(&mut self, program: &Ready, function: usize) -> Result<(), AllocError>
         requires ready { IsReady program.now }
         requires function { function < length program.now.plain.now.functions }
@@ -76,7 +76,7 @@ impl Emitter {
         self.code(&tables, code)
     }
 
-    /// Emits the lines of all functions.
+    /// Emits the lines of all functions of the program.
     fn functions(&mut self, program: &Ready) -> Result<(), AllocError>
         requires { IsReady program.now }
         ensures { AddsLines result self.old self.new (function_lines program.now.plain.now program.now.frames.now 0 START_LINES
@@ -103,7 +103,7 @@ pub fn lines_of(
     Ok(numbered.functions)
 }
 
-/// Returns the code, if memory suffices.
+/// Returns the labelled code of a plain program, or an error if memory runs out.
 fn selected(alloc: Global, plain: &Plain, frames: &Frames) -> Result<Code, AllocError>
     requires { AreFrames plain.now frames.now }
     ensures code { IfOk result (λ code. code ≡ select_of plain.now frames.now) }
@@ -125,12 +125,13 @@ fn selected(alloc: Global, plain: &Plain, frames: &Frames) -> Result<Code, Alloc
 
 /// Returns the labelled code of a plain program whose functions have these frames, as `layout` returns them.
 ///
-/// The only error is lack of memory.
+/// The only error that `select` returns is lack of memory.
 pub fn select(alloc: Global, plain: &Plain, frames: &Frames) -> Result<Code, Fault>
     requires { AreFrames plain.now frames.now }
-    // Each line belongs to one instruction of the program or to the start, and the code behaves as the program.
+    // Each line of the selected code belongs to one instruction of the program or to the start code. The code
+    // behaves as the program does.
     ensures selected { IfOk result (λ code. IsCodeOf plain.now code) }
-    // The data range begins with the program's globals.
+    // The data range of the selected code begins with the program's globals.
     ensures globals { IfOk result (λ code. code.globals ≡ plain.now.globals) }
     ensures refused { IfErr result (λ fault. fault ≡ memory_fault) }
 {

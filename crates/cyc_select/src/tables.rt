@@ -1,4 +1,4 @@
-//! The data from which the lines of a function are emitted.
+//! The tables of frames and line numbers from which the lines of a function are emitted.
 ghost use Rattle.std.specs.Prelude.{◌≡◌, ◌+◌, ◌<◌, ◌≤◌, ◌==◌, length};
 ghost use Rattle.cyc_plain.specs.inside.Program.{routine_at};
 ghost use Rattle.cyc_frame.specs.inside.Layout.{frame_at};
@@ -11,16 +11,17 @@ use crate::counting::{frame_in, results_of};
 use cyc_frame::Frame;
 use cyc_plain::{GREATEST_VALUE, MOST_FRAME_WORDS, Plain};
 
-/// The line numbers of a function.
+/// The line numbers of a function's instructions.
 #[derive(Drop)]
 pub struct FunctionLines {
-    /// The number of the first line.
+    /// The number of the function's first line.
     pub first: usize,
-    /// The number of the first line of each instruction; for an instruction without lines, that of the next line.
+    /// The number of the first line of each instruction. An instruction without lines has the number of the next
+    /// line.
     pub lines: Vec<usize>,
 }
 
-/// A program, the frames of its functions, and their line numbers.
+/// A program with the frames of its functions and their line numbers.
 #[derive(Clone, Copy)]
 pub(crate) struct Ready<'a> {
     pub(crate) plain: &'a Plain,
@@ -28,14 +29,14 @@ pub(crate) struct Ready<'a> {
     pub(crate) functions: &'a [FunctionLines],
 }
 
-/// A function of a program, with the tables that its lines refer to.
+/// A function of a program, with the tables of frames and line numbers that its lines refer to.
 #[derive(Clone, Copy)]
 pub(crate) struct Tables<'a> {
     pub(crate) plain: &'a Plain,
     pub(crate) frames: &'a [Frame],
-    /// The line numbers of each function.
+    /// The line numbers of each function of the program.
     pub(crate) functions: &'a [FunctionLines],
-    /// The number of the first line of each instruction of the function.
+    /// The number of the first line of each instruction of the current function.
     pub(crate) lines: &'a [usize],
     pub(crate) function: usize,
 }
@@ -74,7 +75,7 @@ impl<'a> Tables<'a> {
         self.lines[index]
     }
 
-    /// Returns the number of words that a function returns.
+    /// Returns the number of result words of a function.
     pub(crate) fn results(&self, function: usize) -> usize
         requires known { IsKnown self.now }
         requires function { function < length self.now.plain.now.functions }

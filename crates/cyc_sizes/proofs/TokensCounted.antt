@@ -1,4 +1,5 @@
--- The tokens of lists counted so far, together with the remaining elements, and the tokens of nodes with lists.
+-- This file is about counting the tokens of lists: the tokens counted so far, together with those of the
+-- remaining elements, and the tokens of nodes that have lists.
 use Rattle.std.proofs.Common.{◌≡◌, ℕ, ◌+◌, ◌*◌, ◌-◌, ◌<◌, ◌≤◌, List, [], ◌∷◌, length, get_or, drop, map, Option, sym, ap, ◌∙◌, arith}
 use Rattle.std.proofs.lemmas.List.{drop_more}
 use Rattle.std.specs.declared.vec.Vec.{Vec}
@@ -29,7 +30,8 @@ use Rattle.cyc_types.proofs.TypedTreeViewLemmas.{view_typed_call, view_typed_bin
 
 -- ---- the count so far plus the remaining elements
 
--- as before, with a comma before each operand
+-- Says that the tokens counted so far plus the tokens of the remaining operands, with a comma
+-- before each operand, are the tokens of all operands.
 abbrev pub ArgumentsLeft : List ConvertedCode → (i weight : ℕ) → Type 0
 ArgumentsLeft cs i weight = weight + more_arguments_weight (arguments_of (drop i cs)) ≡ more_arguments_weight (arguments_of cs)
 
@@ -50,12 +52,13 @@ FunctionsLeft hs i weight = weight + sum_of function_weight (map view_function (
 
 -- ---- commas
 
--- the first operand has no comma
+-- The first operand of a list has no comma before it.
 pub first_without_comma : (cs : Arguments) → arguments_weight cs ≡ more_arguments_weight cs - 1
 first_without_comma NoArguments = omega arith
 first_without_comma (MoreArguments c cs) = omega arith
 
--- the count so far plus an operand with its comma exceeds the total by at most one token
+-- The tokens counted so far plus those of an operand with its comma exceed the tokens of the list
+-- by at most one.
 module _ (cs : List ConvertedCode) (i weight : ℕ) (c : ConvertedCode) (inside : i < length cs) (at : c ≡ get_or cs i c) where
   pub argument_left : ArgumentsLeft cs i weight → weight + (1 + expression_weight (view_expression c.value)) ≤ 1 + arguments_weight (arguments_of cs)
   argument_left left =
@@ -63,7 +66,8 @@ module _ (cs : List ConvertedCode) (i weight : ℕ) (c : ConvertedCode) (inside 
       let found = ap (λ (ds : List ConvertedCode). weight + more_arguments_weight (arguments_of ds)) (sym here) ∙ left in
       omega (arith, found, first_without_comma (arguments_of cs))
 
--- each parameter is a type and a name; the first has no comma
+-- Each parameter is spelled as a type and a name, and all parameters except the first have a comma
+-- before them.
 more_parameters : (ts : List TyCode) → sum_of (λ _. 1 + 2) (map view_ty ts) ≡ 3 * length ts
 more_parameters [] = omega arith
 more_parameters (t ∷ ts) = omega (arith, more_parameters ts)
@@ -74,7 +78,7 @@ parameters_weigh (t ∷ ts) = omega (arith, more_parameters ts)
 
 -- ---- nodes that contain lists
 
--- the default clause comes after the other clauses
+-- The tokens of clauses with a `default` clause are its tokens plus those of the other clauses.
 default_weighs : (cs : List Clause) (default : Clauses) → clauses_weight (clauses_of cs default) ≡ clauses_weight (clauses_of cs NoClauses) + clauses_weight default
 default_weighs [] default = omega arith
 default_weighs (c ∷ cs) default = omega (arith, default_weighs cs default)

@@ -1,4 +1,5 @@
-//! The number of words that the frame of a function may need, counted on its typed tree only.
+//! This file counts the number of words that the frame of a function may need, on its typed tree
+//! only.
 ghost use Rattle.std.specs.Prelude.{◌≡◌, ◌+◌, ◌≤◌, map, option_map};
 ghost use Rattle.cyc_types.specs.Types.{words_of};
 ghost use Rattle.cyc_types.specs.TypedTrees.{NoClauses, type_of_place, type_of};
@@ -18,16 +19,16 @@ use cyc_types::typed::{
     Placement, Side, Stmt, UnaryOperator, ValueType,
 };
 
-/// The words of a place: the target of an assignment or of `&`, or a side of a swap.
+/// The number of words of an address: the target of an assignment or of `&`, or a side of a swap.
 const PLACE_WORDS: usize = 3;
 
-/// The words that a `for` keeps while its element is evaluated.
+/// The number of words that an array `for` keeps while its element is evaluated.
 const ARRAY_WORDS: usize = 4;
 
-/// The number of words reserved in each frame.
+/// The number of words that are reserved in each frame.
 const KEPT_WORDS: usize = 24;
 
-/// The number of words kept for each `try`.
+/// The number of frame words that each `try` keeps.
 const HANDLER_WORDS: usize = 6;
 
 /// Returns the number of words of a value of a kind.
@@ -59,7 +60,7 @@ fn result_words(of_type: &ValueType) -> usize
     }
 }
 
-/// Returns the number of words of the content of a place that a pointer leads to.
+/// Returns the number of words of the cell to which a pointer points.
 pub fn words_at(place: &Dereference) -> usize
     ensures { result ≡ words_of (type_of_place (view_dereference place.now)) }
 {
@@ -113,7 +114,7 @@ fn converted_words(value: &Converted) -> usize
     words_of_kind(value.from).max(words_of_kind(value.to))
 }
 
-/// Returns the number of words of the handle of `rnew`; `unique_region` counts too.
+/// Returns the number of words of the region handle of `rnew`; `unique_region` takes a word too.
 fn handle_words(placement: &Placement) -> usize
     ensures { result ≡ handle_words (view_placement placement.now) }
 {
@@ -124,8 +125,8 @@ fn handle_words(placement: &Placement) -> usize
     }
 }
 
-/// Returns the need of an expression. For each operand it counts the words before it plus its need, and it takes the maximum of these
-/// numbers and of the words of the whole.
+/// Returns the frame words that an expression needs. For each operand it counts the words before the operand plus the operand's need,
+/// and it takes the maximum of these numbers and of the words of the complete expression.
 #[cycle(need)]
 fn expression_need(value: &Expr) -> usize
     requires { expression_need (view_expression value.now) ≤ most_frame_count }
@@ -191,7 +192,8 @@ fn expression_need(value: &Expr) -> usize
     }
 }
 
-/// Returns the need of a place that a pointer leads to, which has `own` words.
+/// Returns the frame words that a memory access through a pointer needs, whose value has `own`
+/// words.
 #[cycle(need)]
 fn dereference_need(place: &Dereference, own: usize) -> usize
     requires { dereference_need (view_dereference place.now) own ≤ most_frame_count }
@@ -223,7 +225,8 @@ fn handle_need(placement: &Placement) -> usize
     }
 }
 
-/// Returns the need of an initial value after a handle of this many words; the pointer to the object has `own` words.
+/// Returns the frame words that an initial value needs after a region handle of `handle` words; the pointer to the
+/// object has `own` words.
 #[cycle(need)]
 fn initial_value_need(initial: &Initial, handle: usize, own: usize) -> usize
     requires { initial_value_need (view_initial initial.now) handle own ≤ most_frame_count }
@@ -247,7 +250,8 @@ fn initial_value_need(initial: &Initial, handle: usize, own: usize) -> usize
     }
 }
 
-/// Returns the need of operands and their result: `first` words precede all operands, and the result has `own` words.
+/// Returns the frame words that operands and their result need: `first` words precede all operands, and the result
+/// has `own` words.
 #[cycle(need)]
 fn operands_need(operands: &[Converted], first: usize, own: usize) -> usize
     requires { operands_need (arguments_of operands.now) first own ≤ most_frame_count }
@@ -262,7 +266,8 @@ fn operands_need(operands: &[Converted], first: usize, own: usize) -> usize
     need.max(before + own)
 }
 
-/// Returns the need of an operator of a chain of this type, if its left operand has this many words.
+/// Returns the frame words that an operator of a chain of this type needs, if its left operand has
+/// `left` words.
 #[cycle(need)]
 fn operation_need(operation: &Operation, of_type: &Ty, left: usize) -> usize
     requires { operation_need operation.now (view_ty of_type.now) left ≤ most_frame_count }
@@ -279,8 +284,8 @@ fn operation_need(operation: &Operation, of_type: &Ty, left: usize) -> usize
     }
 }
 
-/// Returns the need of the rest of a chain. The part before an operator is its left operand, and has the chain's type unless it is only the
-/// first operand.
+/// Returns the frame words that the rest of an operator chain needs. The part of the chain before an operator is the operator's left
+/// operand, and has the chain's type unless it is only the first operand.
 #[cycle(need)]
 fn operations_need(operations: &[Operation], of_type: &Ty, first: usize) -> usize
     requires { operations_need (operations_of operations.now) (view_ty of_type.now) first ≤ most_frame_count }
@@ -295,7 +300,7 @@ fn operations_need(operations: &[Operation], of_type: &Ty, first: usize) -> usiz
     need
 }
 
-/// Returns the need of an optional value.
+/// Returns the frame words that an optional value needs.
 fn initial_need(value: &Option<Converted>) -> usize
     requires { initial_need (option_map view_converted value.now) ≤ most_frame_count }
     ensures { result ≡ initial_need (option_map view_converted value.now) }
@@ -326,8 +331,8 @@ fn side_need(side: &Side) -> usize
     }
 }
 
-/// Returns the need of a statement: the maximum over its expressions. A swap counts like an expression without a value whose operands are
-/// its two places.
+/// Returns the frame words that a statement needs: the maximum over its expressions. A swap is counted like an expression without a value
+/// whose operands are its two sides.
 #[cycle(greatest)]
 fn statement_need(statement: &Stmt) -> usize
     requires { statement_need (view_statement statement.now) ≤ most_frame_count }
@@ -381,7 +386,7 @@ fn item_need(item: &Item) -> usize
     }
 }
 
-/// Returns the greatest need of the expressions in a block.
+/// Returns the greatest number of frame words that an expression in a block needs.
 #[cycle(greatest)]
 pub fn items_need(items: &[Item]) -> usize
     requires { items_need (items_of items.now) ≤ most_frame_count }
@@ -394,7 +399,7 @@ pub fn items_need(items: &[Item]) -> usize
     need
 }
 
-/// Returns the greatest need of the expressions in clauses.
+/// Returns the greatest number of frame words that an expression in clauses needs.
 #[cycle(greatest)]
 fn clauses_need(clauses: &[Clause]) -> usize
     requires { clauses_need (clauses_of clauses.now NoClauses) ≤ most_frame_count }
@@ -418,7 +423,8 @@ fn default_need(default: &Option<Body>) -> usize
     }
 }
 
-/// Returns the words that a statement keeps beside the variables: words for each `try`, and one for each lexical region.
+/// Returns the number of words that a statement keeps in addition to the variables: some words for each `try`, and one
+/// word for each lexical region.
 #[cycle(kept)]
 fn kept_by(statement: &Stmt) -> usize
     requires { kept_by (view_statement statement.now) ≤ most_frame_count }
@@ -457,7 +463,7 @@ fn kept_by_item(item: &Item) -> usize
     }
 }
 
-/// Returns the number of words that the items of a block keep beside the variables.
+/// Returns the number of words that the items of a block keep in addition to the variables.
 #[cycle(kept)]
 pub fn kept_by_items(items: &[Item]) -> usize
     requires { kept_by_items (items_of items.now) ≤ most_frame_count }
@@ -505,7 +511,7 @@ pub fn words_of_all(types: &[Ty]) -> usize
     words
 }
 
-/// Returns the frame count of a function.
+/// Returns the frame count of a function, that is, the number of words that its frame may need.
 pub fn frame_count(function: &Function) -> usize
     requires { frame_count (view_function function.now) ≤ most_frame_count }
     ensures { result ≡ frame_count (view_function function.now) }

@@ -1,7 +1,8 @@
-//! Sizes of a typed program, counted on its tree: the words of a function's frame, and the tokens of the program's spelling.
+//! This crate computes sizes of a typed program on its tree: the words of a function's frame, and the tokens of the
+//! program's spelling.
 //!
-//! `cyc_meaning` defines the frame count, which a run's frame limit uses; `cyc_types` defines the weight, which bounds the length of an
-//! image.
+//! The crate `cyc_meaning` defines the frame count, which a run's frame limit uses; the crate `cyc_types` defines the weight, which
+//! bounds the length of an image.
 #![tactic(auto)]
 
 mod frames;

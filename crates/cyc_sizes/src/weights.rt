@@ -1,4 +1,4 @@
-//! The least number of tokens that spell a program, counted on its typed tree only.
+//! This file counts the least number of tokens that spell a program, on its typed tree only.
 ghost use Rattle.std.specs.Prelude.{◌≡◌, ◌+◌, ◌≤◌, map, option_map};
 ghost use Rattle.cyc_syntax.specs.TokenRule.{max_tokens};
 ghost use Rattle.cyc_syntax.specs.Sums.{sum_of, optional_weight};
@@ -18,7 +18,8 @@ use cyc_types::typed::{
     Operation, Placement, Side, Stmt, UnaryOperator,
 };
 
-/// Returns the tokens of a unary operator; the conversion of a char to an int is not written.
+/// Returns the number of tokens of a unary operator; the conversion of a char to an int is not
+/// written.
 fn unary_weight(operator: UnaryOperator) -> usize
     ensures { result ≡ unary_weight operator }
 {
@@ -31,7 +32,7 @@ fn unary_weight(operator: UnaryOperator) -> usize
     }
 }
 
-/// Returns the tokens of an expression. Parentheses that only group are not in the tree.
+/// Returns the number of tokens of an expression. Parentheses that only group are not in the tree.
 #[cycle(expressions)]
 fn expression_weight(value: &Expr) -> usize
     requires { expression_weight (view_expression value.now) ≤ max_tokens }
@@ -67,7 +68,7 @@ fn expression_weight(value: &Expr) -> usize
     }
 }
 
-/// Returns the tokens of a place that a pointer leads to.
+/// Returns the number of tokens of a memory access through a pointer.
 #[cycle(expressions)]
 fn dereference_weight(place: &Dereference) -> usize
     requires { dereference_weight (view_dereference place.now) ≤ max_tokens }
@@ -82,7 +83,7 @@ fn dereference_weight(place: &Dereference) -> usize
     }
 }
 
-/// Returns the tokens of `new`, or of `rnew` with the handle in its parentheses.
+/// Returns the number of tokens of `new`, or of `rnew` with the handle in its parentheses.
 #[cycle(expressions)]
 fn placement_weight(placement: &Placement) -> usize
     requires { placement_weight (view_placement placement.now) ≤ max_tokens }
@@ -95,7 +96,7 @@ fn placement_weight(placement: &Placement) -> usize
     }
 }
 
-/// Returns the tokens of the initial contents of an object.
+/// Returns the number of tokens of the initial contents of an object.
 #[cycle(expressions)]
 fn initial_weight(initial: &Initial) -> usize
     requires { initial_weight (view_initial initial.now) ≤ max_tokens }
@@ -112,7 +113,7 @@ fn initial_weight(initial: &Initial) -> usize
     }
 }
 
-/// Returns the tokens of operands, with a comma before each but the first.
+/// Returns the number of tokens of operands, with a comma before each operand except the first.
 #[cycle(expressions)]
 fn arguments_weight(arguments: &[Converted]) -> usize
     requires { arguments_weight (arguments_of arguments.now) ≤ max_tokens }
@@ -122,11 +123,11 @@ fn arguments_weight(arguments: &[Converted]) -> usize
     for argument in arguments {
         weight += 1 + expression_weight(&argument.value);
     }
-    // the first operand has no comma
+    // The first operand has no comma before it.
     weight.saturating_sub(1)
 }
 
-/// Returns the tokens of an operator of a chain with its right operand.
+/// Returns the number of tokens of an operator of a chain with its right operand.
 #[cycle(expressions)]
 fn operation_weight(operation: &Operation) -> usize
     requires { operations_weight (then_operation operation.now NoOperations) ≤ max_tokens }
@@ -140,7 +141,7 @@ fn operation_weight(operation: &Operation) -> usize
     }
 }
 
-/// Returns the tokens of the rest of a chain.
+/// Returns the number of tokens of the rest of an operator chain.
 #[cycle(expressions)]
 fn operations_weight(operations: &[Operation]) -> usize
     requires { operations_weight (operations_of operations.now) ≤ max_tokens }
@@ -153,8 +154,8 @@ fn operations_weight(operations: &[Operation]) -> usize
     weight
 }
 
-/// Returns the tokens of `else` and its statement, given the statement's tokens; an empty statement adds nothing, since neither need be
-/// written.
+/// Returns the number of tokens of `else` and its statement, given the statement's number of tokens; an empty statement adds nothing,
+/// since neither it nor `else` need be written.
 fn else_weight(otherwise: &Stmt, tokens: usize) -> usize
     requires { tokens ≤ max_tokens }
     ensures { result ≡ else_weight (view_statement otherwise.now) tokens }
@@ -175,7 +176,7 @@ fn side_weight(side: &Side) -> usize
     }
 }
 
-/// Returns the tokens of the returned value, if there is one.
+/// Returns the number of tokens of the returned value, if there is one.
 fn returned_weight(value: &Option<Converted>) -> usize
     requires { optional_weight converted_weight (option_map view_converted value.now) ≤ max_tokens }
     ensures { result ≡ optional_weight converted_weight (option_map view_converted value.now) }
@@ -186,7 +187,7 @@ fn returned_weight(value: &Option<Converted>) -> usize
     }
 }
 
-/// Returns the tokens of a thrown exception's int, with its parentheses.
+/// Returns the number of tokens of a thrown exception's int, with its parentheses.
 fn thrown_weight(value: &Option<Expr>) -> usize
     requires { thrown_weight (option_map view_expression value.now) ≤ max_tokens }
     ensures { result ≡ thrown_weight (option_map view_expression value.now) }
@@ -197,7 +198,8 @@ fn thrown_weight(value: &Option<Expr>) -> usize
     }
 }
 
-/// Returns the tokens of the local for an exception's int in a clause, with its parentheses.
+/// Returns the number of tokens of the local for an exception's int in a clause, with its
+/// parentheses.
 fn caught_weight(number: Option<usize>) -> usize
     ensures { result ≡ caught_weight number }
 {
@@ -207,7 +209,7 @@ fn caught_weight(number: Option<usize>) -> usize
     }
 }
 
-/// Returns the tokens of `=` and the initial value of a local, if there is one.
+/// Returns the number of tokens of `=` and the initial value of a local, if there is one.
 fn declared_weight(value: &Option<Converted>) -> usize
     requires { optional_weight (λ c. 1 + converted_weight c) (option_map view_converted value.now) ≤ max_tokens }
     ensures { result ≡ optional_weight (λ c. 1 + converted_weight c) (option_map view_converted value.now) }
@@ -218,7 +220,7 @@ fn declared_weight(value: &Option<Converted>) -> usize
     }
 }
 
-/// Returns the tokens of a statement.
+/// Returns the number of tokens of a statement.
 #[cycle(statements)]
 fn statement_weight(statement: &Stmt) -> usize
     requires { statement_weight (view_statement statement.now) ≤ max_tokens }
@@ -259,7 +261,7 @@ fn statement_weight(statement: &Stmt) -> usize
     }
 }
 
-/// Returns the tokens of an item of a block.
+/// Returns the number of tokens of an item of a block.
 #[cycle(statements)]
 fn item_weight(item: &Item) -> usize
     requires { item_weight (view_item item.now) ≤ max_tokens }
@@ -275,7 +277,7 @@ fn item_weight(item: &Item) -> usize
     }
 }
 
-/// Returns the tokens of the items of a block.
+/// Returns the number of tokens of the items of a block.
 #[cycle(statements)]
 fn items_weight(items: &[Item]) -> usize
     requires { items_weight (items_of items.now) ≤ max_tokens }
@@ -288,7 +290,7 @@ fn items_weight(items: &[Item]) -> usize
     weight
 }
 
-/// Returns the tokens of clauses, each of which catches one exception.
+/// Returns the number of tokens of clauses, each of which catches one exception.
 #[cycle(statements)]
 fn clauses_weight(clauses: &[Clause]) -> usize
     requires { clauses_weight (clauses_of clauses.now NoClauses) ≤ max_tokens }
@@ -301,7 +303,7 @@ fn clauses_weight(clauses: &[Clause]) -> usize
     weight
 }
 
-/// Returns the tokens of the default clause, if there is one.
+/// Returns the number of tokens of the `default` clause, if there is one.
 #[cycle(statements)]
 fn default_weight(default: &Option<Body>) -> usize
     requires { clauses_weight (default_of default.now) ≤ max_tokens }
@@ -313,7 +315,8 @@ fn default_weight(default: &Option<Body>) -> usize
     }
 }
 
-/// Returns the tokens of `=` and the value of a global, if the value must have been written.
+/// Returns the number of tokens of `=` and the value of a global, if the value must have been
+/// written.
 fn constant_weight(value: Constant) -> usize
     ensures { result ≡ constant_weight (view_constant value) }
 {
@@ -323,7 +326,7 @@ fn constant_weight(value: Constant) -> usize
     }
 }
 
-/// Returns the tokens of globals.
+/// Returns the number of tokens of a list of globals.
 fn globals_weight(globals: &[Global]) -> usize
     requires { sum_of global_weight (map view_global globals.now) ≤ max_tokens }
     ensures { result ≡ sum_of global_weight (map view_global globals.now) }
@@ -335,7 +338,8 @@ fn globals_weight(globals: &[Global]) -> usize
     weight
 }
 
-/// Returns the tokens of a function. Each parameter is a type and a name, with a comma before each but the first.
+/// Returns the number of tokens of a function. Each parameter is a type and a name, with a comma before each
+/// parameter except the first.
 fn function_weight(function: &Function) -> usize
     requires { function_weight (view_function function.now) ≤ max_tokens }
     ensures { result ≡ function_weight (view_function function.now) }
@@ -344,7 +348,7 @@ fn function_weight(function: &Function) -> usize
     6 + parameters + items_weight(&function.body)
 }
 
-/// Returns the tokens of functions.
+/// Returns the number of tokens of a list of functions.
 fn functions_weight(functions: &[Function]) -> usize
     requires { sum_of function_weight (map view_function functions.now) ≤ max_tokens }
     ensures { result ≡ sum_of function_weight (map view_function functions.now) }

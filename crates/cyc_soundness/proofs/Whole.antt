@@ -1,4 +1,5 @@
--- THE WHOLE PROOF. Every step of a typed state leads to a typed state. No run of an accepted program of the class is dead or wrong.
+-- This file completes the soundness proof. Every step of a typed state yields a typed state. No run of an accepted program of the
+-- class is dead or wrong.
 use Rattle.std.proofs.Common.{◌≡◌, ◌≢◌, inl, inr, ℕ, ◌≤◌, zero, suc, Bool, true, false, List, [], ◌∷◌, length, map, Option, Some, None, slice_get, refl, sym, ap, subst, ◌∙◌, arith}
 use Rattle.std.specs.Prelude.{if◌then◌else◌, ◌==◌, Contains}
 use Rattle.std.proofs.lemmas.Bool.{eq-eqb, eqb-true, not-true}
@@ -131,14 +132,15 @@ accepted_among p (f ∷ hs) (one, well) (u, d, flows) (in_one, kept) (suc n) h f
 
 -- ---- the start state
 
--- one filled cell for each global
+-- At the start of a run, each global has one filled cell.
 abbrev ones : List GlobalVariable → List ℕ
 ones vs = map (λ (v : GlobalVariable). 1) vs
 
 abbrev global_of : GlobalVariable → ObjectType
 global_of v = global_type (at as_heap v.of_type)
 
--- the cell types of a struct, given as many lifetimes as it has region parameters
+-- The types of a struct's cells, if as many lifetimes are given as the struct has region
+-- parameters.
 abbrev cells_of : List Life → StructType → Option (List RunTy)
 cells_of ls s = if length ls == s.parameters then Some (map (at (lives_among ls)) s.fields) else None
 
@@ -163,7 +165,7 @@ value_typed g v (inr (inr (k, t, r, pointer, null, is))) =
     subst (λ z. HasType g (at as_heap v.of_type) (constant_value z)) (sym is)
     (subst (λ u. HasType g (at as_heap u) values.Null) (sym pointer) (null_typed g k t r (subst (λ u. is_non_null u ≡ false) pointer null)))
 
--- a key of the heap is not a resource
+-- A key of the heap is not a linear resource.
 key_keyless : (r : Region) → IsKeyless (at as_heap (types.Key r))
 key_keyless regions.Heap = tt
 key_keyless regions.Unique = tt
@@ -180,7 +182,7 @@ global_keyless (types.Struct n rs) = tt
 global_is : (g : Typing) (v : GlobalVariable) → IsWellTypedGlobal v → IsObject g 1 (global_of v) (global_object v)
 global_is g v has = record { owner = refl; known = tt; keyless = λ shown. (global_keyless v.of_type, tt); cells = ((sym (kind_meant as_heap v.of_type), value_typed g v has), tt) }
 
--- the initial values of globals are not resources
+-- The initial values of globals are not linear resources.
 value_claims : (own : Thing → Holder) (h : Holder) (v : GlobalVariable) → IsWellTypedGlobal v → Claims own h (at as_heap v.of_type) (constant_value v.value)
 value_claims own h v (inl (int, (word, is))) = subst (λ t. Claims own h (at as_heap t) (constant_value v.value)) (sym int) (tt, tt)
 value_claims own h v (inr (inl (char, (word, is, small)))) = subst (λ t. Claims own h (at as_heap t) (constant_value v.value)) (sym char) (tt, tt)
@@ -228,7 +230,7 @@ all_fields n [] kept field t found = absurd (let z : None ≡ Some t = found in 
 all_fields n (u ∷ ts) (one, usual, kept) zero t found = subst (λ z. IsDeclarable n z) (same_Some u t found) one
 all_fields n (u ∷ ts) (one, usual, kept) (suc field) t found = all_fields n ts kept field t found
 
--- no field is a key
+-- In a program of the class, no field of a struct is a key.
 all_usual : (n : ℕ) (ts : List Ty) → InFields n ts → (field : ℕ) (t : Ty) → slice_get ts field ≡ Some t → is_key t ≡ false
 all_usual n [] kept field t found = absurd (let z : None ≡ Some t = found in cc)
 all_usual n (u ∷ ts) (one, usual, kept) zero t found = subst (λ z. is_key z ≡ false) (same_Some u t found) usual
@@ -249,7 +251,7 @@ cells_counted ls s ts is = go (length ls == s.parameters) refl is
     go true same is = eqb-true (length ls) s.parameters same
     go false other is = absurd (let z : None ≡ Some ts = is in cc)
 
--- without constraints, no region outlives the unique region
+-- In a function without constraints, no region outlives the unique region.
 plain_given : (h : Function) (a : Region) → h.constraints ≡ [] → IsGiven (regions_at_call h) a regions.Unique → ⊥
 plain_given h a none (inl (heap, plain)) = plain refl
 plain_given h a none (inr (inl written)) = absurd (Contains-empty (a, regions.Unique) (subst (λ ps. Contains ps (a, regions.Unique)) none written))
@@ -260,7 +262,7 @@ first_given h b none (inl (heap, plain)) = let e : regions.Unique ≡ regions.He
 first_given h b none (inr (inl written)) = absurd (Contains-empty (regions.Unique, b) (subst (λ ps. Contains ps (regions.Unique, b)) none written))
 first_given h b none (inr (inr old)) = old
 
--- at the start, all region variables denote the heap
+-- At the start of a run, all region variables denote the heap.
 stand_first : (c : RegionContext) → ((a : Region) → IsGiven c a regions.Unique → ⊥) → ((b : Region) → IsGiven c regions.Unique b → ⊥) → AreNamed c (λ n. heap_life) (λ n. true)
 stand_first c plain first = record { there = λ r has. there r; agrees = agrees; plain = plain }
   where
@@ -269,7 +271,7 @@ stand_first c plain first = record { there = λ r has. there r; agrees = agrees;
     there regions.Unique = tt
     there (regions.Variable n) = refl
 
-    -- at the start, only the unique region denotes a unique lifetime
+    -- At the start of a run, only the unique region denotes a unique lifetime.
     agrees : (a b : Region) → IsGiven c a b → Outlasts (lives_of (λ n. heap_life) a) (lives_of (λ n. heap_life) b)
     agrees regions.Heap b given = for_ever (lives_of (λ n. heap_life) b)
     agrees (regions.Variable n) b given = for_ever (lives_of (λ n. heap_life) b)

@@ -1,4 +1,4 @@
--- example texts, and programs that the rules accept or reject
+-- These modules contain example texts, and programs that the rules accept or reject.
 pub mod Examples
 pub mod LaterRegions
 pub mod KeyFields

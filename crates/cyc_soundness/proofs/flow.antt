@@ -1,4 +1,4 @@
--- facts that the flow rules imply for a tree
+-- These modules prove facts that the flow rules imply for a tree.
 pub mod FlowLemmas
 pub mod RuleLemmas
 pub mod Looking

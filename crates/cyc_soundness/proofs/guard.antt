@@ -1,13 +1,14 @@
--- tests on numbers, and the states of the rules
+-- These modules are about tests on numbers, and the flow states of the rules.
 pub mod Bools
 pub mod States
--- the relation of a guard to a state, and its preservation by the rules
+-- These modules define the relation of a guard to a flow state, and prove that the rules preserve
+-- the relation.
 pub mod Fitting
 pub mod Numbers
 pub mod Followed
--- from the flow rules to the relations on states
+-- These modules derive the relations on run states from the flow rules.
 pub mod Never
 pub mod Kept
 pub mod Whole
--- declared numbers are fresh in well-typed trees
+-- This module proves that the numbers of declared locals are fresh in well-typed trees.
 pub mod WellNumbered

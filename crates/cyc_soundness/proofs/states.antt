@@ -1,4 +1,4 @@
--- the typing of states: growth, and transfer of resources
+-- These modules are about the typing of states: how it grows, and how resources are transferred.
 pub mod WorldLemmas
 pub mod Hands
 pub mod StillHands

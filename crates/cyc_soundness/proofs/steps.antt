@@ -1,4 +1,4 @@
--- each step of a typed state leads to a typed state
+-- These modules prove that each step of a typed state yields a typed state.
 pub mod Objects
 pub mod ArrayObjects
 pub mod Swapping

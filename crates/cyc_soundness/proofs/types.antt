@@ -1,4 +1,4 @@
--- the readings of types, values and regions
+-- These modules define how types, values and regions are read under lifetimes.
 pub mod TypeLemmas
 pub mod ValueLemmas
 pub mod RegionLemmas

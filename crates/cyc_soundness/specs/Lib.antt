@@ -1,5 +1,5 @@
--- the soundness property of a program
+-- This module defines the soundness property of a program.
 pub mod Sound
--- Contracts between this crate's functions, and statements of its proofs. No public contract of the product depends on these internal
--- definitions.
+-- This module has the contracts between this crate's functions, and the statements of its proofs. No public contract of the product
+-- depends on these internal definitions.
 pub mod inside

@@ -1,11 +1,11 @@
--- the flow rules as relations on states
+-- These modules define the flow rules as relations on states.
 pub mod guard
--- the typing of the states of a run
+-- These modules define the typing of the states of a run.
 pub mod Lives
 pub mod Worlds
 pub mod Frames
 pub mod Judgements
 pub mod Awaited
 pub mod Stacks
--- the class of programs that the proof covers
+-- This module defines the class of programs that the proof covers.
 pub mod Classes

@@ -1,5 +1,5 @@
-//! Laws of the definitions in `specs/`. Each function of this file does nothing, and its contract states one law, which is proved with the
-//! crate.
+//! This file states laws of the definitions in `specs/`. Each function of this file does nothing, and its contract states one law, which
+//! is proved with the crate.
 
 ghost use Rattle.std.specs.Prelude.{ℕ, List};
 ghost use Rattle.cyc_syntax.specs.Trees.{Declaration};
@@ -25,22 +25,23 @@ pub fn allowed_programs_are_guarded()
     ensures { (program : Program) → IsWellTypedProgram program → IsAllowedProgram program → IsGuardedProgram program }
 {}
 
-/// The facts about a world only grow, and typed parts stay typed. A value keeps its type for ever; a control stack keeps its type as long
-/// as no resource changes its holder.
+/// The facts about a world only grow, and typed parts of a state stay typed. A value keeps its type for ever; a control stack keeps its
+/// type as long as no resource changes its holder.
 pub fn typings_stay()
     ensures values { (g h : Typing) → Grows g h → (t : RunTy) (v : Value) → HasType g t v → HasType h t v }
     ensures stacks { (p : Program) (g h : Typing) → Stays g h → (x : Exits) (locals : List InScope) (want : Want) (stack : List Entry)
         → IsStack p g x locals want stack → IsStack p h x locals want stack }
 {}
 
-/// If the rules allow the conversion of a value, it gives a value of the target type, or raises an exception. Each conversion fits for all
-/// lifetimes of the regions that satisfy the outlives constraints.
+/// If the rules allow the conversion of a value, then the conversion yields a value of the target type, or raises an exception. Each
+/// conversion is well-typed for all lifetimes of the regions that satisfy the outlives constraints.
 pub fn conversions_fit()
     ensures { (g : Typing) (n : Lives) (c : Context) (s : ValueType) (t : Ty) (v : Operand) → AgreesWith c.regions n → Converts c s t
         → IsResult g (value_at n s) v → Fits g (at n t) (conversion (kind_of t) v.value) }
 {}
 
-/// If the typing rules derive a program from a tree and the flow rules accept it, no run of it is ever dead or wrong.
+/// If the typing rules derive a program from a tree and the flow rules accept the program, then no run of the program
+/// is ever dead or wrong.
 pub fn typed_programs_are_sound()
     ensures { (texts : List (List ℕ)) (tree : List Declaration) (p : Program) → IsTypedProgram texts tree p → IsAllowedProgram p → IsSound p }
 {}

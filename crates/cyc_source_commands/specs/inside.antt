@@ -1,3 +1,3 @@
--- the answers to a check, a compilation and a request to format
+-- the answers to the commands that check, compile or format a program
 pub mod Work
 pub mod Formatting

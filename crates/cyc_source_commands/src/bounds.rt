@@ -1,4 +1,4 @@
-//! The text about a program's needs, for every input.
+//! The text that states a program's needs, for every input: calls, pages and steps.
 use cyc_bound::{CallBound, MOST_CALLS, PageBound, StepBound};
 use cyc_cli::{FileName, Shown};
 use cyc_compiler::{Bounded, Bounds, compile};
@@ -9,7 +9,7 @@ use cyc_words::Span;
 use std::alloc::Global;
 use std::fmt;
 
-/// Returns the number of words of text of the image that a program compiles to, if it does.
+/// Returns the number of code words in the image of a program, if the program compiles.
 fn words_of(alloc: Global, text: &[u8]) -> Option<u32> {
     let image = compile(alloc, text).ok()?;
     let outline = read_outline(alloc, image.as_slice()).ok()?;
@@ -17,7 +17,8 @@ fn words_of(alloc: Global, text: &[u8]) -> Option<u32> {
     Some(header.memory_size / 4)
 }
 
-/// Returns that number if the program's steps have a bound; otherwise it is not needed.
+/// Returns the number of code words if the program's steps have a bound; otherwise the number is
+/// not needed.
 pub fn words_by(alloc: Global, text: &[u8], bounds: &Bounds) -> Option<u32> {
     match bounds.steps {
         StepBound::Steps { .. } => words_of(alloc, text),
@@ -25,19 +26,20 @@ pub fn words_by(alloc: Global, text: &[u8], bounds: &Bounds) -> Option<u32> {
     }
 }
 
-/// The text about a program in a file: a line for each of the calls, pages and steps that it needs, or that there is no bound. If there is
-/// none, the obstacle follows: for a cycle of calls a line for each function with the position of its call of the next, else the position
-/// of a loop. After the steps it gives the greatest number of instructions for them.
+/// The text about a program's needs has a line for each of the calls, pages and steps, which states a bound or its absence. If there is no
+/// bound, the obstacle follows. For a cycle of calls the text has a line for each function, with the position of its call of the next
+/// function. For any other obstacle it has the position of a loop. After the steps the text states the maximum number of instructions for
+/// them.
 #[derive(Drop)]
 pub struct Needs<'a> {
     pub name: &'a str,
     pub text: &'a [u8],
     pub bounded: &'a Bounded,
-    /// The number of words of the image's text, if the program was compiled: no step takes more instructions.
+    /// The number of code words of the image, if the program was compiled; no step takes more instructions.
     pub words: Option<u32>,
 }
 
-/// Returns the tokens from the first one at or after a position.
+/// Returns the tokens from the first token at or after a source position.
 fn tokens_from(tokens: &[Token], place: Span) -> &[Token] {
     let before = tokens.partition_point(|token| {
         (token.span.line, token.span.column) < (place.line, place.column)
@@ -45,7 +47,7 @@ fn tokens_from(tokens: &[Token], place: Span) -> &[Token] {
     tokens.get(before..).unwrap_or(&[])
 }
 
-/// Returns the bytes of a token.
+/// Returns the bytes of a token in the source text.
 fn spelled<'a>(text: &'a [u8], token: &Token) -> &'a [u8] {
     text.get(token.start..token.end).unwrap_or(&[])
 }
@@ -63,7 +65,8 @@ impl<'a> Needs<'a> {
         }
     }
 
-    /// Returns the position at which the body of a function first calls the function of this name.
+    /// Returns the source position at which the body of a function first calls the function named
+    /// `callee`.
     fn call_of(&self, caller: &Function, callee: &[u8]) -> Option<Span> {
         let tokens = tokens_from(&self.bounded.tokens, caller.span).get(1..)?;
         for (place, token) in tokens.iter().enumerate() {
@@ -115,7 +118,7 @@ impl<'a> Needs<'a> {
 }
 
 impl Needs<'_> {
-    /// Writes the line of a loop that prevents a bound.
+    /// Writes the line about a loop that prevents a bound.
     fn write_loop<W: fmt::Write>(
         &self,
         place: Span,
@@ -182,13 +185,13 @@ impl fmt::Display for Needs<'_> {
     }
 }
 
-/// What would have to change for a bound that a program has not. The `Display` form is one line each for a missing bound on calls and on
-/// pages, or nothing if both bounds exist.
+/// The changes that would give a program its missing bounds. The `Display` form is one line for a missing bound on calls and one for a
+/// missing bound on pages, or empty if both bounds exist.
 #[derive(Drop)]
 pub struct Remedies<'a>(pub &'a Needs<'a>);
 
 impl Remedies<'_> {
-    /// Returns true if there is something to say.
+    /// Returns true if there is a remedy to write.
     pub fn has_any(&self) -> bool {
         let bounded = self.0.bounded;
         match (&bounded.bounds.calls, &bounded.bounds.pages) {
@@ -198,7 +201,7 @@ impl Remedies<'_> {
         }
     }
 
-    /// Writes the line on calls: of functions that lead back to themselves, the last call of the circle.
+    /// Writes the line about calls: if functions call each other in a cycle, the last call of the cycle.
     fn write_calls<W: fmt::Write>(&self, f: &mut fmt::Formatter<W>) -> fmt::Result {
         let needs = self.0;
         let CallBound::Cycle { functions } = &needs.bounded.bounds.calls else {
@@ -219,7 +222,7 @@ impl Remedies<'_> {
         )
     }
 
-    /// Writes the line on pages: what a loop makes, or functions that lead back to themselves do.
+    /// Writes the line about pages: the loop or the cycle of calls that allocates without a bound.
     fn write_pages<W: fmt::Write>(&self, f: &mut fmt::Formatter<W>) -> fmt::Result {
         let needs = self.0;
         if let PageBound::Pages { .. } = needs.bounded.bounds.pages {

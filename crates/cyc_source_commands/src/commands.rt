@@ -1,4 +1,4 @@
-//! The commands that take a source file, using files and the standard streams.
+//! The commands that take a source file; they use files and the standard streams.
 use crate::bounds::{Needs, Remedies, words_by};
 use crate::formatting::format_text;
 use crate::programs::read_program;
@@ -18,7 +18,7 @@ use std::io;
 use std::io::Write;
 use std::mem::ManuallyDrop;
 
-/// `check SOURCE`, with what it reaches of libraries.
+/// Runs the command `check SOURCE`, including the library declarations that the program needs.
 pub fn check_file(
     rt: &HostRuntime,
     source: &str,
@@ -43,7 +43,8 @@ pub fn check_file(
     }
 }
 
-/// Rejects the source file as the image file, which would replace it.
+/// Rejects an image file that is the same as the source file, because the image would replace the
+/// source.
 fn refuse_one_file(rt: &HostRuntime, source: &str, image: &str) -> Result<(), Answer> {
     if !is_one_file(rt, source, image) {
         return Ok(());
@@ -55,7 +56,8 @@ fn refuse_one_file(rt: &HostRuntime, source: &str, image: &str) -> Result<(), An
     Err(Answer::Usage)
 }
 
-/// What is written beside an image: its name for a person, and the option that names its file.
+/// A further output file of a compilation: its description for the user, and the option that names
+/// it.
 #[derive(Clone, Copy)]
 struct Beside<'a> {
     what: &'static str,
@@ -63,7 +65,8 @@ struct Beside<'a> {
     path: &'a str,
 }
 
-/// Refuses for it the file of a program, and those of its image and of its places, which it would take the place of.
+/// Rejects a further output file that is the same as the source file, the image file or the file of source
+/// positions, which it would replace.
 fn refuse_beside(
     rt: &HostRuntime,
     beside: Beside<'_>,
@@ -92,17 +95,17 @@ fn refuse_beside(
     Err(Answer::Usage)
 }
 
-/// The files that a compilation writes.
+/// The output files of a compilation.
 #[derive(Clone, Copy)]
 pub struct Outputs<'a> {
     pub image: &'a str,
-    /// Where in the program the image comes from.
+    /// The file that receives the source positions of the image's code, if one is named.
     pub places: Option<&'a str>,
-    /// The file that receives the text that is compiled, if one is named.
+    /// The file that receives the complete text that is compiled, if one is named.
     pub emit: Option<&'a str>,
 }
 
-/// Refuses a file that is given twice: as the file of a program or of one of its libraries, and in another role.
+/// Rejects a file that is named in two roles: as the source file or a library, and as an output file.
 fn refuse_files(rt: &HostRuntime, source: &str, outputs: Outputs<'_>) -> Result<(), Answer> {
     let Outputs {
         image,
@@ -129,7 +132,8 @@ fn refuse_files(rt: &HostRuntime, source: &str, outputs: Outputs<'_>) -> Result<
     Ok(())
 }
 
-/// Returns the limits that follow from a program's bounds, if there is a bound on both.
+/// Returns the run limits that follow from a program's bounds, if both the calls and the pages have
+/// a bound.
 fn limits_by(bounds: &Bounds) -> Option<GivenLimits> {
     match (&bounds.calls, &bounds.pages) {
         (CallBound::Calls { count: calls }, PageBound::Pages { count: pages }) => {
@@ -139,7 +143,7 @@ fn limits_by(bounds: &Bounds) -> Option<GivenLimits> {
     }
 }
 
-/// Reports the needs of a program without bounds of its own.
+/// Reports the needs of a program that lacks a bound.
 fn tell_needs(rt: &HostRuntime, source: Source<'_>) -> Answer {
     match bounds_with_tokens(rt.alloc(), source.text) {
         Ok(bounded) => {
@@ -159,7 +163,8 @@ fn tell_needs(rt: &HostRuntime, source: Source<'_>) -> Answer {
     }
 }
 
-/// Returns the limits that follow from a program's own bounds, or reports why it has none.
+/// Returns the run limits that follow from a program's own bounds, or reports why the program has
+/// no bounds.
 fn own_limits(rt: &HostRuntime, source: Source<'_>) -> Result<GivenLimits, Answer> {
     match bounds(rt.alloc(), source.text) {
         Ok(needed) => match limits_by(&needed) {
@@ -170,7 +175,8 @@ fn own_limits(rt: &HostRuntime, source: Source<'_>) -> Result<GivenLimits, Answe
     }
 }
 
-/// `compile SOURCE -o IMAGE`, with what the program reaches of libraries. The files are opened only where there is an image to write.
+/// Runs the command `compile SOURCE -o IMAGE`, including the library declarations that the program needs. The output files are opened
+/// only if there is an image to write.
 pub fn compile_file(
     rt: &HostRuntime,
     source: &str,
@@ -204,7 +210,7 @@ pub fn compile_file(
     }
 }
 
-/// Writes the image of a program, and its places, if they are wanted.
+/// Writes the image of a program, and the file of source positions if it is requested.
 fn compile_text(
     rt: &HostRuntime,
     source: Source<'_>,
@@ -216,7 +222,7 @@ fn compile_text(
     }
     match compile(rt.alloc(), source.text, limits) {
         Ok(made) => {
-            // The process exits after this, so the results are not freed, as in `check`.
+            // The process exits after the command, so the results are not freed, as in `check`.
             let made = ManuallyDrop::new(made);
             tell_warnings(rt, source, made.warnings.as_slice())?;
             write_whole(rt, outputs.image, made.image.as_slice())
@@ -225,7 +231,7 @@ fn compile_text(
     }
 }
 
-/// Writes a file: nothing, or the answer where it cannot be written.
+/// Writes all bytes to a file. The error is the answer that reports the failed write.
 fn write_whole(rt: &HostRuntime, path: &str, bytes: &[u8]) -> Result<(), Answer> {
     match write_file(rt, path, bytes) {
         Answer::Done => Ok(()),
@@ -233,7 +239,7 @@ fn write_whole(rt: &HostRuntime, path: &str, bytes: &[u8]) -> Result<(), Answer>
     }
 }
 
-/// A program's image, with the text of its file of places.
+/// A program's image, together with the text of its file of source positions.
 #[derive(Drop)]
 pub struct Made {
     compiled: ManuallyDrop<Placed>,
@@ -246,13 +252,14 @@ impl Made {
         self.compiled.compilation.image.as_slice()
     }
 
-    /// Returns the bytes of the file of places, which maps the image's code to places in the program.
+    /// Returns the bytes of the file of source positions, which maps the image's code to positions in
+    /// the program.
     pub fn places(&self) -> &[u8] {
         self.places.as_bytes()
     }
 }
 
-/// Compiles a program with its places, and tells what is found in it.
+/// Compiles a program together with its source positions, and reports the findings.
 fn make_placed(rt: &HostRuntime, source: Source<'_>, limits: GivenLimits) -> Result<Made, Answer> {
     match compile_placed(rt.alloc(), source.text, limits) {
         Ok(compiled) => {
@@ -276,7 +283,8 @@ fn make_placed(rt: &HostRuntime, source: Source<'_>, limits: GivenLimits) -> Res
     }
 }
 
-/// Compiles with `--places FILE`, which is written after the image.
+/// Compiles a program with the option `--places FILE`; the file of source positions is written
+/// after the image.
 fn compile_with_file(
     rt: &HostRuntime,
     source: Source<'_>,
@@ -289,7 +297,8 @@ fn compile_with_file(
     write_whole(rt, path, made.places())
 }
 
-/// The first half of `exec SOURCE`: the image of a program, which is to be run with these limits.
+/// Performs the first half of the command `exec SOURCE`: compiles the program to an image, which
+/// will run with the given limits.
 pub fn make_file(
     rt: &HostRuntime,
     source: &str,
@@ -307,7 +316,7 @@ pub fn make_file(
     make_placed(rt, source, limits)
 }
 
-/// Prints the name of a file, above what is said of it.
+/// Prints the name of a file, above the text about the file.
 pub fn print_name(rt: &HostRuntime, source: &str) -> Result<(), Answer> {
     let mut output = Output::new(rt);
     let printed = write!(output, "{}:\n", FileName(source.as_bytes()));
@@ -317,7 +326,7 @@ pub fn print_name(rt: &HostRuntime, source: &str) -> Result<(), Answer> {
     }
 }
 
-/// `bound SOURCE`, with what it reaches of libraries.
+/// Runs the command `bound SOURCE`, including the library declarations that the program needs.
 pub fn bound_file(rt: &HostRuntime, source: &str, libraries: &[&str]) -> Result<Answer, Answer> {
     let program = read_program(rt, source, libraries, false)?;
     let source = Source {
@@ -348,7 +357,7 @@ pub fn bound_file(rt: &HostRuntime, source: &str, libraries: &[&str]) -> Result<
     }
 }
 
-/// Formats a program and prints it.
+/// Formats a program and prints the result.
 fn print_formatted(rt: &HostRuntime, text: &[u8]) -> Result<Answer, Fault> {
     let Ok(mut screen) = Screen::new(rt.alloc(), Output::new(rt), false) else {
         return Ok(Answer::NoMemory);
@@ -356,13 +365,13 @@ fn print_formatted(rt: &HostRuntime, text: &[u8]) -> Result<Answer, Fault> {
     format_text(rt.alloc(), text, &mut screen)
 }
 
-/// Formats a program and writes it to a file, which may be its own.
+/// Formats a program and writes the result to a file, which may be the source file.
 fn write_formatted(rt: &HostRuntime, text: &[u8], path: &str) -> Result<Answer, Fault> {
     let laid = format(rt.alloc(), text)?;
     Ok(write_file(rt, path, laid.as_slice()))
 }
 
-/// Says whether a program is laid out in the one style.
+/// Reports if a program is formatted in the standard style.
 fn compare_formatted(rt: &HostRuntime, source: &str, text: &[u8]) -> Result<Answer, Fault> {
     let laid = format(rt.alloc(), text)?;
     if laid.as_slice() == text {
@@ -375,7 +384,7 @@ fn compare_formatted(rt: &HostRuntime, source: &str, text: &[u8]) -> Result<Answ
     Ok(Answer::Unformatted)
 }
 
-/// Refuses a file to write to, which `--check` has no use for.
+/// Rejects an output file, because `--check` writes no file.
 fn refuse_output(rt: &HostRuntime, output: Option<&str>) -> Result<(), Answer> {
     if output.is_none() {
         return Ok(());
@@ -384,7 +393,8 @@ fn refuse_output(rt: &HostRuntime, output: Option<&str>) -> Result<(), Answer> {
     Err(Answer::Usage)
 }
 
-/// `format SOURCE`. With `is_check`, the command only reports whether the file is formatted.
+/// Runs the command `format SOURCE`. With `is_check`, the command only reports if the file is
+/// formatted.
 pub fn format_file(
     rt: &HostRuntime,
     source: &str,

@@ -1,4 +1,4 @@
-//! Prints a formatted program.
+//! Formats a program and writes the result to a device.
 ghost use Rattle.cyc_host.specs.inside.Console.{screen_held, screen_is_stuck, screen_written};
 ghost use Rattle.cyc_source_commands.specs.inside.Formatting.{AnswersFormat, EndsFormat};
 
@@ -8,7 +8,7 @@ use cyc_words::{ByteOut, Fault};
 use std::alloc::Global;
 use std::io::Write;
 
-/// Formats a text, to a device.
+/// Formats a source text and writes the result to a device.
 fn format_to<W: ByteOut>(alloc: Global, text: &[u8], writer: &mut W) -> Result<Answer, Fault>
     ensures { AnswersFormat text.now (W.written writer.old) (W.written writer.new) result }
 {
@@ -19,7 +19,7 @@ fn format_to<W: ByteOut>(alloc: Global, text: &[u8], writer: &mut W) -> Result<A
     }
 }
 
-/// Formats a text, to the screen's writer.
+/// Formats a source text and writes the result to the screen's writer.
 pub fn format_text<W: Write + Drop>(
     alloc: Global,
     text: &[u8],

@@ -1,11 +1,12 @@
-//! What is said of a text that was put together from several files, with each place told by the file in which it stands. A place of the
-//! program's own file is unchanged: that file comes first in the text, so its line numbers are those of the text.
+//! Adapts messages about a text that was joined from several files: each source position names the file that contains it. A position in
+//! the program's own file is unchanged. The program's file comes first in the joined text, so its line numbers are those of the text.
 use cyc_cli::{FileName, Quoted, Shown};
 use cyc_places::Part;
 use std::alloc::{AllocError, Global};
 use std::fmt::Display;
 
-/// The file of another part of the text, and the line there, of a line of the text that stands in one.
+/// Returns the other file that contains a line of the joined text, and the line's number in that file,
+/// if the line belongs to another file.
 fn home_of<'a>(parts: &[Part<'a>], line: u32) -> Option<(&'a str, u32)> {
     let after = parts.partition_point(|part| part.first <= line);
     let part = parts.get(after.checked_sub(1)?)?;
@@ -13,7 +14,8 @@ fn home_of<'a>(parts: &[Part<'a>], line: u32) -> Option<(&'a str, u32)> {
     Some((part.name, part.line.saturating_add(beyond)))
 }
 
-/// The same of a text that begins with the number of a line and this sign, and the rest of it after that.
+/// Reads a line number followed by `sign` at the start of a text. Returns the other file and line for
+/// that number, and the rest of the text.
 fn home_in<'a, 't>(
     parts: &[Part<'a>],
     text: &'t str,
@@ -24,7 +26,8 @@ fn home_in<'a, 't>(
     Some((name, line, rest))
 }
 
-/// What is said with the text between some words and the next ones made anew.
+/// A message under construction: some pieces are copied, and the source positions between them are
+/// rewritten.
 #[derive(Drop)]
 struct Pieces<'a> {
     alloc: Global,
@@ -38,7 +41,7 @@ impl Pieces<'_> {
         self.made.push_str(text.as_str())
     }
 
-    /// A line for a person, of which the places in words follow ` at `.
+    /// Appends a line for the user in which each source position in words follows ` at `.
     fn put_words(&mut self, line: &str) -> Result<(), AllocError> {
         let mut is_first = true;
         for piece in line.split(" at ") {
@@ -60,7 +63,7 @@ impl Pieces<'_> {
         Ok(())
     }
 
-    /// A line for a person, which may begin with a place.
+    /// Appends a line for the user, which may begin with a source position.
     fn put_line(&mut self, line: &str, head: &str) -> Result<(), AllocError> {
         match line.strip_prefix(head) {
             Some(placed) => match home_in(self.parts, placed, ':') {
@@ -76,7 +79,7 @@ impl Pieces<'_> {
         }
     }
 
-    /// The members of an object, in which the number of a line follows this name.
+    /// Appends the members of a JSON object, in which a line number follows the member name `name`.
     fn put_members(&mut self, object: &str, name: &str) -> Result<(), AllocError> {
         let mut is_first = true;
         for piece in object.split(name) {
@@ -98,7 +101,8 @@ impl Pieces<'_> {
     }
 }
 
-/// What is said to a person of a text whose program stands in the file `name`.
+/// Returns the message for the user about a text whose program is in the file `name`, with
+/// positions in other files rewritten.
 pub fn words_by_homes(
     alloc: Global,
     said: &str,
@@ -122,7 +126,8 @@ pub fn words_by_homes(
     Ok(pieces.made)
 }
 
-/// The name of the file of the place that follows these words in an object, as JSON, if it is another part's.
+/// Returns the file of the source position that follows the given words in a JSON object, as JSON, if it is
+/// not the program's file.
 fn file_after(
     alloc: Global,
     object: &str,
@@ -149,7 +154,7 @@ const RELATED: &str = "\"related\":[{\"line\":";
 
 const END: &str = "}]}\n";
 
-/// An object with the file of its place in place of the program's.
+/// Returns a JSON object with the file of its source position replaced.
 fn with_file(alloc: Global, object: &str, file: &str) -> Result<String, AllocError> {
     if let Some((before, after)) = object.split_once(FILE) {
         if let Some((_, rest)) = after.split_once(LINE) {
@@ -159,7 +164,7 @@ fn with_file(alloc: Global, object: &str, file: &str) -> Result<String, AllocErr
     format!(in alloc; "{object}")
 }
 
-/// An object that tells of a text whose program stands in the file `name`, on a line. A further place in another file than its own has that
+/// Returns a JSON object, on a line, about a text whose program is in the file `name`. A further source position in another file gets that
 /// file's name after its other members.
 pub fn object_by_homes(
     alloc: Global,

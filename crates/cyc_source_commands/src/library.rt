@@ -1,11 +1,11 @@
-//! A program with what it reaches of libraries, as one text: its own, and after that the declarations of the libraries that it needs. What
-//! is reached is known by names alone, as tokens.
+//! Joins a program with the library declarations that it needs to one text: the program's own text, and then the needed declarations. A
+//! library declaration is needed if its name occurs as a token in the program or in a needed declaration.
 use cyc_places::Part;
 use cyc_syntax::{Keyword, Names, Sign, Token, TokenKind};
 use cyc_words::Span;
 use std::alloc::{AllocError, Global};
 
-/// A file whose declarations are there for programs.
+/// A library file, whose declarations programs may use.
 #[derive(Drop)]
 pub struct Library<'a> {
     pub name: &'a str,
@@ -13,7 +13,7 @@ pub struct Library<'a> {
     pub tokens: Vec<Token>,
 }
 
-/// A declaration of a library: the library's number, and where among its tokens it begins and ends.
+/// A declaration of a library: the library's number, and the range of the declaration's tokens.
 #[derive(Clone, Copy)]
 struct Declaration {
     library: usize,
@@ -22,28 +22,30 @@ struct Declaration {
     is_reached: bool,
 }
 
-/// What is known of a name.
+/// The facts known about a name: its declarations, and a flag that is true once the name was
+/// followed.
 #[derive(Clone, Copy)]
 struct Known {
-    /// The declaration of a library that declares it.
+    /// The library declaration that declares the name, if any.
     declared_by: Option<usize>,
-    /// The place where the program declares the name, if it does.
+    /// The position at which the program itself declares the name, if it does.
     own: Option<Span>,
     was_met: bool,
 }
 
-/// Why a program cannot be put together with libraries.
+/// The reasons for which a program cannot be joined with libraries.
 #[derive(Clone, Copy)]
 pub enum Clash {
     Memory,
-    /// Two libraries, by their numbers, declare the name that the second has at this token.
+    /// Two libraries declare the same name; `token` is the index of the name's token in the second
+    /// library.
     Twice {
         first: usize,
         second: usize,
         token: usize,
     },
-    /// The program declares at `own` the name that a library declares too and has at `token`, in the declaration that has its own name at
-    /// `by`, which is needed.
+    /// The program declares, at `own`, a name that a library also declares. A needed library declaration uses the name at `token`; `by`
+    /// is the token of that declaration's own name.
     Taken {
         own: Span,
         declared_in: usize,
@@ -65,12 +67,13 @@ fn put<T: Drop>(list: &mut Vec<T>, item: T) -> Result<(), AllocError> {
     Ok(())
 }
 
-/// The bytes of a token.
+/// Returns the bytes of a token in the source text.
 pub fn spelled<'a>(text: &'a [u8], token: &Token) -> &'a [u8] {
     text.get(token.start..token.end).unwrap_or(&[])
 }
 
-/// By how many brackets a token leads deeper.
+/// Returns by how much a token increases the nesting depth of brackets; a closing bracket
+/// returns -1.
 fn deeper(kind: TokenKind) -> i64 {
     match kind {
         TokenKind::Sign(Sign::LeftParen | Sign::LeftBracket | Sign::LeftBrace) => 1,
@@ -79,7 +82,8 @@ fn deeper(kind: TokenKind) -> i64 {
     }
 }
 
-/// Returns true if tokens, the first ones of a declaration, are those of a function: of the others only exceptions have such brackets.
+/// Returns true if the first tokens of a declaration belong to a function; of the other declarations, only exceptions contain
+/// parentheses.
 fn is_function(tokens: &[Token]) -> bool {
     let mut has_bracket = false;
     for token in tokens {
@@ -91,7 +95,8 @@ fn is_function(tokens: &[Token]) -> bool {
     }
 }
 
-/// Returns true if a token within no brackets ends the declaration that begins a list of tokens: that of a function ends with its body.
+/// Returns true if a token outside all brackets ends the declaration at the start of a token list; a function declaration ends with its
+/// body.
 fn ends_declaration(tokens: &[Token], place: usize, kind: TokenKind) -> bool {
     match kind {
         TokenKind::Sign(Sign::Semicolon) => true,
@@ -100,7 +105,7 @@ fn ends_declaration(tokens: &[Token], place: usize, kind: TokenKind) -> bool {
     }
 }
 
-/// Where the declaration that begins a list of tokens ends, if it does.
+/// Returns the end of the declaration at the start of a token list, if it ends.
 fn end_of_declaration(tokens: &[Token]) -> Option<usize> {
     let mut depth: i64 = 0;
     for (place, token) in tokens.iter().enumerate() {
@@ -112,7 +117,8 @@ fn end_of_declaration(tokens: &[Token]) -> Option<usize> {
     None
 }
 
-/// Returns true if a token of exceptions declares an exception: a name after a brace or a semicolon.
+/// Returns true if a token of an exception declaration is the name of an exception, that is, follows
+/// a brace or a semicolon.
 fn is_constructor(tokens: &[Token], place: usize) -> bool {
     match place.checked_sub(1).and_then(|before| tokens.get(before)) {
         Some(token) => matches!(
@@ -123,7 +129,7 @@ fn is_constructor(tokens: &[Token], place: usize) -> bool {
     }
 }
 
-/// Returns true if a name ends here, of a function or of a global.
+/// Returns true if a token follows the name of a declared function or global.
 fn ends_name(kind: TokenKind) -> bool {
     matches!(
         kind,
@@ -131,7 +137,8 @@ fn ends_name(kind: TokenKind) -> bool {
     )
 }
 
-/// Returns true if tokens are a declaration of a struct, and not of what has a struct's type.
+/// Returns true if the tokens declare a struct, rather than a function or global with a struct
+/// type.
 fn is_struct(tokens: &[Token]) -> bool {
     matches!(
         tokens,
@@ -143,7 +150,8 @@ fn is_struct(tokens: &[Token]) -> bool {
     )
 }
 
-/// The place of the name among the tokens of a function or of a global: the last one before its brackets or its value.
+/// Returns the index of the name among the tokens of a function or global declaration: the last token before its
+/// parentheses or its value.
 fn place_of_name(tokens: &[Token]) -> usize {
     let mut found: usize = 0;
     for (place, token) in tokens.iter().enumerate() {
@@ -157,7 +165,7 @@ fn place_of_name(tokens: &[Token]) -> usize {
     found
 }
 
-/// Returns true if the token at a place declares a name for the whole program.
+/// Returns true if the token at an index declares a name for the whole program.
 fn declares(tokens: &[Token], place: usize) -> bool {
     match tokens.first() {
         Some(token) if token.kind == TokenKind::Keyword(Keyword::Datatype) => {
@@ -168,19 +176,19 @@ fn declares(tokens: &[Token], place: usize) -> bool {
     }
 }
 
-/// What libraries declare, and what of it a program needs.
+/// The declarations of all libraries, and the flags of those that a program needs.
 #[derive(Drop)]
 pub struct Shelf<'a> {
     alloc: Global,
     libraries: Vec<Library<'a>>,
     declarations: Vec<Declaration>,
     names: Names,
-    /// What is known of each name, by its number.
+    /// The facts known about each name, indexed by the name's number.
     known: Vec<Known>,
 }
 
 impl<'a> Shelf<'a> {
-    /// Returns a shelf of these libraries, none of which was read yet.
+    /// Returns a shelf with the given libraries, whose declarations have not been found yet.
     pub fn new(alloc: Global, libraries: Vec<Library<'a>>) -> Result<Shelf<'a>, AllocError> {
         Ok(Shelf {
             alloc,
@@ -191,7 +199,7 @@ impl<'a> Shelf<'a> {
         })
     }
 
-    /// Finds the declarations of the libraries.
+    /// Finds the declarations of all libraries.
     pub fn split(&mut self) -> Result<(), Clash> {
         for library in 0..self.libraries.len() {
             self.split_one(library)?;
@@ -204,7 +212,7 @@ impl<'a> Shelf<'a> {
         self.libraries.as_slice()
     }
 
-    /// The tokens of a library from a place to another.
+    /// Returns the tokens of a library from index `first` to index `end`.
     fn tokens(&self, library: usize, first: usize, end: usize) -> &[Token] {
         match self.libraries.get(library) {
             Some(library) => {
@@ -215,7 +223,7 @@ impl<'a> Shelf<'a> {
         }
     }
 
-    /// The number of a name.
+    /// Returns the number of a name; a new name gets the next number.
     fn number_of(&mut self, name: &[u8]) -> Result<usize, AllocError> {
         let number = self.names.intern(name)?.number;
         if number >= self.known.len() {
@@ -228,7 +236,7 @@ impl<'a> Shelf<'a> {
         Ok(number)
     }
 
-    /// The number of the name that a token of a library is, if it is one.
+    /// Returns the number of the name at a token of a library, if the token is a name.
     fn name_at(&mut self, library: usize, place: usize) -> Result<Option<usize>, AllocError> {
         let Some(found) = self.libraries.get(library) else {
             return Ok(None);
@@ -242,7 +250,7 @@ impl<'a> Shelf<'a> {
         }
     }
 
-    /// Finds the declarations of a library.
+    /// Finds the declarations of one library.
     fn split_one(&mut self, library: usize) -> Result<(), Clash> {
         let mut first: usize = 0;
         for _ in 0..u32::MAX {
@@ -261,7 +269,7 @@ impl<'a> Shelf<'a> {
         Ok(())
     }
 
-    /// Adds a declaration, and notes the names that it declares.
+    /// Adds a library declaration, and records the names that it declares.
     fn add(&mut self, declaration: Declaration) -> Result<(), Clash> {
         let Declaration {
             library,
@@ -286,7 +294,7 @@ impl<'a> Shelf<'a> {
         Ok(())
     }
 
-    /// Notes that a declaration declares a name.
+    /// Records that a library declaration declares a name.
     fn note(
         &mut self,
         name: usize,
@@ -313,7 +321,7 @@ impl<'a> Shelf<'a> {
 // ---- what a program needs
 
 impl Shelf<'_> {
-    /// Notes the names that a program declares.
+    /// Records the names that the program itself declares.
     fn note_own(&mut self, text: &[u8], tokens: &[Token]) -> Result<(), AllocError> {
         let mut rest = tokens;
         for _ in 0..tokens.len() {
@@ -334,7 +342,7 @@ impl Shelf<'_> {
         Ok(())
     }
 
-    /// Returns the declaration that a name leads to which is met for the first time, if there is one, and notes that it is reached.
+    /// Returns the library declaration of a name, if the name is followed for the first time, and marks the declaration as needed.
     fn meet(&mut self, name: usize) -> Option<usize> {
         let known = self.known.get_mut(name)?;
         if known.was_met {
@@ -350,14 +358,15 @@ impl Shelf<'_> {
         Some(number)
     }
 
-    /// Returns where the program declares a name that a library declares too, if it does, and that library.
+    /// If both the program and a library declare a name, returns the position of the program's declaration
+    /// and the library.
     fn taken(&self, name: usize) -> Option<(Span, usize)> {
         let known = self.known.get(name)?;
         let declaration = self.declarations.get(known.declared_by?)?;
         Some((known.own?, declaration.library))
     }
 
-    /// Adds the names of a declaration that is reached to those that are still to be followed.
+    /// Adds the names in a needed declaration to the list of names that still have to be followed.
     fn follow(&mut self, number: usize, names: &mut Vec<usize>) -> Result<(), Clash> {
         let Some(declaration) = self.declarations.get(number) else {
             return Ok(());
@@ -392,7 +401,7 @@ impl Shelf<'_> {
         Ok(())
     }
 
-    /// Finds what a program needs.
+    /// Finds the library declarations that a program needs.
     pub fn reach(&mut self, text: &[u8], tokens: &[Token]) -> Result<(), Clash> {
         self.note_own(text, tokens)?;
         let mut names = Vec::new(self.alloc);
@@ -405,7 +414,8 @@ impl Shelf<'_> {
                 }
             }
         }
-        // Each name leads to a declaration once, so there are no more turns than tokens.
+        // Each name is followed to its declaration once, so the number of iterations is at most the
+        // number of tokens.
         for _ in 0..u64::MAX {
             let Some(name) = names.pop() else {
                 return Ok(());
@@ -417,7 +427,7 @@ impl Shelf<'_> {
         Ok(())
     }
 
-    /// The bytes of a declaration, and the line on which it begins.
+    /// Returns the bytes of a library declaration, and the line on which it begins.
     fn bytes_of(&self, declaration: &Declaration) -> (&[u8], u32) {
         let tokens = self.tokens(declaration.library, declaration.first, declaration.end);
         match (
@@ -434,7 +444,7 @@ impl Shelf<'_> {
     }
 }
 
-/// How many lines end among some bytes.
+/// Returns the number of line feeds among some bytes.
 fn count_lines(bytes: &[u8]) -> u32 {
     let mut count: u32 = 0;
     for byte in bytes {
@@ -445,17 +455,17 @@ fn count_lines(bytes: &[u8]) -> u32 {
     count
 }
 
-/// A text that is put together, and the parts of it that stand in other files.
+/// A joined text, and the parts of the text that come from other files.
 #[derive(Drop)]
 pub struct Joined<'a> {
     pub text: Vec<u8>,
     pub parts: Vec<Part<'a>>,
-    /// The line on which the next byte stands.
+    /// The number of the line to which the next byte is added.
     line: u32,
 }
 
 impl<'a> Joined<'a> {
-    /// A text that stands in one file.
+    /// Returns a joined text that consists of one file only.
     pub fn alone(alloc: Global, text: Vec<u8>) -> Joined<'a> {
         Joined {
             line: count_lines(&text).saturating_add(1),
@@ -464,7 +474,7 @@ impl<'a> Joined<'a> {
         }
     }
 
-    /// Adds bytes at the end.
+    /// Adds bytes at the end of the joined text.
     fn add(&mut self, bytes: &[u8]) -> Result<(), AllocError> {
         self.text.extend_from_slice(bytes)?;
         self.line = self.line.saturating_add(count_lines(bytes));
@@ -473,7 +483,7 @@ impl<'a> Joined<'a> {
 }
 
 impl<'a> Shelf<'a> {
-    /// Returns the text of a program with what it needs after it.
+    /// Returns the text of a program, followed by the library declarations that it needs.
     pub fn join(&self, text: Vec<u8>) -> Result<Joined<'a>, AllocError> {
         let mut joined = Joined::alone(self.alloc, text);
         for declaration in &self.declarations {

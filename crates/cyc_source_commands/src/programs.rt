@@ -1,4 +1,5 @@
-//! The text of a program: that of its file, and after it what it reaches of libraries.
+//! Reads the text of a program: the text of its file, followed by the library declarations that it
+//! needs.
 use crate::library::{Clash, Joined, Library, Shelf, spelled};
 use crate::telling::{Source, tell_refusal, tell_words};
 use cyc_cli::{FileName, Shown};
@@ -10,14 +11,15 @@ use cyc_words::{Code, Fault, Span};
 use std::alloc::Global;
 use std::mem::ManuallyDrop;
 
-/// The tokens of a text that the grammar takes.
+/// Returns the tokens of a text that satisfies the grammar.
 fn tokens_of(alloc: Global, text: &[u8]) -> Result<Vec<Token>, Fault> {
     let tokens = lex(alloc, text)?;
     let _ = ManuallyDrop::new(tree_of(alloc, text)?);
     Ok(tokens)
 }
 
-/// A library that a file holds; one that the grammar does not take is told by its own name.
+/// Reads a library from a file. A fault in the library's grammar is reported with the library's own
+/// name.
 fn read_library<'a>(rt: &HostRuntime, name: &'a str, is_json: bool) -> Result<Library<'a>, Answer> {
     let text = read_text(rt, name)?;
     match tokens_of(rt.alloc(), &text) {
@@ -34,7 +36,7 @@ fn read_library<'a>(rt: &HostRuntime, name: &'a str, is_json: bool) -> Result<Li
     }
 }
 
-/// The name that a token of a library is.
+/// Returns the name at a token of a library.
 fn name_at<'s>(shelf: &'s Shelf<'_>, library: usize, token: usize) -> &'s [u8] {
     match shelf.libraries().get(library) {
         Some(library) => match library.tokens.get(token) {
@@ -45,7 +47,7 @@ fn name_at<'s>(shelf: &'s Shelf<'_>, library: usize, token: usize) -> &'s [u8] {
     }
 }
 
-/// The name of the file of a library.
+/// Returns the file name of a library.
 fn file_of<'s>(shelf: &'s Shelf<'_>, library: usize) -> &'s str {
     match shelf.libraries().get(library) {
         Some(library) => library.name,
@@ -53,7 +55,8 @@ fn file_of<'s>(shelf: &'s Shelf<'_>, library: usize) -> &'s str {
     }
 }
 
-/// Tells that a program declares a name, at this place, which a declaration that it needs takes for that of a library.
+/// Reports that the program declares a name, at position `own`, that a needed library declaration uses as the
+/// library's name.
 fn tell_taken(rt: &HostRuntime, source: Source<'_>, own: Span, words: String) -> Answer {
     let fault = Fault {
         code: Code::DeclaredTwice,
@@ -66,7 +69,7 @@ fn tell_taken(rt: &HostRuntime, source: Source<'_>, own: Span, words: String) ->
     }
 }
 
-/// Tells why a program cannot be put together with libraries.
+/// Reports why a program cannot be joined with libraries.
 fn tell_clash(rt: &HostRuntime, source: Source<'_>, shelf: &Shelf<'_>, clash: Clash) -> Answer {
     match clash {
         Clash::Memory => Answer::NoMemory,
@@ -104,7 +107,7 @@ fn tell_clash(rt: &HostRuntime, source: Source<'_>, shelf: &Shelf<'_>, clash: Cl
     }
 }
 
-/// The libraries in files.
+/// Reads the libraries from their files.
 fn read_libraries<'a>(
     rt: &HostRuntime,
     names: &[&'a str],
@@ -120,7 +123,7 @@ fn read_libraries<'a>(
     Ok(libraries)
 }
 
-/// Puts a program together with what it needs of libraries.
+/// Joins a program with the library declarations that it needs.
 fn join<'a>(
     rt: &HostRuntime,
     name: &str,
@@ -128,7 +131,8 @@ fn join<'a>(
     shelf: &mut Shelf<'a>,
     is_json: bool,
 ) -> Result<Joined<'a>, Answer> {
-    // A text that the grammar does not take is told of as it is.
+    // If the program's text violates the grammar, the text is returned without libraries, so the
+    // fault is reported for the text as it is.
     let Ok(tokens) = tokens_of(rt.alloc(), &text) else {
         return Ok(Joined::alone(rt.alloc(), text));
     };
@@ -151,7 +155,8 @@ fn join<'a>(
     }
 }
 
-/// The text of the program in a file, with what it reaches of the libraries that have these names.
+/// Returns the text of the program in a file, joined with the declarations that it needs of the
+/// given libraries.
 pub(crate) fn read_program<'a>(
     rt: &HostRuntime,
     name: &str,

@@ -1,4 +1,5 @@
-//! Reports the findings about a program: to the user on standard error, or as objects on standard output.
+//! Reports the findings about a program: as messages to the user on standard error, or as JSON objects on
+//! standard output.
 ghost use Rattle.std.specs.Prelude.{◌≡◌, ◌⊎◌};
 ghost use Rattle.cyc_host.specs.inside.Answer.{answer_of_fault};
 ghost use Rattle.cyc_host.specs.declared.answer.Answer.TheVariants.{WriteFault};
@@ -16,18 +17,20 @@ use std::fmt::Display;
 use std::io;
 use std::io::Write;
 
-/// A source file, and how findings about it are reported.
+/// A source file, and the way in which findings about it are reported.
 #[derive(Clone, Copy)]
 pub(crate) struct Source<'a> {
     pub(crate) name: &'a str,
     pub(crate) text: &'a [u8],
-    /// The parts of the text that stand in other files.
+    /// The parts of the text that come from other files.
     pub(crate) parts: &'a [Part<'a>],
-    /// True to report objects on standard output, false to report to the user on standard error.
+    /// If true, findings are printed as JSON objects on standard output; if false, as messages to
+    /// the user on standard error.
     pub(crate) is_json: bool,
 }
 
-/// Words on a source file as they are said: each place by the file that it stands in.
+/// Returns a message about a source file, in which each source position names the file that
+/// contains it.
 fn words_of<D: Display + Drop>(
     rt: &HostRuntime,
     source: Source<'_>,
@@ -37,7 +40,7 @@ fn words_of<D: Display + Drop>(
     words_by_homes(rt.alloc(), said.as_str(), source.name, source.parts)
 }
 
-/// Says words on a source file to a person. If memory runs out they are not said.
+/// Writes a message about a source file to the user. If memory runs out, no message is written.
 pub(crate) fn say_of<D: Display + Drop>(rt: &HostRuntime, source: Source<'_>, words: D) {
     if source.parts.is_empty() {
         say(rt, words);
@@ -46,7 +49,7 @@ pub(crate) fn say_of<D: Display + Drop>(rt: &HostRuntime, source: Source<'_>, wo
     }
 }
 
-/// Prints words on a source file.
+/// Prints a message about a source file on standard output.
 pub(crate) fn print_of<D: Display + Drop>(
     rt: &HostRuntime,
     source: Source<'_>,
@@ -61,7 +64,7 @@ pub(crate) fn print_of<D: Display + Drop>(
     output.flush()
 }
 
-/// Prints an object on a source file, each place by the file that it stands in.
+/// Prints a JSON object about a source file; each source position names the file that contains it.
 fn print_object(
     rt: &HostRuntime,
     output: &mut Output<'_>,
@@ -75,7 +78,7 @@ fn print_object(
     output.write_all(object.as_bytes())
 }
 
-/// Reports to the user the faults of a program after its first one, as if that were repaired.
+/// Reports to the user the faults after a program's first fault, as if the first one were repaired.
 fn report_after(rt: &HostRuntime, source: Source<'_>, first: Fault) {
     let Source { name, text, .. } = source;
     let refusals = refusals_after(rt.alloc(), text, first);
@@ -92,7 +95,8 @@ fn report_after(rt: &HostRuntime, source: Source<'_>, first: Fault) {
     }
 }
 
-/// Returns the answer to a rejected program, and prints the message for the user on standard error.
+/// Returns the answer for a rejected program, and prints the message for the user on standard
+/// error.
 pub(crate) fn report_refusal(rt: &HostRuntime, source: Source<'_>, fault: Fault) -> Answer
     // The text of the message does not affect the answer.
     ensures { result ≡ answer_of_fault fault }
@@ -123,7 +127,7 @@ fn report_warnings(rt: &HostRuntime, source: Source<'_>, found: &[Found]) {
     }
 }
 
-/// Prints a fault as an object on a line.
+/// Prints a fault as a JSON object on a line.
 fn print_refusal(
     rt: &HostRuntime,
     output: &mut Output<'_>,
@@ -141,7 +145,7 @@ fn print_refusal(
     print_object(rt, output, source, line)
 }
 
-/// Prints all faults of a program as objects, the first one first.
+/// Prints all faults of a program as JSON objects; the first fault comes first.
 fn print_all(rt: &HostRuntime, source: Source<'_>, first: Fault) -> io::Result<()> {
     let mut output = Output::new(rt);
     let refusal = refusal_of(rt.alloc(), source.text, first);
@@ -153,7 +157,8 @@ fn print_all(rt: &HostRuntime, source: Source<'_>, first: Fault) -> io::Result<(
     output.flush()
 }
 
-/// Returns the answer after objects were printed; only lack of memory may omit one.
+/// Returns the answer after JSON objects were printed. An object may be missing only if memory ran
+/// out.
 fn answer_printed(answer: Answer, printed: io::Result<()>) -> Answer
     ensures { (result ≡ answer) ⊎ (result ≡ WriteFault) }
 {
@@ -163,7 +168,8 @@ fn answer_printed(answer: Answer, printed: io::Result<()>) -> Answer
     }
 }
 
-/// Returns the answer to a rejected program, and prints its faults as objects on standard output.
+/// Returns the answer for a rejected program, and prints its faults as JSON objects on standard
+/// output.
 fn print_refusals(rt: &HostRuntime, source: Source<'_>, fault: Fault) -> Answer
     ensures { (result ≡ answer_of_fault fault) ⊎ (result ≡ WriteFault) }
 {
@@ -174,7 +180,8 @@ fn print_refusals(rt: &HostRuntime, source: Source<'_>, fault: Fault) -> Answer
     }
 }
 
-/// Prints the warnings about an accepted program as objects, at most as many as are shown to a user.
+/// Prints the warnings about an accepted program as JSON objects, at most as many as are shown to a
+/// user.
 fn print_warnings(rt: &HostRuntime, source: Source<'_>, found: &[Found]) -> io::Result<()> {
     let mut output = Output::new(rt);
     for found in found.iter().take(MOST_WARNINGS) {
@@ -184,7 +191,7 @@ fn print_warnings(rt: &HostRuntime, source: Source<'_>, found: &[Found]) -> io::
     output.flush()
 }
 
-/// Reports why a program is rejected, and returns the answer.
+/// Reports why a program is rejected, and returns the answer for the fault.
 pub(crate) fn tell_refusal(rt: &HostRuntime, source: Source<'_>, fault: Fault) -> Answer
     ensures { (result ≡ answer_of_fault fault) ⊎ (result ≡ WriteFault) }
 {
@@ -195,14 +202,14 @@ pub(crate) fn tell_refusal(rt: &HostRuntime, source: Source<'_>, fault: Fault) -
     }
 }
 
-/// Prints one refusal as an object.
+/// Prints one reason for a rejection as a JSON object.
 fn print_one(rt: &HostRuntime, source: Source<'_>, refusal: &Refusal) -> io::Result<()> {
     let mut output = Output::new(rt);
     print_refusal(rt, &mut output, source, refusal, true)?;
     output.flush()
 }
 
-/// Tells in these words why a program is refused: the answer to that.
+/// Reports a rejection with the given message, and returns the answer for the fault.
 pub(crate) fn tell_words(
     rt: &HostRuntime,
     source: Source<'_>,
@@ -224,7 +231,8 @@ pub(crate) fn tell_words(
     answer
 }
 
-/// Reports the warnings about an accepted program. Returns true if the warnings could be written.
+/// Reports the warnings about an accepted program. Returns an error if the warnings could not be
+/// written.
 pub(crate) fn tell_warnings(
     rt: &HostRuntime,
     source: Source<'_>,

@@ -1,4 +1,4 @@
-//! The commands on a text, over its bytes.
+//! The commands on a source text, as functions of the text's bytes.
 ghost use Rattle.std.specs.Prelude.{◌≡◌, ◌⊎◌, MatchResult};
 ghost use Rattle.cyc_words.specs.Fault.{memory_fault};
 ghost use Rattle.cyc_front.specs.Front.{HasFault};
@@ -12,29 +12,30 @@ use cyc_words::Fault;
 use std::alloc::{AllocError, Global};
 use std::mem::ManuallyDrop;
 
-/// An upper bound of the bytes of any list made from a text.
+/// An upper bound on the bytes of any list that the phases make from a source text.
 const LARGEST: usize = 4194304;
 
-/// Allocates a block larger than all later ones, and frees it unused. The C library maps each block above a threshold separately and
-/// requests it anew from the system; it raises the threshold to the largest block that was freed. With a higher threshold, the lists of a
-/// phase reuse pages that earlier ones freed.
+/// Allocates a block larger than all later blocks, and frees it unused. The C library maps each block above a threshold separately and
+/// requests it anew from the system. Freeing a block raises the threshold to the size of the largest block freed. With a higher
+/// threshold, the lists of a phase reuse pages that earlier phases freed.
 pub fn widen_heap(alloc: Global) {
     let _: Result<Vec<u8>, AllocError> = Vec::with_capacity(alloc, LARGEST);
 }
 
-/// Checks a text: its tokens, its grammar, its types and its flow. Returns the results of the phases without freeing them.
+/// Checks a source text: its tokens, its grammar, its types and its flow. Returns the results of the phases, which are
+/// never freed.
 pub fn check(alloc: Global, text: &[u8]) -> Result<ManuallyDrop<Phases>, Fault>
     ensures answer { AnswersCheck text.now result }
     // A text with a fault is never accepted.
     ensures refuses { (fault : Fault) → HasFault text.now fault
         → MatchResult result (λ _. ⊥) (λ f. (f ≡ memory_fault) ⊎ (f ≡ fault)) }
 {
-    // The process exits after these phases, so nothing is freed. Freeing the results of the phases, node by node, would take a sixth of the
-    // check's time.
+    // The process exits after the phases of a check, so their results are not freed. Freeing the results, node by node, would take a sixth
+    // of the check's time.
     Ok(ManuallyDrop::new(run_phases(alloc, text)?))
 }
 
-/// Compiles a text to an image, which contains both limits if one is given.
+/// Compiles a source text to an image. If a limit is given, the image contains both limits.
 pub fn compile(alloc: Global, text: &[u8], limits: GivenLimits) -> Result<Compilation, Fault>
     ensures answer { AnswersCompile text.now limits result }
     // A text with a fault is never compiled.
@@ -44,7 +45,8 @@ pub fn compile(alloc: Global, text: &[u8], limits: GivenLimits) -> Result<Compil
     compile_with_tokens(alloc, text, limits.carried())
 }
 
-/// Compiles a text to an image, and also returns the origins of the image's words in the text.
+/// Compiles a source text to an image, and also returns the position in the text from which each
+/// word of the image originates.
 pub fn compile_placed(alloc: Global, text: &[u8], limits: GivenLimits) -> Result<Placed, Fault>
     // A text with a fault is never compiled.
     ensures refuses { (fault : Fault) → HasFaultAtLast text.now fault

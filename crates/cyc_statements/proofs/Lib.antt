@@ -1,2 +1,2 @@
--- the lemmas that the proofs of this crate cite
+-- This module has the lemmas that the proofs of this crate cite.
 pub mod Aliases

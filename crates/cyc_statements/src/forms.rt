@@ -1,4 +1,5 @@
-//! The demands of the statements themselves, after their expressions are checked.
+//! This file checks the requirements of the statements themselves, after their expressions are
+//! checked.
 ghost use Rattle.std.specs.Prelude.{◌&&◌, not, [], ◌∷◌, None, Ok, option_map};
 ghost use Rattle.cyc_words.specs.declared.fault.Code.TheVariants as codes;
 ghost use Rattle.cyc_syntax.specs.inside.TreeView.{place_of_span, view_name, view_expression};
@@ -25,7 +26,7 @@ use cyc_types::{NameSet, Ty, typed};
 use cyc_words::{Code, Span};
 use std::alloc::Global;
 
-/// Returns the condition of an `if` or a `while`, whose value is at this place.
+/// Returns the checked condition of an `if` or a `while`, whose value is at this source position.
 pub fn condition(
     alloc: Global,
     span: Span,
@@ -48,7 +49,8 @@ fn conversion_wanted(scope: &Scope<'_>, value: Given<'_>, to: &Ty, span: Span) -
     settled.end()
 }
 
-/// Checks that a function with a `return` without a value at this place has no result.
+/// Checks that a function has no result if it contains, at this source position, a `return` without
+/// a value.
 pub fn no_value_wanted(scope: &Scope<'_>, span: Span) -> Result<(), Stop>
     ensures { Ends result (settled None (demand codes.TypeMismatch (place_of_span span) (is_left_out scope.now.result) ∷ [])) }
 {
@@ -57,7 +59,7 @@ pub fn no_value_wanted(scope: &Scope<'_>, span: Span) -> Result<(), Stop>
     settled.end()
 }
 
-/// Returns the value of the `return` at the first place. The value is at the second place of the text that is given.
+/// Returns the converted value of the `return` at the first source position; the value is at the second position.
 pub fn returned(
     scope: &Scope<'_>,
     span: Span,
@@ -74,7 +76,8 @@ pub fn returned(
     Ok(Some(converted(value, of_type)))
 }
 
-/// Checks that these places may be swapped, the first of which begins at this position.
+/// Checks that the contents of two lvalues may be swapped; the first lvalue begins at this source
+/// position.
 fn swap_wanted(left: &Found, right: &Found, span: Span) -> Result<(), Stop>
     ensures { Ends result (settled None (demand codes.TypeMismatch (place_of_span span)
         (ty_eq (type_of_side (typed_view.view_side left.now.side)) (type_of_side (typed_view.view_side right.now.side))
@@ -90,7 +93,7 @@ fn swap_wanted(left: &Found, right: &Found, span: Span) -> Result<(), Stop>
     settled.end()
 }
 
-/// Returns the swap of two places.
+/// Returns the statement that swaps the contents of two lvalues.
 #[inline(never)]
 fn swap_of(
     alloc: Global,
@@ -105,7 +108,8 @@ fn swap_of(
     boxed(alloc, typed::Stmt::Swap { span, left, right })
 }
 
-/// Returns the swap of the contents of two places, the first of which begins at this position.
+/// Returns the checked swap of the contents of two lvalues; the first lvalue begins at this source
+/// position.
 pub fn swapped(
     alloc: Global,
     span: Span,
@@ -143,7 +147,8 @@ fn thrown_wanted(
     settled.end()
 }
 
-/// Returns the throw of the exception with this name at this place, with the given value.
+/// Returns the node that throws the exception with this name at this source position, with the
+/// given value.
 pub fn thrown(
     scope: &Scope<'_>,
     span: Span,
@@ -161,7 +166,8 @@ pub fn thrown(
     throw_of(scope.alloc(), span, known.number, value)
 }
 
-/// Returns the number of the exception of a clause, after clauses for these exceptions, with or without an int.
+/// Returns the number of the exception of a `catch` clause with or without an int; the exceptions of the
+/// earlier clauses are in `before`.
 pub fn caught(
     scope: &Scope<'_>,
     before: &NameSet,
@@ -189,7 +195,7 @@ pub fn caught(
     Ok(known.number)
 }
 
-/// Returns the node of a `break` or `continue` at this place, which must be in a loop.
+/// Returns the node of a `break` or `continue` at this source position, which must be in a loop.
 pub fn leaves_loop(
     scope: &Scope<'_>,
     span: Span,

@@ -1,4 +1,4 @@
-//! The declarations of the items of blocks.
+//! This file handles the declarations of the items of blocks.
 ghost use Rattle.std.specs.Prelude.{◌≡◌, [], ◌∷◌, None, OnOk, IfOk, IfErr, option_map};
 ghost use Rattle.cyc_words.specs.declared.fault.Code.TheVariants as codes;
 ghost use Rattle.cyc_syntax.specs.Trees.{Named};
@@ -47,7 +47,8 @@ pub fn is_region_new(scope: &Scope<'_>, name: Ident) -> Result<(), Stop>
     settled.end()
 }
 
-/// Checks that the name of a region is new in its function, and that of a local in its block.
+/// Checks that the name of a region is new in its function, and that the name of a local is new in
+/// its block.
 fn are_new(scope: &Scope<'_>, region: Ident, local: Ident) -> Result<(), Stop>
     ensures { Ends result (settled None (new_name_demanded scope.now (view_name region) ∷ new_demanded scope.now (view_name local) ∷ [])) }
 {
@@ -57,7 +58,7 @@ fn are_new(scope: &Scope<'_>, region: Ident, local: Ident) -> Result<(), Stop>
     settled.end()
 }
 
-/// Checks that a written type is valid in the present scope.
+/// Checks that a written type is valid in the current scope.
 pub fn is_type(scope: &Scope<'_>, written: &WrittenType) -> Result<(), Stop>
     ensures { Ends result (settled None (type_demanded scope.now.structs scope.now.names None (view_type written.now))) }
 {
@@ -75,7 +76,8 @@ fn is_local_new(scope: &Scope<'_>, name: Ident) -> Result<(), Stop>
     settled.end()
 }
 
-/// Checks that the name of a local is new, and that its initial value, which is at this place, can be converted to its type.
+/// Checks that the name of a local is new, and that its initial value, which is at this source position, can be converted to
+/// its type.
 fn is_initialised(
     scope: &Scope<'_>,
     name: Ident,
@@ -104,7 +106,7 @@ fn is_region_known(scope: &Scope<'_>, name: Ident) -> Result<(), Stop>
     settled.end()
 }
 
-/// Checks that the variable with the name at this place and this type may open a region.
+/// Checks that the variable of this type, whose name is at this source position, may open a region.
 fn is_opened(
     scope: &Scope<'_>,
     region: Ident,
@@ -129,7 +131,8 @@ fn is_opened(
 
 // ---- locals
 
-/// Returns the region that the type of a local with this initial value gets if it names none.
+/// Returns the region that the type of a local with this initial value gets if the type names no
+/// region.
 fn left_out_of(value: Given<'_>) -> Region
     ensures { result ≡ left_out_of (view_given value.entry) }
 {
@@ -149,7 +152,7 @@ pub struct Initialised {
     value: Option<Box<typed::Expr>>,
 }
 
-/// Returns a local whose initial value is at this place.
+/// Returns a local whose initial value is at this source position.
 pub fn initialise(
     scope: &Scope<'_>,
     written: &WrittenType,
@@ -214,7 +217,7 @@ fn declaration(span: Span, number: usize, local: Initialised) -> typed::Item
     }
 }
 
-/// Returns the typed item of a local, which is in scope after it.
+/// Returns the typed item that declares a local, and adds the local to the scope.
 pub fn declare_local(
     scope: &mut Scope<'_>,
     name: Ident,
@@ -229,7 +232,7 @@ pub fn declare_local(
     Ok(declaration(name.span, number, local))
 }
 
-/// Declares the local that gets the int of an exception, if there is one.
+/// Declares the local that receives the int of an exception, if the clause has one.
 pub fn declare_caught(scope: &mut Scope<'_>, variable: Option<Ident>) -> Result<Option<usize>, Stop>
     ensures number { IfOk result (λ n. n ≡ option_map (λ (y : Named). scope.old.next_local) (option_map view_name variable)) }
     ensures caught { OnOk result (scope.new ≡ with_caught (option_map view_name variable) scope.old) }
@@ -356,7 +359,8 @@ fn opened(scope: &Scope<'_>, region: Ident, handle: Ident, key: Ident) -> Result
     }
 }
 
-/// Returns the typed item that opens the dynamic region of a key, whose handle is in scope after it.
+/// Returns the typed item that opens the dynamic region of a key, and adds the region's handle to
+/// the scope.
 pub fn open_dynamic(
     scope: &mut Scope<'_>,
     region: Ident,
@@ -387,7 +391,8 @@ fn is_local(variable: Lvalue) -> bool
     }
 }
 
-/// Returns true if this is the type of the alias of a unique pointer, with this region as the region of the alias.
+/// Returns true if this is the type of the alias of a unique pointer, with the region `own` as the region of the
+/// alias.
 fn is_alias_type(written: &Ty, of_type: &Ty, own: Region) -> bool
     ensures { result ≡ tests.ty_eq (view_ty written.now) (with_region_of own (view_ty of_type.now)) }
 {
@@ -404,7 +409,8 @@ fn is_alias_type(written: &Ty, of_type: &Ty, own: Region) -> bool
     }
 }
 
-/// Checks that a local with this written type may share the variable with the name at this place. The region of the local has this number.
+/// Checks that a local with this written type may share the variable whose name is at this source position. The region of the local has
+/// the number `own`.
 fn is_aliased(
     scope: &Scope<'_>,
     own: usize,
@@ -426,7 +432,8 @@ fn is_aliased(
     settled.end()
 }
 
-/// Returns the written type of an alias of this type; an omitted region is the region of the alias.
+/// Returns the written type of an alias of a variable of this type; an omitted region becomes the
+/// region of the alias.
 fn alias_type(scope: &Scope<'_>, written: &WrittenType, of_type: &Ty) -> Result<Ty, AllocError>
     ensures { IfOk result (λ t. view_ty t ≡ formation.type_written scope.now.structs scope.now.names (tests.region_of (view_ty of_type.now))
         (view_type written.now)) }
@@ -440,7 +447,8 @@ fn alias_type(scope: &Scope<'_>, written: &WrittenType, of_type: &Ty) -> Result<
     )
 }
 
-/// Returns the alias of the variable with this name, whose region is already in scope and has this number.
+/// Returns the alias of the variable with this name; the region of the alias is already in scope and has
+/// the number `own`.
 fn aliased(
     scope: &Scope<'_>,
     own: usize,

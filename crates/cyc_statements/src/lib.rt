@@ -1,6 +1,8 @@
-//! The demands of statements and items of blocks themselves, and their declarations.
+//! This crate checks the requirements of statements and block items themselves, and handles their
+//! declarations.
 //!
-//! Each function settles one form: its demands, its additions to the scope, and its typed node. The walk that calls them is in `cyc_check`.
+//! Each function of this crate handles one form: its requirements, its additions to the scope, and its typed node. The tree traversal that
+//! calls these functions is in `cyc_check`.
 #![tactic(auto)]
 
 pub mod forms;

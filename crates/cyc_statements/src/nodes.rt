@@ -1,5 +1,5 @@
-//! The nodes of typed statements. Functions outside the walk create and move the nodes, so the frames of the walk are small for nodes of
-//! any size.
+//! This file creates the nodes of typed statements. Functions outside the tree traversal create and move the nodes, so that the stack
+//! frames of the traversal are small for nodes of any size.
 ghost use Rattle.std.specs.Prelude.{◌≡◌, Ok, option_map};
 ghost use Rattle.cyc_syntax.specs.inside.TreeView.{place_of_span};
 ghost use Rattle.cyc_types.specs.TypedTrees as nodes;
@@ -14,7 +14,7 @@ use cyc_types::typed::Converted;
 use cyc_words::Span;
 use std::alloc::Global;
 
-/// Returns the node in a box.
+/// Returns the node of a statement in a box.
 #[inline(never)]
 pub fn boxed(alloc: Global, statement: typed::Stmt) -> Result<Box<typed::Stmt>, Stop>
     ensures { Gives view_boxed_statement result (Ok (typed_view.view_statement statement)) }

@@ -1,4 +1,5 @@
--- Allocated and freed blocks: an allocated block is live as requested, and a freed or closed one is not.
+-- This file is about allocated and freed blocks: an allocated block is live as requested, and a freed or
+-- closed block is not live.
 use Rattle.std.proofs.Common.{◌≡◌, ℕ, ◌∷◌, Option, None, Some, true, refl, sym, ap, subst, ◌∙◌, inl, inr}
 use Rattle.std.specs.Prelude.{is_some, if◌then◌else◌}
 use Rattle.std.proofs.lemmas.Bool.{cases_eq}
@@ -29,7 +30,7 @@ homes-made s h b = elim (cases_eq h UNIQUE) [
       (λ e. other (sym e)))
 ]
 
--- no live block of a region has the address of a new block
+-- No live block of a region has the same address as a new block.
 pub address-fresh_in : (s : StoreState) (h : ℕ) (r : Home) (b : Block) → IsSound s → lookup handle_of (homes s) h ≡ Some r → IsPlaced s.pages b → IsApart (homes s) b
     → lookup address_of r.blocks b.address ≡ None
 address-fresh_in s h r b sound there placed apart = elim (none_or_some (lookup address_of r.blocks b.address)) [
@@ -49,7 +50,7 @@ made-there s h r b sound there placed apart =
     ∙ (ap (λ o. block_in o b.address) (lookup-changed_same handle_of (with_block b) (λ q. refl) (homes s) h r there)
     ∙ lookup-append_new address_of r.blocks b b.address (address-fresh_in s h r b sound there placed apart) refl)
 
--- an allocated block is live, with the requested words
+-- An allocated block is live and has the requested number of words.
 pub serves-made : (s t : StoreState) (h n x : ℕ) → IsSound s → Serves s (Allocate h n) (Allocated x) t
     → block_at (homes t) h x ≡ Some (record { address = x; size = room h n })
 serves-made s t h n x sound serves = by (refusal s (Allocate h n)) refl serves
@@ -65,7 +66,7 @@ serves-made s t h n x sound serves = by (refusal s (Allocate h n)) refl serves
         (made-there s h r (block_of h n c) sound there allowed.may.0 allowed.may.1)
     by (Some why) some (e, is) = absurd (let k : Allocated x ≡ Refused why = e in cc)
 
--- a freed block is not live
+-- A block is not live after it is freed.
 pub serves-freed : (s t : StoreState) (f : ℕ) → Serves s (Free f) Done t → block_at (homes t) UNIQUE f ≡ None
 serves-freed s t f serves = by (refusal s (Free f)) serves
   where
@@ -77,7 +78,7 @@ serves-freed s t f serves = by (refusal s (Free f)) serves
         ∙ lookup-without address_of s.unique f)
     by (Some why) (e, is) = absurd (let k : Done ≡ Refused why = e in cc)
 
--- a closed dynamic region has no handle
+-- The handle of a dynamic region names no region after the region is closed.
 pub serves-closed : (s t : StoreState) (h : ℕ) → Serves s (CloseDynamic h) Done t → lookup handle_of t.regions h ≡ None
 serves-closed s t h serves = by (refusal s (CloseDynamic h)) serves
   where

@@ -1,4 +1,5 @@
--- A store with a layout in pages has a choice for each call that is not refused, after which it has a layout again.
+-- A store with a layout in pages has a choice for each call that is not refused, after which the store has a layout
+-- again.
 use Rattle.std.proofs.Common.{◌≡◌, ℕ, zero, suc, ◌+◌, ◌*◌, ◌^◌, ◌<◌, ◌≤◌, Bool, true, false, List, [], ◌∷◌, length, Option, None, Some, refl, sym, ap, subst, ◌∙◌, inl, inr, arith}
 use Rattle.std.specs.Prelude.{◌⊎◌, ◌-◌, nat_le, is_some, slice_index, if◌then◌else◌}
 use Rattle.std.proofs.lemmas.Bool.{cases_lt, cases_eq, and_parts, leb-true}
@@ -48,7 +49,7 @@ start-ordered (suc count) memory words some few = record {
 
 -- ---- an unused handle
 
--- among more numbers than there are regions, one is an unused handle
+-- If there are more numbers than regions, then one of the numbers is an unused handle.
 fresh-below : (n : ℕ) (rs : List Home) → length rs < n → (h : ℕ) × (h < n) × (lookup handle_of rs h ≡ None)
 fresh-below zero rs few = absurd (omega (arith, few))
 fresh-below (suc n) rs few = by (lookup handle_of rs n) refl (λ fewer. fresh-below n (without handle_of rs n) fewer)
@@ -67,7 +68,7 @@ module _ (s : StoreState) (o : IsOrdered s) where
   sound : IsSound s
   sound = o.laid.sound
 
-  -- the choice with this handle and address, which leaves all words unchanged
+  -- The choice with this handle and address; it leaves all words of the store unchanged.
   abbrev chosen : (handle address : ℕ) → Choice
   chosen handle address = record { handle = handle; address = address; memory = s.memory }
 
@@ -116,7 +117,7 @@ module _ (s : StoreState) (o : IsOrdered s) where
   -- ---- allocating a block
 
   module _ (h n : ℕ) (none : refusal s (Allocate h n) ≡ None) where
-    -- the conditions under which the request is not refused
+    -- If a request is not refused, then its handle names a region and its size is allowed.
     sized : (is_some (lookup handle_of (homes s) h) ≡ true) × (1 ≤ n) × (n ≤ MOST_BLOCK_WORDS)
     sized =
         let (named, rest) = then-none (is_some (lookup handle_of (homes s) h)) (if is_size n then full_at (is_full s (Allocate h n)) else Some BadSize) BadHandle none in
@@ -134,7 +135,7 @@ module _ (s : StoreState) (o : IsOrdered s) where
       found : IsOrdered (served s (Allocate h n) (chosen 0 address)) → HasChoice s (Allocate h n)
       found ordered = record { choice = chosen 0 address; allowed = allowed-there; ordered = ordered }
 
-  -- allocation in a region
+  -- The proof for an allocation in a region.
   module _ (h n : ℕ) (none : refusal s (Allocate h n) ≡ None) (ordinary : h ≡ UNIQUE → ⊥) where
     plain : room h n ≡ n
     plain = when_other h UNIQUE (2 ^ class_of n) n ordinary
@@ -197,7 +198,7 @@ module _ (s : StoreState) (o : IsOrdered s) where
         let (r, named) = some_there (lookup handle_of (homes s) h) (sized h n none).0 in
         region-by r named l.free refl (cases_lt PAGE_WORDS ((mark_of r).filled + room h n))
 
-  -- allocation of a unique block
+  -- The proof for an allocation of a unique block.
   module _ (n : ℕ) (none : refusal s (Allocate UNIQUE n) ≡ None) where
     abbrev class : ℕ
     class = class_of n
@@ -217,7 +218,7 @@ module _ (s : StoreState) (o : IsOrdered s) where
         → IsPlaced s.pages (block_of UNIQUE n (chosen 0 address)) × IsApart (homes s) (block_of UNIQUE n (chosen 0 address))
     may-be address placed apart = subst (λ (b : Block). IsPlaced s.pages b × IsApart (homes s) b) (sym (block-is address)) (placed, apart)
 
-    -- allocation in an empty slot
+    -- The proof for an allocation in an empty slot.
     in-slot : (w : ℕ) (rest : List ℕ) → l.dead class ≡ w ∷ rest → HasChoice s (Allocate UNIQUE n)
     in-slot w rest next =
         let may = may-be (place_of w) (dead-placed s l o.laid class w bound rest next) (dead-apart s l o.laid class w bound rest next) in
@@ -228,7 +229,7 @@ module _ (s : StoreState) (o : IsOrdered s) where
           laid = dead-laid s l o.laid class w bound rest next s.memory (subst IsSound (unique-is (place_of w)) (sound-there UNIQUE n none (place_of w) may));
         }))
 
-    -- without an empty slot, a free page is cut into slots
+    -- If there is no empty slot, then a free page is cut into slots.
     module _ (spent : l.dead class ≡ []) where
       all-live : live_in class s.unique ≡ slice_index s.classes class * blocks_in_page class
       all-live = all (live_in class s.unique) (length (l.dead class)) _ (ap length spent) (o.laid.slots.count class bound)
@@ -236,7 +237,7 @@ module _ (s : StoreState) (o : IsOrdered s) where
           all : (m d p : ℕ) → d ≡ 0 → m + d ≡ p → m ≡ p
           all m d p nothing count = omega (arith, nothing, count)
 
-      -- one more block needs one more page
+      -- If all slots of a class are live, then one more block needs one more page.
       raised-is : raised s.classes (class_of (2 ^ class)) (suc (live_in (class_of (2 ^ class)) s.unique)) ≡ (with_page s class).classes
       raised-is = ap (λ c. raised s.classes c (suc (live_in c s.unique))) (class-power class bound) ∙ raised-past s.classes class (live_in class s.unique) bound all-live
 
@@ -340,7 +341,7 @@ module _ (s : StoreState) (o : IsOrdered s) (r : Home) (there : lookup handle_of
         (closed-sound s (without handle_of s.regions r.handle) s.memory o.laid.sound (IsPart-without handle_of s.regions r.handle) o.laid.sound.words);
   }
 
--- closing any number of regions
+-- Closing any number of regions preserves the layout.
 ordered-part : (left : ℕ) (s : StoreState) (qs : List Home) → length s.regions ≤ left → IsOrdered s → IsPart qs s.regions → IsOrdered (record s { regions = qs })
 ordered-part zero s qs most o part = elim (part-step part o.laid.sound.regions.handles.1) [
   | inl same ↦ subst (λ rs. IsOrdered (record s { regions = rs })) (sym same) o
@@ -373,7 +374,7 @@ has-choice s o (CloseDynamic handle) none = closes s o handle none
 has-choice s o (Allocate handle words) none = allocates s o handle words none
 has-choice s o (Free address) none = frees s o address none
 
--- writing a word keeps the layout
+-- Writing a word preserves the layout.
 pub saved-ordered : (s : StoreState) (address word : ℕ) → IsOrdered s → IsWord word → IsOrdered (saved s address word)
 saved-ordered s address word o is = by (word_at s address) (saved-sound s address word o.laid.sound is)
   where
@@ -385,7 +386,7 @@ saved-ordered s address word o is = by (word_at s address) (saved-sound s addres
       laid = record { sound = still; paged = paged-memory s o.layout.pages o.layout.free _ o.laid.paged; covered = o.laid.covered; slots = o.laid.slots };
     }
 
--- every list of calls has a run that answers it
+-- For every list of calls, there is a run that answers each of the calls.
 pub answers : (calls : List Call) (s : StoreState) → IsOrdered s → Answers calls s
 answers [] s o = record { exchanges = []; services = tt; end = s; run = refl; ordered = o }
 answers (call ∷ calls) s o = by (refusal s call) refl (λ t ordered. answers calls t ordered)

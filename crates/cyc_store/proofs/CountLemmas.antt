@@ -1,4 +1,5 @@
--- Counts of blocks, the pages of classes, and demand.
+-- This file is about counts of blocks, the pages of classes, and the number of pages that a store
+-- needs.
 use Rattle.std.proofs.Common.{◌≡◌, ℕ, zero, suc, ◌+◌, ◌-◌, ◌*◌, ◌/◌, ◌^◌, ◌<◌, ◌≤◌, max, List, [], ◌∷◌, ◌++◌, length, refl, sym, ap, subst, ◌∙◌, inl, inr, arith, get_or-set_same, get_or-set_other, length-set, zero-add}
 use Rattle.std.specs.Prelude.{nat_le, slice_index}
 use Rattle.std.proofs.Math.Nat.{div-mul-le_self, pow-le-pow_right, le-max_left, le-max_right}
@@ -30,11 +31,11 @@ class_from-holds (suc left) class size fits = cond_both (nat_le size (2 ^ class)
     shift : (m n : ℕ) → suc m + n ≡ m + suc n
     shift m n = omega arith
 
--- a block of a class holds each request for which the class is chosen
+-- A block of a class is large enough for each request for which the class is chosen.
 pub class_of-holds : (size : ℕ) → size ≤ page_words → size ≤ 2 ^ class_of size
 class_of-holds size fits = class_from-holds 10 0 size fits
 
--- a page has room for at least one block of each class
+-- A page has room for at least one block of each size class.
 pub blocks-some : (class : ℕ) → class ≤ greatest_class → 0 < blocks_in_page class
 blocks-some class bound =
     let fits : 2 ^ class ≤ 2 ^ 10 = pow-le-pow_right (omega arith) bound in
@@ -104,7 +105,7 @@ raised-other classes class live c other = get_or-set_other classes class c (max 
 pub raised-length : (classes : List ℕ) (class live : ℕ) → length (raised classes class live) ≡ length classes
 raised-length classes class live = length-set classes class (max (slice_index classes class) (pages_for class live))
 
--- no class has fewer pages than before
+-- Raising the pages of a class does not reduce the pages of any class.
 pub raised-more : (classes : List ℕ) (class live c : ℕ) → class < length classes → slice_index classes c ≤ slice_index (raised classes class live) c
 raised-more classes class live c below = elim (cases_eq c class) [
   | inl same ↦
@@ -154,7 +155,7 @@ demand-part (is_kept {x = r} {xs = qs} {ys = rs} part) classes = let rest : dema
     both : (p m n : ℕ) → m ≤ n → p + m ≤ p + n
     both p m n less = omega (arith, less)
 
--- the sizes of a region without blocks do not depend on its handle
+-- The sizes of the blocks of a region without blocks do not depend on the region's handle.
 pub sizes-opened : (rs : List Home) (g h : ℕ) (sort : Sort) → sizes_in (rs ++ empty_home g sort ∷ []) ≡ sizes_in (rs ++ empty_home h sort ∷ [])
 sizes-opened [] g h sort = refl
 sizes-opened (r ∷ rs) g h sort = ap (λ l. sizes_of r.blocks ∷ l) (sizes-opened rs g h sort)

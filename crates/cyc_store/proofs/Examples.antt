@@ -1,4 +1,4 @@
--- Examples of the services on a store of three pages, each proved by computation.
+-- This file has examples of requests to a store of three pages, each proved by computation.
 use Rattle.std.proofs.Common.{◌≡◌, ℕ, ◌+◌, ◌*◌, Some, None, refl}
 use Rattle.cyc_store.specs.State.{StoreState, start, demand}
 use Rattle.cyc_store.specs.Services.{Call, OpenLexical, CloseTo, OpenDynamic, CloseDynamic, Allocate, Free, BadMark, BadHandle, BadSize, NotABlock, Full, Choice, served, refusal}
@@ -7,7 +7,7 @@ use Rattle.cyc_store.specs.declared.range.TheConstants.{HEAP, STORE_BASE, UNIQUE
 abbrev choose : (handle address : ℕ) → Choice
 choose handle address = record { handle = handle; address = address; memory = λ (x : ℕ). 0 }
 
--- the address of a word, given its page and its position in the page
+-- The address of a word, given the word's page and its position in the page.
 abbrev at : (page word : ℕ) → ℕ
 at page word = STORE_BASE + 4 * (1024 * page + word)
 
@@ -26,7 +26,8 @@ abbrev filled : StoreState
 filled =
     then_do (then_do (then_do (then_do open_one (Allocate 3 1000) 0 (at 1 0)) (Allocate 3 24) 0 (at 1 1000)) (Allocate 3 1) 0 (at 2 0)) (Allocate 3 1000) 0 (at 2 1)
 
--- the heap and the region need one page each, then the region needs two, and no more
+-- The heap and the new region need one page each, then the region needs two pages, and then no
+-- more.
 demand_of_new : demand new ≡ 1
 demand_of_new = refl
 
@@ -48,7 +49,7 @@ heap_is_not = refl
 region_is_full : refusal filled OpenDynamic ≡ Some Full
 region_is_full = refl
 
--- the reasons for a refusal, in their order
+-- These examples show the reasons for a refusal, in their order.
 empty_block : refusal filled (Allocate 3 0) ≡ Some BadSize
 empty_block = refl
 
@@ -70,7 +71,7 @@ no_dynamic = refl
 no_unique : refusal filled (Free (at 1 0)) ≡ Some NotABlock
 no_unique = refl
 
--- a closed region frees its pages; a new region may get its handle and its addresses
+-- A region that is closed frees its pages; a new region may get its handle and its addresses.
 closed_demand : demand (then_do filled (CloseTo 0) 0 0) ≡ 1
 closed_demand = refl
 

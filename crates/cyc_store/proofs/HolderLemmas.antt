@@ -1,4 +1,5 @@
--- The block at an address, after regions and blocks were added or removed.
+-- This file finds the block that contains an address, after regions and blocks were added or
+-- removed.
 use Rattle.std.proofs.Common.{◌≡◌, ℕ, zero, suc, ◌+◌, ◌*◌, ◌<◌, ◌≤◌, true, false, List, [], ◌∷◌, ◌++◌, Option, None, Some, refl, sym, ap, subst, ◌∙◌, inl, inr, arith}
 use Rattle.std.specs.Prelude.{◌⊎◌, nat_le, nat_lt}
 use Rattle.std.proofs.lemmas.Bool.{cases_eq, cases_Bool, cond-true, cond-false, le-leb, lt-ltb, and_from}
@@ -97,7 +98,7 @@ module _ (h : ℕ) (x : ℕ) where
 
 -- ---- the blocks of all regions
 
--- a block that contains an address belongs to a region with a handle
+-- A block that contains an address belongs to a region that has a handle.
 pub holder-named : (rs : List Home) (x : ℕ) (k : Holder) → holder rs x ≡ Some k → lookup handle_of rs k.handle ≡ None → ⊥
 holder-named [] x k found none = let e : None ≡ Some k = found in cc
 holder-named (r ∷ rs) x k found none =

@@ -1,4 +1,4 @@
--- Freeing a unique block keeps the invariant of a store on a table of pages.
+-- Freeing a unique block preserves the invariant of a store on a table of pages.
 use Rattle.std.proofs.Common.{◌≡◌, ℕ, ◌+◌, ◌*◌, ◌^◌, ◌<◌, ◌≤◌, false, List, [], ◌∷◌, length, Some, refl, sym, ap, subst, ◌∙◌, arith, length-set}
 use Rattle.std.specs.Prelude.{◌==◌, if◌then◌else◌, is_some, slice_index, slice_index_or, set}
 use Rattle.std.specs.List.{AllByRecursion}
@@ -55,14 +55,14 @@ module _ (t : PageTable) (lexicals : List ℕ) (classes : List ClassSlots) (b : 
   pub empty-live : word + 2 ^ class ≤ length t.live.items
   empty-live = mark-there t lexicals classes b k class empty-class word slot
 
-  -- the words after the block was freed
+  -- The words of the store after a unique block was freed.
   abbrev written : ℕ → ℕ
   written = λ (i : ℕ). if i == word then slots.dead else slice_index t.words.items i
 
   abbrev memory : Memory
   memory = put s.memory (place_of word) slots.dead
 
-  -- the words of dead slots were not live before
+  -- The first words of dead slots were not in live blocks before.
   dead-away : (c : ℕ) (xs : List ℕ) → AllByRecursion (IsDeadSlot b.unique k.layout.pages.owner k.layout.class c) xs → AllByRecursion (λ x. written x ≡ slice_index t.words.items x) xs
   dead-away c [] all = tt
   dead-away c (x ∷ xs) all = (
@@ -85,7 +85,7 @@ module _ (t : PageTable) (lexicals : List ℕ) (classes : List ClassSlots) (b : 
   freed-words : AreWords memory
   freed-words = words-put s.memory (place_of word) slots.dead k.laid.sound.words (link-word t lexicals classes b k class empty-class)
 
-  -- no remaining block contains the word
+  -- No block that remains after a free contains the freed block's first word.
   without-sound : IsSound (record s { unique = without address_of b.unique (place_of word) })
   without-sound = sound-free s k.layout k.laid (place_of word) (slot_block class word) there s.memory k.laid.sound.words (λ x h old new. refl)
 
@@ -112,7 +112,7 @@ module _ (t : PageTable) (lexicals : List ℕ) (classes : List ClassSlots) (b : 
       (record slots { dead = word }) (word ∷ k.layout.dead class) written own-stock
       (λ c away few old. other-stock c few (slice_index_or classes c no_slots) old)
 
-  -- the marks of the slot and its first word are written
+  -- The live marks of the freed slot and the first word of the slot are written.
   module _ (address : ℕ) (at : address ≡ 536870912 + 4 * word) (c : Blocks) (noted : c ≡ after b (Freed address)) (v : PageTable) (most_is : v.most ≡ t.most)
       (words_is : v.words.items ≡ set t.words.items word slots.dead)
       (size : ℕ) (many : size ≡ 2 ^ class) (live_is : (other : ℕ) → slice_index_or v.live.items other false ≡ marked_between (λ (i : ℕ). slice_index_or t.live.items i false) word size false other)

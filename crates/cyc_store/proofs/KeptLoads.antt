@@ -1,4 +1,4 @@
--- Reads from a store on a table of pages.
+-- This file is about reads from a store on a table of pages.
 use Rattle.std.proofs.Common.{◌≡◌, ℕ, ◌+◌, ◌-◌, ◌*◌, ◌/◌, ◌%◌, ◌<◌, ◌≤◌, true, false, List, length, Option, None, Some, refl, sym, ap, ◌∙◌, inl, inr, arith}
 use Rattle.std.specs.Prelude.{◌==◌, ◌&&◌, ◌⊎◌, nat_le, is_some, slice_index, slice_index_or}
 use Rattle.std.proofs.lemmas.Bool.{cases_eq, cond-true, le-leb, eq-eqb}
@@ -38,7 +38,7 @@ pub memory-word : (words : List ℕ) (x : ℕ) → x % 4 ≡ 0 → 536870912 ≤
 memory-word words x even low = cond-true ((x % 4 == 0) && nat_le 536870912 x) (slice_index words ((x - 536870912) / 4)) 0
     (ap (λ a. a && nat_le 536870912 x) (eq-eqb (x % 4) 0 even) ∙ le-leb 536870912 x low)
 
--- the address of an aligned word, computed from the word's number
+-- The address of an aligned word is computed from the number of the word.
 pub word-place : (x : ℕ) → x % 4 ≡ 0 → 536870912 ≤ x → 536870912 + 4 * ((x - 536870912) / 4) ≡ x
 word-place x even low = omega (arith, even, low)
 
@@ -87,7 +87,7 @@ module _ (t : PageTable) (lexicals : List ℕ) (classes : List ClassSlots) (b : 
       quarter : (x n l : ℕ) → n ≡ l → 536870912 + 4 * n ≤ x → l ≤ (x - 536870912) / 4
       quarter x n l all past = omega (arith, all, past)
 
-  -- all existing words lie in the store's pages
+  -- All words that exist lie in the store's pages.
   pub words-few : length t.words.items ≤ 67108864
   words-few = within (length t.words.items) (length t.rows.items) t.most k.whole.words k.tied.few k.tied.most
     where
@@ -111,7 +111,7 @@ load-dead s x n place dead = dead-word s x (none-held (holder (homes s) x) (ap (
 pub load-live : (s : StoreState) (x n : ℕ) → x ≡ 536870912 + 4 * n → true ≡ is_some (holder (homes s) (536870912 + 4 * n)) → is_some (word_at s x) ≡ true
 load-live s x n place live = ap is_some (live-word s x (place-even x n place) (ap (λ y. is_some (holder (homes s) y)) place ∙ sym live))
 
--- the word read at a live address
+-- The word that is read at a live address is the word of the store.
 pub load-word : (pages : ℕ) (words : List ℕ) (b : Blocks) (x n r : ℕ) → x ≡ 536870912 + 4 * n → n < length words → is_some (word_at (store_of pages words b) x) ≡ true
     → r ≡ slice_index_or words n r → Some r ≡ word_at (store_of pages words b) x
 load-word pages words b x n r place inside live read = elim (none_or_some (holder (homes (store_of pages words b)) x)) [

@@ -1,4 +1,5 @@
--- Allocating a block in a region keeps the invariant of a store on a table of pages, and gives an answer of the relation.
+-- Allocating a block in a region preserves the invariant of a store on a table of pages, and yields an answer that the
+-- store relation allows.
 use Rattle.std.proofs.Common.{◌≡◌, ℕ, suc, ◌+◌, ◌*◌, ◌<◌, ◌≤◌, false, List, [], ◌∷◌, length, None, Some, refl, sym, ap, subst, ◌∙◌, inl, inr, arith, length-set, get_or-set_other}
 use Rattle.std.specs.Prelude.{◌==◌, if◌then◌else◌, slice_index, slice_index_or, set}
 use Rattle.std.specs.List.{AllByRecursion}
@@ -45,7 +46,7 @@ region-few (q ∷ rs) h r classes there = elim (cases_eq q.handle h) [
     later : (m q n : ℕ) → m ≤ n → m ≤ q + n
     later m q n e = omega (arith, e)
 
--- the rows of two pages are written; the second row is read after the first write
+-- The rows of two pages are written; the second row is read after the first write.
 twice-table : (u v : PageTable) (page root : ℕ) (a : Row) (newest : ℕ) → page < length u.rows.items → root < length u.rows.items → v.most ≡ u.most → v.words.items ≡ u.words.items
     → v.live.items ≡ u.live.items → v.free ≡ u.free → v.rows.items ≡ set (set u.rows.items page a) root (longer_row (row_at (set u.rows.items page a) root) newest)
     → table_of v ≡ with_row (with_row (table_of u) page a) root (longer_row ((with_row (table_of u) page a).row root) newest)
@@ -192,7 +193,7 @@ module _ (t : PageTable) (lexicals : List ℕ) (classes : List ClassSlots) (b : 
         same-next [] = tt
         same-next (x ∷ xs) = (ap (λ (y : Row). y.next) (draws.rows x), same-next xs)
 
-        -- the region in the table after a page was taken
+        -- The region stays represented in the table after a page was taken.
         abbrev rooted-u : IsRooted (table_of u).row k.layout.pages r
         rooted-u = record {
           root = rooted.root;
@@ -212,7 +213,8 @@ module _ (t : PageTable) (lexicals : List ℕ) (classes : List ClassSlots) (b : 
             reach : (p m o : ℕ) → p < m → m ≤ o → p < o
             reach p m o less more = omega (arith, less, more)
 
-        -- the rows of the new page and of the region's first page are written
+        -- After a page is taken, the rows of the new page and of the region's first page are
+        -- written.
         pub draws-kept : (c : Blocks) → c ≡ blocks_of (made_in (plain_store b) h (new_block page)) → (v : PageTable) → v.most ≡ u.most → v.words.items ≡ u.words.items
             → v.live.items ≡ u.live.items → v.free ≡ u.free
             → v.rows.items ≡ set (set u.rows.items page (next_row n rooted.chain.newest.page)) root (longer_row (row_at (set u.rows.items page (next_row n rooted.chain.newest.page)) root) page)
@@ -247,7 +249,7 @@ module _ (t : PageTable) (lexicals : List ℕ) (classes : List ClassSlots) (b : 
                 (longer_row ((with_row (table_of u) page (next_row n rooted.chain.newest.page)).row root) page)
             table_is = twice-table u v page root (next_row n rooted.chain.newest.page) page taken.there root-in-u most_is words_is live_is free_is rows_is
 
-  -- the rows read for the first page and for the newest page
+  -- The rows that are read for the first page and for the newest page of a region.
   module _ (first : Row) (read : first ≡ slice_index_or t.rows.items root first) where
     pub first-newest : first.newest ≡ rooted.chain.newest.page
     first-newest = ap (λ (x : Row). x.newest) (sym (row_at-read t.rows.items root first root-there read)) ∙ newest-is
@@ -271,7 +273,7 @@ module _ (t : PageTable) (lexicals : List ℕ) (classes : List ClassSlots) (b : 
       pub last-few : last.filled ≤ 1024
       last-few = subst (λ n. n ≤ 1024) (sym last-filled) filled-few
 
-      -- allocating after the filled words of the newest page
+      -- The block is allocated after the filled words of the newest page.
       module _ (n : ℕ) (least : 1 ≤ n) (most : n ≤ MOST_BLOCK_WORDS) (room : last.filled + n ≤ 1024) (address : ℕ)
           (place : address ≡ 536870912 + 4 * (1024 * first.newest + last.filled)) where
         abbrev made_block : Block
@@ -299,7 +301,7 @@ module _ (t : PageTable) (lexicals : List ℕ) (classes : List ClassSlots) (b : 
             (subst (λ (x : Row). Rewrites t v rooted.chain.newest.page (filled_row x (last.filled + n))) (sym last-row)
             (subst (λ p. Rewrites t v p (record last { filled = last.filled + n })) first-newest is))))
 
-      -- allocating in a new page
+      -- The block is allocated in a new page.
       module _ (n : ℕ) (least : 1 ≤ n) (most : n ≤ MOST_BLOCK_WORDS) (past : 1024 < last.filled + n) where
         is-past : PAGE_WORDS < (mark_of r).filled + n
         is-past = subst (λ m. 1024 < m + n) last-filled past
@@ -337,7 +339,7 @@ module _ (t : PageTable) (lexicals : List ℕ) (classes : List ClassSlots) (b : 
               ∙ ap (λ (x : Row). set (set u.rows.items page (next_row n rooted.chain.newest.page)) root (longer_row x page))
               (sym (get_or-set_other u.rows.items page root (next_row n rooted.chain.newest.page) _ apart-root ∙ (draws.rows root ∙ row_at-read t.rows.items root first root-there read)))))
 
-  -- a region has at most as many pages as the store
+  -- A region has at most as many pages as the store has.
   pub first-count : (first : Row) → first ≡ slice_index_or t.rows.items root first → first.count ≤ 65536
   first-count first read = within first.count (suc (length rooted.chain.older)) (mark_of r).pages (region_pages (sizes_of r.blocks)) (demand s) t.most
       (ap (λ (x : Row). x.count) (sym (row_at-read t.rows.items root first root-there read)) ∙ (ap (λ n. (row_at t.rows.items n).count) (sym root-is) ∙ rooted.count))

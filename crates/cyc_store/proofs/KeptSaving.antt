@@ -1,4 +1,5 @@
--- Writing a word of a live block keeps the invariant of a store on a table of pages: the links of dead slots are elsewhere.
+-- Writing a word of a live block preserves the invariant of a store on a table of pages: the links of dead slots are in
+-- other words.
 use Rattle.std.proofs.Common.{◌≡◌, ℕ, ◌+◌, ◌*◌, ◌^◌, ◌<◌, true, false, List, [], ◌∷◌, length, None, refl, sym, ap, subst, ◌∙◌, length-set}
 use Rattle.std.specs.Prelude.{◌==◌, if◌then◌else◌, is_some, slice_index, slice_index_or, set}
 use Rattle.std.specs.List.{AllByRecursion}
@@ -24,14 +25,14 @@ module _ (t : PageTable) (lexicals : List ℕ) (classes : List ClassSlots) (b : 
   abbrev s : StoreState
   s = store_of t.most t.words.items b
 
-  -- the words after the write
+  -- The words of the store after a word is written.
   abbrev written : ℕ → ℕ
   written = λ (i : ℕ). if i == word then value else slice_index t.words.items i
 
   abbrev memory : Memory
   memory = put s.memory (place_of word) value
 
-  -- the word is in a live block, so it is in no dead slot
+  -- The written word is in a live block, so it is in no dead slot.
   word-live : holder (homes s) (place_of word) ≡ None → ⊥
   word-live none =
       let (old, found) = some_there (word_at s address) live in

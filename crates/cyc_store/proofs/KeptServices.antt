@@ -1,4 +1,5 @@
--- Each call keeps the invariant of a store on a table of pages, and gives an answer of the relation.
+-- Each call preserves the invariant of a store on a table of pages, and yields an answer that the
+-- store relation allows.
 use Rattle.std.proofs.Common.{◌≡◌, ◌≢◌, ℕ, suc, ◌+◌, ◌-◌, ◌*◌, ◌/◌, ◌%◌, ◌^◌, ◌<◌, ◌≤◌, Bool, true, false, List, [], ◌∷◌, ◌++◌, length, None, refl, sym, ap, subst, ◌∙◌, inl, inr, arith, get_or-set_same, get_or-set_other, length-set}
 use Rattle.std.specs.Prelude.{◌==◌, ◌⊎◌, ◌&&◌, nat_le, if◌then◌else◌, slice_index, slice_index_or, set}
 use Rattle.std.specs.List.{AllByRecursion}
@@ -30,7 +31,7 @@ use Rattle.cyc_store.proofs.PagedStart.{are-many}
 
 -- ---- the content of a store
 
--- equal reads give equal content
+-- If two lists of words have equal elements, then they represent equal memory contents.
 pub memory-same : (words also : List ℕ) → ((i : ℕ) → slice_index also i ≡ slice_index words i) → memory_of also ≡ memory_of words
 memory-same words also same = fun_ext (λ address. ap (λ n. if (address % 4 == 0) && nat_le 536870912 address then n else 0) (same ((address - 536870912) / 4)))
 
@@ -40,7 +41,7 @@ held-same most words m also b count same =
 
 -- ---- writing a row
 
--- the table with the row of one page replaced
+-- Says that the table `new` is the table `old` with the row of one page replaced.
 pub record Rewrites (old new : PageTable) (page : ℕ) (r : Row) : Type 0 where
   pub most : new.most ≡ old.most
   pub words : new.words.items ≡ old.words.items
@@ -144,11 +145,11 @@ module _ (t : PageTable) (lexicals : List ℕ) (classes : List ClassSlots) (b : 
   abbrev s : StoreState
   s = store_of t.most t.words.items b
 
-  -- a full table has no free page
+  -- A table of pages that is full has no free page.
   pub kept-full : length t.rows.items ≤ t.free → t.most ≤ length t.rows.items → k.layout.free ≡ []
   kept-full past most = none-free (table_of t) lexicals slots b k.layout k.tied past most
 
-  -- a table that is not full has a free page
+  -- A table of pages that is not full has a free page.
   pub kept-some : ((length t.rows.items ≤ t.free) × (t.most ≤ length t.rows.items) → ⊥) → (page : ℕ) × (rest : List ℕ) × (k.layout.free ≡ page ∷ rest)
   kept-some room = by (cases_lt t.free (length t.rows.items))
     where
@@ -160,7 +161,8 @@ module _ (t : PageTable) (lexicals : List ℕ) (classes : List ClassSlots) (b : 
           less : (n m : ℕ) → (m ≤ n → ⊥) → n < m
           less n m not = elim (cases_lt n m) [ inl is ↦ is | inr over ↦ absurd (not over) ]
 
-  -- if no used page is free, all used pages are in use
+  -- If no used page is free, then the words of the table are exactly those of the pages that the
+  -- store needs.
   pub kept-used : length t.rows.items ≤ t.free → length t.words.items ≡ PAGE_WORDS * demand s
   kept-used past = k.whole.words ∙ ap (λ n. PAGE_WORDS * n) (counted (length t.rows.items) t.most (length k.layout.free) (demand s) k.tied.few fresh k.laid.paged.count)
     where
@@ -173,7 +175,7 @@ module _ (t : PageTable) (lexicals : List ℕ) (classes : List ClassSlots) (b : 
   pub kept-lexicals : length lexicals ≡ lexical_count b.regions
   kept-lexicals = ap length k.tied.newest ∙ lexical-length b.regions
 
-  -- each region has a page, so there are at most as many lexical regions as pages
+  -- Each region has a page, so there are at most as many lexical regions as pages.
   pub kept-lexicals_few : length lexicals ≤ MOST_PAGES
   kept-lexicals_few = within (length lexicals) (lexical_count b.regions) (length b.regions) (demand s) t.most kept-lexicals (lexical-few b.regions) (regions-few b.regions b.classes) k.laid.sound.demand k.tied.most
     where
@@ -213,7 +215,7 @@ module _ (t : PageTable) (lexicals : List ℕ) (classes : List ClassSlots) (b : 
         within : (p : ℕ) → p < 65536 → 2 * p + 1 < 4294967296
         within p less = omega (arith, less)
 
-    -- the content is unchanged when a row is written as well
+    -- Writing a row in addition leaves the content of the store unchanged.
     drawn-also : (v : PageTable) (r : Row) (other : Blocks) → Rewrites u v page r → store_of v.most v.words.items other ≡ store_of t.most t.words.items other
     drawn-also v r other is = held-same t.most t.words.items v.most v.words.items other (is.most ∙ draws.most)
         (λ i. ap (λ ws. slice_index ws i) is.words ∙ draws.words i)
@@ -235,7 +237,7 @@ module _ (t : PageTable) (lexicals : List ℕ) (classes : List ClassSlots) (b : 
           (opened-tied (table_of u) lexicals slots b (record k.layout { free = kept-drawn.rest }) kept-drawn.tied page drawn-none drawn-away kept-drawn.there sort);
     }
 
-    -- the content with the recorded blocks
+    -- Two equal records of blocks represent equal stores.
     drawn-blocks : (c other : Blocks) → c ≡ other → store_of u.most u.words.items c ≡ store_of t.most t.words.items other
     drawn-blocks c other noted = ap (store_of u.most u.words.items) noted ∙ held-same t.most t.words.items u.most u.words.items other draws.most draws.words
 

@@ -1,4 +1,5 @@
--- Cutting a page into slots, and allocating a unique block in a slot, keep the invariant of a store on a table of pages.
+-- Cutting a page into slots, and allocating a unique block in a slot, preserve the invariant of a store on a table of
+-- pages.
 use Rattle.std.proofs.Common.{◌≡◌, ℕ, zero, suc, ◌+◌, ◌-◌, ◌*◌, ◌/◌, ◌^◌, ◌<◌, ◌≤◌, true, false, List, [], ◌∷◌, ◌++◌, length, refl, sym, ap, subst, ◌∙◌, inl, inr, arith, length-set}
 use Rattle.std.specs.Prelude.{is_some, slice_index, slice_index_or, set}
 use Rattle.std.specs.List.{AllByRecursion}
@@ -30,7 +31,8 @@ use Rattle.cyc_store.proofs.KeptServices.{held-same, Rewrites, rewritten-table, 
 
 -- ---- the first dead slot
 
--- the first dead slot is a slot of the class, and the remaining slots of the class are represented after it
+-- The first dead slot of a class is a slot of the class, and the remaining dead slots are represented after
+-- it is removed.
 pub record IsFirst (word : ℕ → ℕ) (class : ℕ) (dead : List ℕ) (next : ℕ × ClassSlots) : Type 0 where
   pub rest : List ℕ
   pub first : dead ≡ next.0 ∷ rest
@@ -43,7 +45,7 @@ slots-first size word (suc count) some = ap (λ n. word ∷ slots_from size (wor
     less : (n : ℕ) → n ≡ suc n - 1
     less n = omega arith
 
--- a request whose block is of this class
+-- For each class there is a request whose block is of this class.
 asked : (class : ℕ) → class ≤ greatest_class → (n : ℕ) × (1 ≤ n) × (n ≤ MOST_BLOCK_WORDS) × (class_of n ≡ class)
 asked zero bound = (1, omega arith, omega arith, refl)
 asked (suc zero) bound = (2, omega arith, omega arith, refl)
@@ -58,7 +60,7 @@ asked (suc (suc (suc (suc (suc (suc (suc (suc (suc zero))))))))) bound = (512, o
 asked (suc (suc (suc (suc (suc (suc (suc (suc (suc (suc zero)))))))))) bound = (1000, omega arith, omega arith, refl)
 asked (suc (suc (suc (suc (suc (suc (suc (suc (suc (suc (suc class))))))))))) bound = absurd (omega (arith, bound))
 
--- the page counts of classes do not affect the table
+-- Changing the page counts of classes does not affect the representation by the table.
 recounted : (t : Table) (lexicals : List ℕ) (classes : ℕ → ClassSlots) (b : Blocks) (l : Layout) (counts : List ℕ) → IsTied t lexicals classes b l
     → IsTied t lexicals classes (record b { classes = counts }) l
 recounted t lexicals classes b l counts tied = record {
@@ -97,7 +99,7 @@ module _ (t : PageTable) (lexicals : List ℕ) (classes : List ClassSlots) (b : 
   pub stock-is : IsStocked (table_of t).word slots class dead
   stock-is = k.tied.stock class bound
 
-  -- a slot lies in the existing words
+  -- The first word of a slot is one of the existing words.
   pub slot-there : (w : ℕ) → IsSlot k.layout.pages.owner k.layout.class class w → w < length t.words.items
   slot-there w slot = within slot.page (slot.number * 2 ^ class) (2 ^ class) w (length t.rows.items) (length t.words.items) slot.at slot.fits (pow_pos class)
       (k.tied.drawn slot.page UNIQUE slot.owned) k.whole.words
@@ -129,7 +131,7 @@ module _ (t : PageTable) (lexicals : List ℕ) (classes : List ClassSlots) (b : 
       past : (w n : ℕ) → w ≡ 4294967295 → w < n → n ≤ 67108864 → ⊥
       past w n none less few = omega (arith, none, less, few)
 
-  -- a dead slot that contained a block before is linked to the others
+  -- If a dead slot has contained a block before, then it is linked to the other dead slots.
   linked-first : (slots.dead ≡ NONE → ⊥) → IsFirst (table_of t).word class dead (slots.dead, record slots { dead = slice_index t.words.items slots.dead })
   linked-first some = by stock-is.chain stock-is.all stock-is.linked
     where
@@ -142,7 +144,8 @@ module _ (t : PageTable) (lexicals : List ℕ) (classes : List ClassSlots) (b : 
         stock = record { chain = chain; all = refl; linked = subst (λ n. IsChain (table_of t).word (slice_index t.words.items n) chain) (sym linked.0) linked.1 };
       }
 
-  -- without such slots, the dead slots are those that never contained a block
+  -- If no dead slot has contained a block before, then the dead slots are those that were never
+  -- used.
   fresh-dead : slots.dead ≡ NONE → dead ≡ slots_from (2 ^ class) slots.fresh slots.left
   fresh-dead none = by stock-is.chain stock-is.all stock-is.linked
     where
@@ -198,7 +201,7 @@ module _ (t : PageTable) (lexicals : List ℕ) (classes : List ClassSlots) (b : 
   pub dead-there : (slots.dead ≡ NONE → ⊥) → slots.dead < length t.words.items
   dead-there some = let linked = linked-first some in first-there slots.dead linked.rest linked.first
 
-  -- each link is a word, so the first dead slot is one
+  -- Each link fits in a 32-bit word, so the number of the first dead slot fits too.
   pub link-word : slots.dead < 4294967296
   link-word = elim (cases_eq slots.dead NONE) [
     | inl none ↦ last slots.dead none
@@ -269,7 +272,7 @@ module _ (t : PageTable) (lexicals : List ℕ) (classes : List ClassSlots) (b : 
           (drawn-none t lexicals classes b k u page draws room) (drawn-away t lexicals classes b k u page draws room) taken.there class
           k.laid.sound.regions.handles.0 (page-empty s k.layout k.laid page taken.rest taken.first class bound none-dead)
 
-      -- the row of the page is written
+      -- Writing the row of the page that is cut into slots preserves the invariant.
       pub stock-kept : (c : Blocks) → c ≡ after b (Stocked class) → (v : PageTable) → Rewrites u v page (slots_row class)
           → IsKept v lexicals (set classes class (record { dead = NONE; fresh = 1024 * page; left = 1024 / 2 ^ class })) c
       stock-kept c noted v is = subst (IsKept v lexicals (set classes class (fresh_slots page class))) (sym noted) (record {
@@ -344,7 +347,7 @@ module _ (t : PageTable) (lexicals : List ℕ) (classes : List ClassSlots) (b : 
           (λ first other. lookup-append_other address_of b.unique block first (λ e. other (sym e)))
           next.1 first-next.rest (table_of t).word first-next.stock (λ other away few old. old)
 
-      -- the marks of the slot are written
+      -- Writing the live marks of the allocated slot preserves the invariant.
       pub fill-kept : (v : PageTable) → v.most ≡ t.most → v.words.items ≡ t.words.items
           → ((word : ℕ) → slice_index_or v.live.items word false ≡ marked_between (λ (i : ℕ). slice_index_or t.live.items i false) next.0 size true word) → length v.live.items ≡ length t.live.items
           → v.free ≡ t.free → v.rows.items ≡ t.rows.items → IsKept v lexicals (set classes class next.1) c

@@ -1,4 +1,4 @@
--- A table without used pages represents a store without regions.
+-- A table of pages without used pages represents a store without regions.
 use Rattle.std.proofs.Common.{◌≡◌, ℕ, zero, suc, ◌+◌, ◌-◌, ◌*◌, ◌/◌, ◌%◌, ◌<◌, ◌≤◌, Bool, true, false, List, [], ◌∷◌, length, None, Some, refl, sym, ap, subst, ◌∙◌, inl, inr, arith}
 use Rattle.std.specs.Prelude.{◌==◌, ◌&&◌, nat_le, if◌then◌else◌, slice_index, slice_index_or}
 use Rattle.cyc_words.specs.Demand.{greatest_class}
@@ -100,7 +100,7 @@ first-laid most = record {
         zeroes : (k : ℕ) → 0 * k ≡ 0 + 0
         zeroes k = omega arith
 
--- a table from which no page was taken
+-- A table from which no page was taken satisfies the invariant for a store without regions.
 pub first-kept : (t : PageTable) → t.most ≤ 65536 → t.words.items ≡ [] → t.live.items ≡ [] → t.rows.items ≡ [] → t.free ≡ NONE → IsKept t [] all_new no_regions
 first-kept t most words live rows free = record {
   whole = record {
@@ -156,7 +156,7 @@ module _ (t : PageTable) (least_pages : 1 ≤ t.most) (most : t.most ≤ 65536) 
       past : (n m : ℕ) → n ≡ 0 → 1 ≤ m → m ≤ n → ⊥
       past n m none some more = omega (arith, none, some, more)
 
-  -- the store in which only the heap is open, with this first page
+  -- The store in which only the heap is open; the heap's first page is given.
   abbrev with_heap : (root : ℕ) → StoreState
   with_heap root = opened (store_of t.most t.words.items no_regions) (handle_of_page root) Heap
 
@@ -171,7 +171,7 @@ module _ (t : PageTable) (least_pages : 1 ≤ t.most) (most : t.most ≤ 65536) 
   pub heap-held : (pages : ℕ) → t.most ≡ pages → (ws : List ℕ) (c : Blocks) → c ≡ no_blocks → store_of u.most ws c ≡ start pages (memory_of ws)
   heap-held pages is ws c noted = ap (λ n. store_of n ws c) (draws.most ∙ is) ∙ ap (store_of pages ws) noted
 
-  -- all contents of memory are words
+  -- All contents of memory are 32-bit words.
   pub heap-words : AreWords (memory_of u.words.items)
   heap-words address = found ((address % 4 == 0) && nat_le STORE_BASE address) ((address - STORE_BASE) / 4)
     where

@@ -1,5 +1,5 @@
--- The answer of a store on a table of pages to a request for a unique block. A slot is filled; if there is none, a page is cut into slots
--- first. The store is full if no page is free.
+-- This file is about the answer of a store on a table of pages to a request for a unique block. A slot is filled; if there is no empty
+-- slot, a page is cut into slots first. The store is full if no page is free.
 use Rattle.std.proofs.Common.{◌≡◌, ℕ, suc, ◌+◌, ◌*◌, ◌^◌, ◌<◌, ◌≤◌, List, length, None, refl, sym, ap, subst, ◌∙◌, inl, inr, arith, get_or-set_same}
 use Rattle.std.specs.Prelude.{◌⊎◌, true, slice_index}
 use Rattle.std.proofs.Math.Nat.{suc-mul}
@@ -54,7 +54,7 @@ module _ (t : PageTable) (lexicals : List ℕ) (classes : List ClassSlots) (b : 
     class-is : class_of (2 ^ class) ≡ class
     class-is = class-power class unique-bound
 
-    -- one more block needs one more page
+    -- If all slots of a class are live, then one more block needs one more page.
     raised-is : raised b.classes (class_of (2 ^ class)) (suc (live_in (class_of (2 ^ class)) b.unique)) ≡ (with_page s class).classes
     raised-is = ap (λ c. raised b.classes c (suc (live_in c b.unique))) class-is ∙ raised-past b.classes class (live_in class b.unique) unique-bound all-live
 
@@ -102,7 +102,8 @@ module _ (t : PageTable) (lexicals : List ℕ) (classes : List ClassSlots) (b : 
         few : (d p e : ℕ) → d < p → e ≡ suc d → e ≤ p
         few d p e less next = omega (arith, less, next)
 
-    -- if cutting a page into slots fails, the block is refused for the reason of that failure
+    -- If cutting a page into slots fails, then the request for a block is refused for the reason of
+    -- that failure.
     pub unique-refused : (why : No) (u : StoreState) → (why ≡ no.Full) ⊎ (why ≡ no.Memory) → (why ≡ no.Full → IsSpent s) → (why ≡ no.Memory → demand s < t.most) → u ≡ s
         → Responds true s (Allocate UNIQUE n) (refused why) u
     unique-refused why u (inl full) spent wants same = subst (λ w. Responds true s (Allocate UNIQUE n) (refused w) u) (sym full)

@@ -1,4 +1,4 @@
--- Closing the lexical regions one after another, the newest first.
+-- This file is about closing the lexical regions one after another, the newest first.
 use Rattle.std.proofs.Common.{◌≡◌, ℕ, zero, suc, ◌+◌, ◌*◌, ◌/◌, ◌≤◌, true, false, List, [], ◌∷◌, ◌++◌, length, None, Some, refl, sym, ap, subst, ◌∙◌, inl, inr, arith}
 use Rattle.std.specs.Prelude.{◌⊎◌}
 use Rattle.std.proofs.lemmas.Bool.{cases_Bool, cond-true, cond-false}
@@ -26,7 +26,8 @@ pub step-by : (m : ℕ) (r : Home) (rs : List Home) → is_lexical r.sort ≡ fa
 step-by zero r rs not = cond-false (is_lexical r.sort) (down_to zero rs) (r ∷ down_to zero rs) not
 step-by (suc m) r rs not = cond-false (is_lexical r.sort) (r ∷ down_to m rs) (r ∷ down_to (suc m) rs) not
 
--- closing to a higher mark and then to a lower one equals closing to the lower one
+-- Closing until n regions stay open, and then until fewer stay open, equals closing to the lower
+-- number at once.
 pub down_to-lower : (m n : ℕ) (rs : List Home) → m ≤ n → down_to m (down_to n rs) ≡ down_to m rs
 down_to-lower zero zero [] few = refl
 down_to-lower zero (suc n) [] few = refl
@@ -43,7 +44,7 @@ down_to-lower m n (r ∷ rs) few = by m n few (cases_Bool (is_lexical r.sort)) (
     by (suc m) (suc n) few (inl is) rest = ap (down_to (suc m)) (step-in n r rs is)
         ∙ (step-in m r (down_to n rs) is ∙ (ap (λ l. r ∷ l) (rest m n (le_from_suc m n few)) ∙ sym (step-in m r rs is)))
 
--- a mark of at least the number of lexical regions closes nothing
+-- If at least as many regions may stay open as there are lexical regions, then nothing is closed.
 pub down_to-all : (m : ℕ) (rs : List Home) → lexical_count rs ≤ m → down_to m rs ≡ rs
 down_to-all zero [] few = refl
 down_to-all (suc m) [] few = refl
@@ -57,7 +58,8 @@ down_to-all m (r ∷ rs) few = by m few (cases_Bool (is_lexical r.sort)) (λ k a
 
 -- ---- the newest lexical region
 
--- the last handle names the newest lexical region; closing it is closing down to one less
+-- The last handle of the list names the newest lexical region; closing this region is closing until
+-- one region less is open.
 record IsNewest (rs : List Home) (older : List ℕ) (h : ℕ) : Type 0 where
   pub region : Home
   pub named : lookup handle_of rs h ≡ Some region
@@ -80,7 +82,8 @@ newest-is [] left h distinct is = absurd (empty left is)
     empty (x ∷ xs) e = cc
 newest-is (r ∷ rs) left h distinct is = by left is (cases_Bool (is_lexical r.sort)) (λ xs e. newest-is rs xs h distinct.1 e)
   where
-    -- the last handle does not name the newest lexical region if a further region follows
+    -- If a further lexical region follows, then the last handle does not name the newest lexical
+    -- region.
     following : (xs : List ℕ) → IsNewest rs xs h → (r.handle ≡ h → ⊥)
     following xs rest e = never_none_and_some (subst (λ n. lookup handle_of rs n ≡ None) e distinct.0) rest.named
 
@@ -179,7 +182,7 @@ module _ (t : PageTable) (lexicals : List ℕ) (classes : List ClassSlots) (b : 
         → Unwinds (record { pages = t.most; words = t.words.items; blocks = b; room = old }) (record { pages = v.most; words = v.words.items; blocks = c; room = new })
     newest-unwinds v old new most words room = record { count = newest-count; regions = newest-down; same = newest-same v old new most words room }
 
--- all regions that should be closed are closed
+-- After the loop, all regions that should be closed are closed.
 pub unwound : (old new : Stored) (mark : ℕ) → new ≡ record old { blocks = record old.blocks { regions = new.blocks.regions } }
     → down_to mark new.blocks.regions ≡ down_to mark old.blocks.regions → lexical_count new.blocks.regions ≤ mark
     → held_of new ≡ record (held_of old) { regions = down_to mark old.blocks.regions }

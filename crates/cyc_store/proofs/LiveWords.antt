@@ -1,4 +1,4 @@
--- The live words of a table of pages, by its rows and marks.
+-- This file determines the live words of a table of pages from the table's rows and live marks.
 use Rattle.std.proofs.Common.{◌≡◌, ℕ, zero, suc, ◌+◌, ◌*◌, ◌/◌, ◌%◌, ◌^◌, ◌<◌, ◌≤◌, true, false, List, Option, None, Some, refl, sym, ap, subst, ◌∙◌, inl, inr, arith}
 use Rattle.std.specs.Prelude.{is_some}
 use Rattle.std.proofs.Math.Nat.{mul-le-mul_right, suc-mul, div-mul-le_self, lt-div-mul-add, div-add-mod}
@@ -34,7 +34,7 @@ blocks-whole (suc (suc (suc (suc (suc (suc (suc (suc (suc zero))))))))) bound = 
 blocks-whole (suc (suc (suc (suc (suc (suc (suc (suc (suc (suc zero)))))))))) bound = refl
 blocks-whole (suc (suc (suc (suc (suc (suc (suc (suc (suc (suc (suc class))))))))))) bound = absurd (omega (arith, bound))
 
--- a slot that begins in a page ends in it
+-- A slot that begins in a page ends in the same page.
 pub slot-fits : (class number : ℕ) → class ≤ greatest_class → number * 2 ^ class < PAGE_WORDS → number * 2 ^ class + 2 ^ class ≤ PAGE_WORDS
 slot-fits class number bound inside = elim (cases_lt number (blocks_in_page class)) [
   | inl less ↦
@@ -75,7 +75,7 @@ sort-slots Lexical c e = cc
 sort-slots Dynamic c e = cc
 sort-slots Uniques c e = cc
 
--- only a page of a class has the class's role
+-- Only a page of a class of unique blocks has the role of this class.
 pub slots-owner : (sort : Option Sort) (owner : Option ℕ) (class c : ℕ) → role_of sort owner class ≡ role.Slots c → (owner ≡ Some UNIQUE) × (class ≡ c)
 slots-owner (Some sort) owner class c e = absurd (sort-slots sort c e)
 slots-owner None None class c e = absurd (rest-slots c e)
@@ -84,7 +84,7 @@ slots-owner None (Some h) class c e = elim (cases_eq h UNIQUE) [
   | inr other ↦ absurd (rest-slots c (sym (when_other h UNIQUE (role.Slots class) role.Rest other) ∙ e))
 ]
 
--- the handle of a region differs from that of the unique blocks
+-- The handle of a region differs from the handle of the unique blocks.
 pub odd-apart : (page : ℕ) → handle_of_page page ≡ UNIQUE → ⊥
 odd-apart page e = omega (arith, e)
 
@@ -95,7 +95,7 @@ module _ (t : Table) (lexicals : List ℕ) (classes : ℕ → ClassSlots) (b : B
   abbrev s : StoreState
   s = store_of t.most words b
 
-  -- a page of a class is not a region's first page
+  -- A page of a class of unique blocks is not the first page of a region.
   pub unique-role : (page : ℕ) → l.pages.owner page ≡ Some UNIQUE → (t.row page).role ≡ role.Slots (l.class page)
   unique-role page owned =
       (tied.rows page).plays
@@ -188,7 +188,7 @@ module _ (t : Table) (lexicals : List ℕ) (classes : ℕ → ClassSlots) (b : B
       | inr other ↦ subst (λ n. n ≤ offset) ((tied.rows page).marks ∙ (ap (λ o. limit o (l.pages.filled page)) owned ∙ when_other h UNIQUE 0 (l.pages.filled page) other)) past
     ]))
 
-    -- past the fill mark, a word is live if its own mark is set
+    -- After the fill mark of a page, a word is live exactly if its live mark is set.
     pub live-marks : (t.row page).filled ≤ offset → is_some (holder (homes s) (place_of (PAGE_WORDS * page + offset))) ≡ t.live (PAGE_WORDS * page + offset)
     live-marks past = by (l.pages.owner page) refl
       where
@@ -204,6 +204,6 @@ module _ (t : Table) (lexicals : List ℕ) (classes : ℕ → ClassSlots) (b : B
           | inr other ↦ apart (λ e. other (same_from_some (sym owned ∙ e)))
         ]
 
--- the number of a word, split into its page and its position there
+-- The number of a word is computed from the word's page and its position in the page.
 pub word-split : (word : ℕ) → PAGE_WORDS * (word / 1024) + word % 1024 ≡ word
 word-split word = div-add-mod word 1024

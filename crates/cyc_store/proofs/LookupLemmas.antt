@@ -1,4 +1,5 @@
--- Lists indexed by key: lookups after an element is appended, changed or removed.
+-- This file is about lists that are indexed by key: lookups after an element is appended, changed
+-- or removed.
 use Rattle.std.proofs.Common.{◌≡◌, ℕ, List, [], ◌∷◌, ◌++◌, None, Some, refl, sym, ap, subst, ◌∙◌, inl, inr}
 use Rattle.std.specs.Prelude.{◌==◌, ◌⊎◌, if◌then◌else◌}
 use Rattle.std.proofs.lemmas.Bool.{cases_eq, cond-false, ne_eqb}
@@ -9,7 +10,7 @@ use Rattle.cyc_store.specs.State.{lookup, without, changed, AreDistinct}
 pub when_other : {A : Type 0} (m n : ℕ) (x y : A) → (m ≡ n → ⊥) → (if m == n then x else y) ≡ y
 when_other m n x y other = cond-false (m == n) x y (ne_eqb m n other)
 
--- a list from which some elements were removed
+-- Says that the first list is the second list with some elements removed.
 pub data IsPart {A : Type 0} : List A → List A → Type 0 where
   is_empty : IsPart [] []
   is_left : {x : A} {xs ys : List A} → IsPart xs ys → IsPart xs (x ∷ ys)
@@ -24,7 +25,8 @@ module _ {A : Type 0} (key : A → ℕ) where
   pub lookup-there : (x : A) (xs : List A) (n : ℕ) → (key x ≡ n → ⊥) → lookup key (x ∷ xs) n ≡ lookup key xs n
   lookup-there x xs n other = when_other (key x) n (Some x) (lookup key xs n) other
 
-  -- a key that is not found is not the first element's, and is not found in the remaining elements
+  -- If a key is not found in a list, then it is not the key of the first element, and it is not
+  -- found in the remaining elements.
   pub lookup-none : (x : A) (xs : List A) (n : ℕ) → lookup key (x ∷ xs) n ≡ None → (key x ≡ n → ⊥) × (lookup key xs n ≡ None)
   lookup-none x xs n none = (other, sym (lookup-there x xs n other) ∙ none)
     where
@@ -53,7 +55,7 @@ module _ {A : Type 0} (key : A → ℕ) where
       let (away, rest) = lookup-none a xs n none in
       lookup-there a (xs ++ y ∷ []) n away ∙ lookup-append_none xs y n rest other
 
-  -- a found element was there before, or is the new one
+  -- An element that is found after an append was found before, or is the appended element.
   pub lookup-append_cases : (xs : List A) (y : A) (n : ℕ) (x : A) → lookup key (xs ++ y ∷ []) n ≡ Some x → (lookup key xs n ≡ Some x) ⊎ (x ≡ y)
   lookup-append_cases [] y n x found = elim (cases_eq (key y) n) [
     | inl same ↦ inr (same_from_some (sym found ∙ lookup-here y [] n same))
@@ -100,7 +102,7 @@ module _ {A : Type 0} (key : A → ℕ) where
   AreDistinct-part (is_left part) distinct = AreDistinct-part part distinct.1
   AreDistinct-part (is_kept {x} part) distinct = (lookup-part_none part (key x) distinct.0, AreDistinct-part part distinct.1)
 
-  -- an element found in a sublist is found in the whole list
+  -- An element that is found in a sublist is found in the complete list.
   pub lookup-part : {xs ys : List A} → IsPart xs ys → AreDistinct key ys → (n : ℕ) (y : A) → lookup key xs n ≡ Some y → lookup key ys n ≡ Some y
   lookup-part is_empty distinct n y found = found
   lookup-part (is_left {x} {xs} {ys} part) distinct n y found =

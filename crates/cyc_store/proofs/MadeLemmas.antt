@@ -1,4 +1,4 @@
--- Lists of calls, one call at a time.
+-- This file is about lists of calls, one call at a time.
 use Rattle.std.proofs.Common.{◌≡◌, ℕ, Bool, List, [], ◌∷◌, Option, Some, None, refl, subst, inl, inr}
 use Rattle.std.specs.Prelude.{is_some}
 use Rattle.cyc_words.specs.Word.{IsWord}
@@ -10,12 +10,12 @@ use Rattle.cyc_store.specs.Made.{call_of, Makes, AreOf, MakesAll}
 use Rattle.cyc_store.specs.declared.runs.Asked.{Asked}
 use Rattle.cyc_store.specs.declared.runs.Asked.TheVariants as asked
 
--- a call of a service
+-- A call that requests a service of the store has a result that the definition allows.
 pub responds : (grows : Bool) (a : Asked) (call : Call) (o : Option Answer) (s t : StoreState) → call_of a ≡ Some call → Responds grows s call o t → Makes grows a s t
 responds grows a call (Some answer) s t is serves = inl (Service call answer, is, serves)
 responds grows a call None s t is (wants, free, same) = inr (wants, same)
 
--- a read or a write of a word
+-- A read or a write of a word has a result that the definition allows.
 pub loads : (grows : Bool) (address : ℕ) (word : Option ℕ) (s : StoreState) → word ≡ word_at s address → Makes grows (asked.Load address) s s
 loads grows address word s is = inl (Load address word, refl, (is, refl))
 
@@ -23,7 +23,7 @@ pub saves : (grows : Bool) (address word : ℕ) (done : Bool) (s t : StoreState)
     → Makes grows (asked.Save address word) s t
 saves grows address word done s t fits is same = inl (Save address word done, refl, (fits, is, same))
 
--- the list of calls extended by a call at its front
+-- The result of a list of calls extends to the list with one more call at its front.
 pub one_made : (grows : Bool) (a : Asked) (calls : List Asked) (s t u : StoreState) → Makes grows a s t → MakesAll grows calls t u → MakesAll grows (a ∷ calls) s u
 one_made grows a calls s t u (inl (e, is, does)) rest = record { exchanges = e ∷ rest.exchanges; are = inl (is, rest.are); run = (t, does, rest.run) }
 one_made grows a calls s t u (inr (wants, same)) rest = record {

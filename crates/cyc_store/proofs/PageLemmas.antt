@@ -1,4 +1,5 @@
--- Blocks laid out in pages are disjoint, and their pages are those that the demand counts.
+-- Blocks that are laid out in pages are disjoint, and their pages are those that the page count of
+-- the store includes.
 use Rattle.std.proofs.Common.{◌≡◌, ℕ, suc, ◌+◌, ◌*◌, ◌<◌, ◌≤◌, ◌%◌, Bool, true, false, List, [], ◌∷◌, ◌++◌, None, Some, refl, sym, ap, subst, ◌∙◌, inl, inr, arith}
 use Rattle.std.specs.Prelude.{nat_le, nat_lt, if◌then◌else◌}
 use Rattle.std.proofs.Math.Nat.{add-mul-mod_self_left}
@@ -25,7 +26,7 @@ one_page : (base p q u v m n x a c : ℕ) → a ≡ base + 4 * (1024 * p) + 4 * 
     → a ≤ x → x < a + 4 * m → c ≤ x → x < c + 4 * n → u + m ≤ 1024 → v + n ≤ 1024 → p ≡ q
 one_page base p q u v m n x a c a_is c_is a_low a_high c_low c_high a_in c_in = omega arith
 
--- a position past the fill mark is not below it
+-- A position past the fill mark of a page is not below the mark.
 below_mark : (base p q u v n x a c f g : ℕ) → p ≡ q → f ≡ g → a ≡ base + 4 * (1024 * p) + 4 * u → c ≡ base + 4 * (1024 * q) + 4 * v
     → a ≤ x → x < c + 4 * n → f ≤ u → v + n ≤ g → ⊥
 below_mark base p q u v n x a c f g same marks a_is c_is a_low c_high past below = omega arith
@@ -102,7 +103,7 @@ stays-all pages others [] stays laid = tt
 stays-all pages others (r ∷ rs) stays laid =
     (stays-in pages others r.handle r.blocks (stays r.handle) laid.0, stays-all pages others rs stays laid.1)
 
--- filling a page further
+-- Filling a page further preserves the layout of all blocks.
 pub filled-stays : (pages : Pages) (page words : ℕ) → pages.filled page ≤ words → (h : ℕ) (b : Block) → IsLaid pages h b → IsLaid (filled_to pages page words) h b
 filled-stays pages page words more h b laid = record {
   page = laid.page;
@@ -123,7 +124,7 @@ filled-stays pages page words more h b laid = record {
   };
 }
 
--- taking a free page
+-- Taking a free page preserves the layout of all blocks.
 pub drawn-stays : (pages : Pages) (page handle : ℕ) → pages.owner page ≡ None → (h : ℕ) (b : Block) → IsLaid pages h b → IsLaid (drawn pages page handle) h b
 drawn-stays pages page handle free h b laid = record {
   page = laid.page;
@@ -140,7 +141,7 @@ drawn-stays pages page handle free h b laid = record {
     other : laid.page ≡ page → ⊥
     other same = never_none_and_some free (subst (λ p. pages.owner p ≡ Some h) same laid.owned)
 
--- freeing the pages of another region
+-- Freeing the pages of one region preserves the layout of the blocks of other regions.
 pub given-stays : (pages : Pages) (gone h : ℕ) → (h ≡ gone → ⊥) → (b : Block) → IsLaid pages h b → IsLaid (given_back pages gone) h b
 given-stays pages gone h other b laid = record {
   page = laid.page;
@@ -157,7 +158,7 @@ AreLaid-append : (pages : Pages) (rs qs : List Home) → AreLaid pages rs → Ar
 AreLaid-append pages [] qs laid more = more
 AreLaid-append pages (r ∷ rs) qs laid more = (laid.0, AreLaid-append pages rs qs laid.1 more)
 
--- opening a region with a page of its own
+-- Opening a region with a new page preserves the layout of all blocks.
 pub laid-opened : (pages : Pages) (rs : List Home) (page handle : ℕ) (sort : Sort) → pages.owner page ≡ None → AreLaid pages rs
     → AreLaid (drawn pages page handle) (rs ++ empty_home handle sort ∷ [])
 laid-opened pages rs page handle sort free laid =
@@ -180,7 +181,8 @@ laid-changed pages h (r ∷ rs) b laid new = elim (cases_eq r.handle h) [
       (laid.0, laid-changed pages h rs b laid.1 new)
 ]
 
--- allocating a block past the fill mark of a page, and moving the mark past it
+-- Allocating a block past the fill mark of a page, and moving the mark past the block, preserves
+-- the layout.
 pub laid-made : (pages : Pages) (rs : List Home) (page h word size : ℕ) → pages.owner page ≡ Some h → pages.filled page ≤ word → 0 < size → AreLaid pages rs
     → AreLaid (filled_to pages page (word + size)) (changed handle_of (with_block (record { address = page_start page + 4 * word; size = size })) rs h)
 laid-made pages rs page h word size owned past some laid =
@@ -207,7 +209,7 @@ laid-made pages rs page h word size owned past some laid =
     same : (n : ℕ) → n ≤ n
     same n = omega arith
 
--- closing a region and freeing its pages
+-- Closing a region and freeing its pages preserves the layout of all other blocks.
 pub laid-closed : (pages : Pages) (gone : ℕ) (rs : List Home) → lookup handle_of rs gone ≡ None → AreLaid pages rs → AreLaid (given_back pages gone) rs
 laid-closed pages gone [] none laid = tt
 laid-closed pages gone (r ∷ rs) none laid =
@@ -235,7 +237,7 @@ mark-pages m (size ∷ sizes) =
     mark-pages (next_mark m size) sizes
     ∙ pages-chosen (record { pages = m.pages; filled = m.filled + size }) (record { pages = suc m.pages; filled = size }) sizes (nat_le (m.filled + size) page_words)
 
--- one more block moves the mark once
+-- Adding one more block moves the fill mark once.
 pub mark-append : (m : Mark) (sizes : List ℕ) (size : ℕ) → mark_from m (sizes ++ size ∷ []) ≡ next_mark (mark_from m sizes) size
 mark-append m [] size = refl
 mark-append m (first ∷ sizes) size = mark-append (next_mark m first) sizes size

@@ -1,4 +1,5 @@
--- Allocation in a region by pages: if the newest page has no room, another page is taken. The store is full exactly if no page is free.
+-- This file is about allocation in a region by pages: if the newest page has no room, another page is taken. The store is full exactly
+-- if no page is free.
 use Rattle.std.proofs.Common.{◌≡◌, ℕ, suc, ◌+◌, ◌*◌, ◌<◌, ◌≤◌, List, [], ◌∷◌, ◌++◌, length, None, Some, refl, sym, ap, subst, ◌∙◌, inl, inr, arith}
 use Rattle.std.specs.Prelude.{nat_le}
 use Rattle.std.proofs.lemmas.List.{map-append}
@@ -41,7 +42,7 @@ demand-changed (q ∷ rs) h r b classes there = elim (cases_eq q.handle h) [
       (demand-changed rs h r b classes (sym (lookup-there handle_of q rs h other) ∙ there))
 ]
 
--- the number of pages of a region is that of its mark
+-- The number of pages of a region is the number of pages in its fill mark.
 pub pages-mark : (r : Home) → region_pages (sizes_of r.blocks) ≡ (mark_of r).pages
 pages-mark r = sym (mark-pages (record { pages = 1; filled = 0 }) (sizes_of r.blocks))
 
@@ -65,28 +66,31 @@ module _ (m : Mark) (size : ℕ) where
 -- ---- one block more
 
 module _ (s : StoreState) (pages : Pages) (free : List ℕ) (paged : IsPaged s pages free) (h : ℕ) (r : Home) (named : lookup handle_of s.regions h ≡ Some r) where
-  -- if the newest page has room, the demand stays
+  -- If the newest page of a region has room, then an allocation does not raise the number of pages
+  -- that the store needs.
   pub demand-stays : (b : Block) → (mark_of r).filled + b.size ≤ PAGE_WORDS → demand (made_in s h b) ≡ demand s
   demand-stays b room =
       balance_same (demand (made_in s h b)) (demand s) (region_pages (sizes_of r.blocks)) (region_pages (sizes_of r.blocks ++ b.size ∷ []))
       (demand-changed s.regions h r b s.classes named)
       (pages-next r b.size ∙ (ap (λ (m : Mark). m.pages) (mark-stays (mark_of r) b.size room) ∙ sym (pages-mark r)))
 
-  -- if the newest page has no room, the demand increases by one page
+  -- If the newest page of a region has no room, then an allocation raises the number of pages that
+  -- the store needs by one.
   pub demand-grows : (b : Block) → PAGE_WORDS < (mark_of r).filled + b.size → demand (made_in s h b) ≡ suc (demand s)
   demand-grows b past =
       balance_one_more (demand (made_in s h b)) (demand s) (region_pages (sizes_of r.blocks)) (region_pages (sizes_of r.blocks ++ b.size ∷ []))
       (demand-changed s.regions h r b s.classes named)
       (pages-next r b.size ∙ (ap (λ (m : Mark). m.pages) (mark-goes (mark_of r) b.size past) ∙ ap suc (sym (pages-mark r))))
 
-  -- without a free page, the store is full exactly in that case
+  -- If no page is free and the newest page of the region has no room, then the store is full.
   pub full-without : (b : Block) → free ≡ [] → PAGE_WORDS < (mark_of r).filled + b.size → s.pages < demand (made_in s h b)
   full-without b none past = beyond (length free) (demand s) s.pages (demand (made_in s h b)) (ap length none) paged.count (demand-grows b past)
     where
       beyond : (n d p e : ℕ) → n ≡ 0 → n + d ≡ p → e ≡ suc d → p < e
       beyond n d p e none count grows = omega (arith, none, count, grows)
 
-  -- allocation in the newest page
+  -- A block that is allocated in the newest page of its region lies in the store's range and is
+  -- disjoint from all blocks.
   pub stays-placed : (b : Block) (newest : HasNewest pages r) → b.address ≡ page_start newest.page + 4 * (mark_of r).filled
       → (mark_of r).filled + b.size ≤ PAGE_WORDS → 0 < b.size → IsPlaced s.pages b × IsApart (homes s) b
   stays-placed b newest at room some = (
@@ -106,7 +110,8 @@ module _ (s : StoreState) (pages : Pages) (free : List ℕ) (paged : IsPaged s p
         some = some;
       }
 
--- allocation at the start of a new page
+-- A block that is allocated at the start of a new page lies in the store's range and is disjoint
+-- from all blocks.
 pub drawn-placed : (s : StoreState) (pages : Pages) (page : ℕ) (free : List ℕ) → IsPaged s pages (page ∷ free) → (h : ℕ) (b : Block)
     → b.address ≡ page_start page → 0 < b.size → b.size ≤ PAGE_WORDS → IsPlaced s.pages b × IsApart (homes s) b
 drawn-placed s pages page free paged h b at some room = (

@@ -1,4 +1,4 @@
--- A store with a layout in pages finds room for a block of a region whenever the demand allows it, and keeps a layout.
+-- A store with a layout in pages finds room for a block of a region if enough pages are left, and preserves a layout.
 use Rattle.std.proofs.Common.{◌≡◌, ℕ, ◌+◌, ◌*◌, ◌<◌, ◌≤◌, List, [], ◌∷◌, Some, refl, sym, subst, inl, inr, arith}
 use Rattle.std.specs.Prelude.{◌⊎◌}
 use Rattle.cyc_store.specs.State.{lookup, Home, handle_of, StoreState, homes, demand, made_in, room}
@@ -10,20 +10,20 @@ use Rattle.cyc_store.specs.Pages.{page_start, Pages, filled_to, drawn, mark_of, 
 use Rattle.cyc_store.proofs.PageServices.{stays-placed, drawn-placed, full-without}
 use Rattle.cyc_store.proofs.PagedRegions.{block_in_page, paged-stays, paged-draws}
 
--- the store has a layout in some pages
+-- Says that the store has a layout in some pages.
 pub record ArePages (s : StoreState) : Type 0 where
   pub pages : Pages
   pub free : List ℕ
   pub paged : IsPaged s pages free
 
--- an allowed choice, after which the store has a layout in pages
+-- Says that there is an allowed choice after which the store has a layout in pages.
 pub record FindsPlace (s : StoreState) (h n : ℕ) : Type 0 where
   pub choice : Choice
   pub allowed : IsAllowed s (Allocate h n) choice
   pub pages : ArePages (served s (Allocate h n) choice)
 
 module _ (s : StoreState) (h n : ℕ) (sound : IsSound s) (ordinary : h ≡ UNIQUE → ⊥) where
-  -- the choice that changes only the new block
+  -- The choice that places the new block at this address and changes nothing else.
   abbrev chosen : (address : ℕ) → Choice
   chosen address = record { handle = 0; address = address; memory = s.memory }
 

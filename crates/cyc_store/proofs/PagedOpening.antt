@@ -1,4 +1,5 @@
--- Opening a region with a free page keeps the layout in pages; without a free page, the store is full.
+-- Opening a region with a free page preserves the layout in pages; without a free page, the store is
+-- full.
 use Rattle.std.proofs.Common.{◌≡◌, ℕ, suc, ◌+◌, ◌<◌, List, [], ◌∷◌, ◌++◌, length, Some, refl, sym, subst, ◌∙◌, inl, inr, arith}
 use Rattle.std.proofs.lemmas.Bool.{cases_eq}
 use Rattle.cyc_words.specs.Demand.{region_pages, demand_of, total}
@@ -47,7 +48,7 @@ paged-opened s pages page free h sort paged = record {
     one_less : (n d p e : ℕ) → suc n + d ≡ p → e ≡ suc d → n + e ≡ p
     one_less n d p e count grows = omega (arith, count, grows)
 
--- without a free page, the demand would exceed the pages
+-- If no page is free, then opening a region would need more pages than the store has.
 pub full-opening : (s : StoreState) (pages : Pages) (h : ℕ) (sort : Sort) → IsPaged s pages [] → s.pages < demand (opened s h sort)
 full-opening s pages h sort paged = beyond (demand s) s.pages (demand (opened s h sort)) paged.count (demand-more s.regions h sort s.classes)
   where

@@ -1,4 +1,4 @@
--- Allocating a block in a region keeps the layout in pages.
+-- Allocating a block in a region preserves the layout in pages.
 use Rattle.std.proofs.Common.{◌≡◌, ◌≢◌, ℕ, suc, ◌+◌, ◌*◌, ◌<◌, ◌≤◌, List, [], ◌∷◌, length, None, Some, refl, sym, ap, subst, ◌∙◌, inl, inr, arith}
 use Rattle.std.specs.List.{AllByRecursion}
 use Rattle.std.proofs.lemmas.Bool.{cases_eq}
@@ -11,7 +11,7 @@ use Rattle.cyc_store.specs.Pages.{page_start, Pages, AreFilled, AreLaid, filled_
 use Rattle.cyc_store.proofs.PageLemmas.{laid-made, laid-drawn}
 use Rattle.cyc_store.proofs.PageServices.{mark-made, mark-stays, mark-goes, demand-stays, demand-grows}
 
--- the block of this many words that begins at a word of a page
+-- The block of `size` words that begins at a word of a page.
 abbrev pub block_in_page : (page word size : ℕ) → Block
 block_in_page page word size = record { address = page_start page + 4 * word; size = size }
 
@@ -31,7 +31,7 @@ frees-rest count pages page h (p ∷ free) apart all = (
   frees-rest count pages page h free apart.1 all.1,
 )
 
--- no page is filled past its end
+-- No page is filled past its end when a page's fill mark moves to at most the page's end.
 pub still-filled : (pages : Pages) (page words : ℕ) → AreFilled pages → words ≤ PAGE_WORDS → AreFilled (filled_to pages page words)
 still-filled pages page words full room other = elim (cases_eq other page) [
   | inl same ↦ subst (λ n. n ≤ PAGE_WORDS) (sym (when_equal other page words (pages.filled other) same)) room
@@ -44,7 +44,7 @@ homes-made_in s h b other = when_other UNIQUE h
     (record { handle = UNIQUE; sort = Uniques; blocks = s.unique } ∷ changed handle_of (with_block b) s.regions h)
     (λ e. other (sym e))
 
--- moving the fill mark of another region's page keeps a chain
+-- Moving the fill mark of another region's page preserves the page chain of a region.
 abbrev pub chain-filled : (pages : Pages) (page words h : ℕ) (q : Home) → pages.owner page ≡ Some h → (q.handle ≡ h → ⊥) → HasChain pages q → HasChain (filled_to pages page words) q
 chain-filled pages page words h q owned other chain = record {
   newest = record {
@@ -61,7 +61,8 @@ chain-filled pages page words h q owned other chain = record {
   many = chain.many;
 }
 
--- the chains of all regions, after a page's fill mark moved and its region has one more block
+-- The page chains of all regions are preserved when a page's fill mark moves and its region gets
+-- one more block.
 chains-made : (pages : Pages) (rs : List Home) (h page words : ℕ) (r : Home) (b : Block) → lookup handle_of rs h ≡ Some r
     → pages.owner page ≡ Some h → HasChain (filled_to pages page words) (with_block b r)
     → ((g : ℕ) (q : Home) → (g ≡ h → ⊥) → lookup handle_of rs g ≡ Some q → HasChain pages q)
@@ -77,7 +78,7 @@ chains-made pages rs h page words r b named owned new others g q found = elim (c
       chain-filled pages page words h q owned (λ e. other (sym (lookup-key handle_of rs g q old) ∙ e)) (others g q other old)
 ]
 
--- a free page is not the newest of any region, so taking it keeps the newest pages
+-- A free page is not the newest page of any region, so taking it preserves the newest pages.
 abbrev pub still-newest : (pages : Pages) (page h : ℕ) → pages.owner page ≡ None → (q : Home) → HasNewest pages q → HasNewest (drawn pages page h) q
 still-newest pages page h free q newest = record {
   page = newest.page;
@@ -94,7 +95,7 @@ owned-drawn pages page h g free [] all = tt
 owned-drawn pages page h g free (p ∷ older) all =
     (when_other p page (Some h) (pages.owner p) (λ e. never_none_and_some free (ap pages.owner (sym e) ∙ all.0)) ∙ all.0, owned-drawn pages page h g free older all.1)
 
--- a free page is in no chain
+-- A free page is in no region's page chain.
 pub free-apart : (pages : Pages) (page g : ℕ) → pages.owner page ≡ None → (older : List ℕ) → AllByRecursion (λ (p : ℕ). pages.owner p ≡ Some g) older
     → AllByRecursion (λ (p : ℕ). page ≢ p) older
 free-apart pages page g free [] all = tt
@@ -110,7 +111,7 @@ still-chained pages page h free q chain = record {
 }
 
 module _ (s : StoreState) (pages : Pages) (h : ℕ) (r : Home) (named : lookup handle_of s.regions h ≡ Some r) (ordinary : h ≡ UNIQUE → ⊥) (size : ℕ) (some : 0 < size) where
-  -- allocation in the newest page
+  -- An allocation in the newest page preserves the layout in pages.
   pub paged-stays : (free : List ℕ) → IsPaged s pages free → (chain : HasChain pages r) → (mark_of r).filled + size ≤ PAGE_WORDS
       → IsPaged (made_in s h (block_in_page chain.newest.page (mark_of r).filled size)) (filled_to pages chain.newest.page ((mark_of r).filled + size)) free
   paged-stays free paged chain room = record {
@@ -148,7 +149,7 @@ module _ (s : StoreState) (pages : Pages) (h : ℕ) (r : Home) (named : lookup h
       moves : mark_of (with_block (block_in_page chain.newest.page (mark_of r).filled size) r) ≡ record { pages = (mark_of r).pages; filled = (mark_of r).filled + size }
       moves = mark-made r (block_in_page chain.newest.page (mark_of r).filled size) ∙ mark-stays (mark_of r) size room
 
-  -- allocation at the start of a new page
+  -- An allocation at the start of a new page preserves the layout in pages.
   pub paged-draws : (page : ℕ) (free : List ℕ) → IsPaged s pages (page ∷ free) → PAGE_WORDS < (mark_of r).filled + size → size ≤ PAGE_WORDS
       → IsPaged (made_in s h (block_in_page page 0 size)) (filled_to (drawn pages page h) page (0 + size)) free
   paged-draws page free paged past room = record {

@@ -1,4 +1,4 @@
--- A new store has a layout in pages; opening a region that the demand allows keeps it.
+-- A new store has a layout in pages; opening a region for which enough pages are left preserves it.
 use Rattle.std.proofs.Common.{◌≡◌, ◌≢◌, ℕ, zero, suc, ◌+◌, ◌<◌, ◌≤◌, [], length, None, Some, refl, ap, ◌∙◌, arith}
 use Rattle.std.specs.List.{AllByRecursion}
 use Rattle.cyc_words.specs.Distinct.{IsDistinct}
@@ -11,7 +11,7 @@ use Rattle.cyc_store.specs.Pages.{Pages, IsFree, IsPaged}
 abbrev pub all_free : Pages
 all_free = record { owner = λ (page : ℕ). None; filled = λ (page : ℕ). 0 }
 
--- a store before its heap is opened
+-- A store before its heap region is opened.
 abbrev bare : (count : ℕ) → Memory → StoreState
 bare count memory = record (start count memory) { regions = [] }
 

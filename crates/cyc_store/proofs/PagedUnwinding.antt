@@ -1,4 +1,4 @@
--- Closing any number of regions keeps the layout in pages.
+-- Closing any number of regions preserves the layout in pages.
 use Rattle.std.proofs.Common.{◌≡◌, ℕ, ◌<◌, ◌≤◌, List, [], ◌∷◌, length, None, Some, refl, sym, ap, subst, ◌∙◌, inl, inr, arith}
 use Rattle.std.specs.Prelude.{◌⊎◌}
 use Rattle.std.proofs.lemmas.Bool.{cases_eq}
@@ -24,7 +24,7 @@ shorter_without (q ∷ rs) h r there = elim (cases_eq q.handle h) [
       subst (λ l. length l < length (q ∷ rs)) (sym (when_other q.handle h (without handle_of rs h) (q ∷ without handle_of rs h) other)) (omega (arith, fewer))
 ]
 
--- a region that is removed, and the sublist of the remaining regions
+-- Says that qs is a sublist of rs that leaves out at least one region.
 pub record LeavesOut (qs rs : List Home) : Type 0 where
   pub region : Home
   pub there : lookup handle_of rs region.handle ≡ Some region

@@ -1,4 +1,5 @@
--- Opening a region, allocating a block in one, and closing one keep the layout of a store.
+-- Opening a region, allocating a block in a region, and closing a region preserve the layout of a
+-- store.
 use Rattle.std.proofs.Common.{◌≡◌, ◌≢◌, ℕ, ◌+◌, ◌*◌, ◌<◌, ◌≤◌, true, List, [], ◌∷◌, ◌++◌, length, Option, None, Some, refl, sym, ap, subst, ◌∙◌, inl, inr, arith}
 use Rattle.std.specs.Prelude.{◌⊎◌}
 use Rattle.std.specs.List.{AllByRecursion}
@@ -54,7 +55,7 @@ slots-moved unique classes l pages free slots stays back whole = record {
     all-moved c [] all = tt
     all-moved c (w ∷ words) all = (record { slot = moved c w all.0.slot; none = all.0.none }, all-moved c words all.1)
 
--- a free page is taken for a region
+-- Taking a free page for a region preserves the slots.
 slots-drawn : (unique : List Block) (classes : List ℕ) (l : Layout) (page h : ℕ) (free : List ℕ) → l.pages.owner page ≡ None → (h ≡ UNIQUE → ⊥)
     → AreSlots unique classes l → AreSlots unique classes (record l { pages = drawn l.pages page h; free = free })
 slots-drawn unique classes l page h free none ordinary slots = slots-moved unique classes l (drawn l.pages page h) free slots
@@ -68,7 +69,7 @@ slots-drawn unique classes l page h free none ordinary slots = slots-moved uniqu
     other : (p : ℕ) → l.pages.owner p ≡ Some UNIQUE → p ≡ page → ⊥
     other p owned e = never_none_and_some none (ap l.pages.owner (sym e) ∙ owned)
 
--- a page of a region is filled further
+-- Filling a page of a region further preserves the slots.
 slots-filled : (unique : List Block) (classes : List ℕ) (l : Layout) (page h words : ℕ) → l.pages.owner page ≡ Some h → (h ≡ UNIQUE → ⊥)
     → AreSlots unique classes l → AreSlots unique classes (record l { pages = filled_to l.pages page words })
 slots-filled unique classes l page h words owner ordinary slots = slots-moved unique classes l (filled_to l.pages page words) l.free slots
@@ -128,7 +129,7 @@ module _ (rs : List Home) (h : ℕ) (r : Home) (named : lookup handle_of rs h �
     inside = inside;
   }
 
--- the words of a block in a page
+-- A block in a page covers the addresses of its words.
 block-covers : (page word size u : ℕ) → word ≤ u → u < word + size → covers (block_in_page page word size) (place_of (PAGE_WORDS * page + u)) ≡ true
 block-covers page word size u low high = covers_from (block_in_page page word size) (place_of (PAGE_WORDS * page + u))
     (above STORE_BASE page word u low) (below STORE_BASE page word size u high)
@@ -141,7 +142,7 @@ block-covers page word size u low high = covers_from (block_in_page page word si
 
 module _ (s : StoreState) (l : Layout) (laid : IsLaidOut s l) (h : ℕ) (r : Home) (named : lookup handle_of s.regions h ≡ Some r) (ordinary : h ≡ UNIQUE → ⊥)
     (size : ℕ) (some : 0 < size) (memory : Memory) where
-  -- allocation in the newest page
+  -- An allocation in the newest page of a region preserves the layout.
   pub stays-laid : (chain : HasChain l.pages r) → (mark_of r).filled + size ≤ PAGE_WORDS
       → lookup address_of r.blocks (block_in_page chain.newest.page (mark_of r).filled size).address ≡ None
       → IsSound (record (made_in s h (block_in_page chain.newest.page (mark_of r).filled size)) { memory = memory })
@@ -175,7 +176,7 @@ module _ (s : StoreState) (l : Layout) (laid : IsLaidOut s l) (h : ℕ) (r : Hom
             (block-covers chain.newest.page (mark_of r).filled size word past below)))
       ]
 
-  -- allocation at the start of a new page
+  -- An allocation at the start of a new page preserves the layout.
   pub draws-laid : (page : ℕ) (rest : List ℕ) → l.free ≡ page ∷ rest → PAGE_WORDS < (mark_of r).filled + size → size ≤ PAGE_WORDS
       → lookup address_of r.blocks (block_in_page page 0 size).address ≡ None
       → IsSound (record (made_in s h (block_in_page page 0 size)) { memory = memory })
@@ -209,7 +210,7 @@ module _ (s : StoreState) (l : Layout) (laid : IsLaidOut s l) (h : ℕ) (r : Hom
 
 -- ---- closing a region
 
--- the chain, oldest page first, is put before the free pages
+-- The pages of a chain, put before the free pages in reverse order.
 abbrev pub moved : (chain free : List ℕ) → List ℕ
 moved [] free = free
 moved (page ∷ chain) free = moved chain (page ∷ free)

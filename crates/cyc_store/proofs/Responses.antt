@@ -1,4 +1,5 @@
--- The answers of a store with a layout: each call of the page model is a call of the relation, with its answer.
+-- This file is about the answers of a store with a layout: each call of the page model is a call of the store
+-- relation, with its answer.
 use Rattle.std.proofs.Common.{◌≡◌, ℕ, suc, ◌+◌, ◌^◌, ◌<◌, ◌≤◌, true, false, List, [], ◌∷◌, length, Option, None, Some, refl, sym, ap, subst, ◌∙◌, inl, inr, arith}
 use Rattle.std.specs.Prelude.{◌&&◌, nat_le, is_some}
 use Rattle.std.proofs.lemmas.Bool.{cases_Bool, cond-true, cond-false, le-leb, lt-leb, ltb-true, ltb-false}
@@ -23,7 +24,7 @@ serves-none s call c none allowed = subst (λ o. ServesBy s call o (answer s cal
 pub serves-some : (s : StoreState) (call : Call) (why : Refusal) → refusal s call ≡ Some why → Serves s call (Refused why) s
 serves-some s call why is = subst (λ o. ServesBy s call o (Refused why) s) (sym is) (refl, refl)
 
--- the call is refused as full exactly if the demand afterwards exceeds the pages
+-- If the store has enough pages for a call, then the call is not refused as full.
 pub full-none-within : (s : StoreState) (call : Call) → demand (served s call (any_choice s)) ≤ s.pages → full_at (is_full s call) ≡ None
 full-none-within s call few = elim (cases_Bool (is_full s call)) [
   | inl full ↦ absurd (clash s.pages (demand (served s call (any_choice s))) (ltb-true s.pages (demand (served s call (any_choice s))) full) few)
@@ -72,7 +73,7 @@ module _ (s : StoreState) (l : Layout) (laid : IsLaidOut s l) where
   pub dynamic-full : l.free ≡ [] → Serves s OpenDynamic (Refused Full) s
   dynamic-full none = serves-some s OpenDynamic Full (full-some-past s OpenDynamic (full-opening s l.pages 0 Dynamic (subst (IsPaged s l.pages) none laid.paged)))
 
-  -- the choice that changes only the blocks
+  -- The choice that changes only the blocks, with this handle and address.
   abbrev chosen : (handle address : ℕ) → Choice
   chosen handle address = record { handle = handle; address = address; memory = s.memory }
 
@@ -116,7 +117,7 @@ module _ (s : StoreState) (l : Layout) (laid : IsLaidOut s l) where
   pub named-home : (h : ℕ) (r : Home) → (h ≡ UNIQUE → ⊥) → lookup handle_of s.regions h ≡ Some r → lookup handle_of (homes s) h ≡ Some r
   named-home h r ordinary named = lookup-there handle_of (record { handle = UNIQUE; sort = Uniques; blocks = s.unique }) s.regions h (λ e. ordinary (sym e)) ∙ named
 
-  -- a valid request in an open region can be refused only for lack of pages
+  -- A valid request for a block in an open region can be refused only for lack of pages.
   pub making : (h n : ℕ) (r : Home) → lookup handle_of (homes s) h ≡ Some r → 1 ≤ n → n ≤ MOST_BLOCK_WORDS → refusal s (Allocate h n) ≡ full_at (is_full s (Allocate h n))
   making h n r named least most =
       cond-true (is_some (lookup handle_of (homes s) h)) _ (Some BadHandle) (ap is_some named)
@@ -193,7 +194,7 @@ module _ (s : StoreState) (l : Layout) (laid : IsLaidOut s l) where
 
   -- ---- freeing a block
 
-  -- the words of the freed block may change
+  -- When a block is freed, the words of this block may change.
   module _ (a : ℕ) (b : Block) (there : lookup address_of s.unique a ≡ Some b) (memory : Memory) (words : AreWords memory)
       (keeps : (x : ℕ) (k : Holder) → holder (homes s) x ≡ Some k → holder (homes (record s { unique = without address_of s.unique a })) x ≡ Some k → memory x ≡ s.memory x) where
     freed-none : refusal s (Free a) ≡ None

@@ -1,4 +1,5 @@
--- The result of each service: a sound store stays sound, whatever it chooses.
+-- This file is about the result of each call: a sound store stays sound for every choice of the
+-- store.
 use Rattle.std.proofs.Common.{◌≡◌, ℕ, suc, ◌+◌, ◌-◌, ◌*◌, ◌/◌, ◌<◌, ◌≤◌, ◌%◌, max, Bool, true, false, List, [], ◌∷◌, ◌++◌, length, Option, None, Some, refl, sym, ap, subst, ◌∙◌, inl, inr, arith}
 use Rattle.std.specs.Prelude.{◌==◌, ◌⊎◌, nat_le, is_some, if◌then◌else◌, slice_index}
 use Rattle.std.proofs.Math.Nat.{add-mul-mod_self_left, div-eq_of_lt-le, max-eq_left}
@@ -71,7 +72,7 @@ demand-made s h size a c = elim (cases_eq h UNIQUE) [
       ∙ (ap (λ l. demand_of l s.classes) (sizes-made size a c s.regions h) ∙ sym (ap demand (made-in s h (record { address = c; size = size }) other)))
 ]
 
--- The demand depends only on sizes.
+-- The number of pages that a store needs depends only on sizes.
 pub demand-served : (s : StoreState) (call : Call) (c d : Choice) → demand (served s call c) ≡ demand (served s call d)
 demand-served s OpenLexical c d = ap (λ l. demand_of l s.classes) (sizes-opened s.regions c.handle d.handle Lexical)
 demand-served s (CloseTo mark) c d = refl
@@ -135,7 +136,7 @@ closed-sound s rs memory sound part words = record {
     fewer : (k m n : ℕ) → k ≤ m → m ≤ n → k ≤ n
     fewer k m n first second = omega (arith, first, second)
 
--- no live unique block has the address of a new block
+-- No live unique block has the same address as a new block.
 address-fresh : (s : StoreState) (b : Block) → IsSound s → IsPlaced s.pages b → IsApart (homes s) b → lookup address_of s.unique b.address ≡ None
 address-fresh s b sound placed apart = elim (none_or_some (lookup address_of s.unique b.address)) [
   | inl none ↦ none
@@ -241,7 +242,8 @@ not-refused s (CloseDynamic h) c why e = cc
 not-refused s (Allocate h n) c why e = cc
 not-refused s (Free f) c why e = cc
 
--- a refusal is the one that the rules determine, and changes nothing
+-- If a call is refused, then the refusal is the one that the rules determine, and the store is
+-- unchanged.
 pub refused-exact : (s t : StoreState) (call : Call) (why : Refusal) → Serves s call (Refused why) t → (refusal s call ≡ Some why) × (t ≡ s)
 refused-exact s t call why serves = by (refusal s call) serves
   where
@@ -291,7 +293,7 @@ served-classes s (CloseDynamic h) choice c eleven = at_most_itself (slice_index 
 served-classes s (Allocate h n) choice c eleven = made-classes s h (block_of h n choice) c eleven
 served-classes s (Free f) choice c eleven = at_most_itself (slice_index s.classes c)
 
--- no class has fewer pages than before
+-- No call reduces the pages of a class.
 pub serves-classes : (s t : StoreState) (call : Call) (a : Answer) (c : ℕ) → IsSound s → Serves s call a t → slice_index s.classes c ≤ slice_index t.classes c
 serves-classes s t call a c sound serves = by (refusal s call) serves
   where
@@ -299,7 +301,8 @@ serves-classes s t call a c sound serves = by (refusal s call) serves
     by None (choice, _, _, is) = subst (λ (u : StoreState). slice_index s.classes c ≤ slice_index u.classes c) (sym is) (served-classes s call choice c sound.classes)
     by (Some why) (_, is) = subst (λ (u : StoreState). slice_index s.classes c ≤ slice_index u.classes c) (sym is) (at_most_itself (slice_index s.classes c))
 
--- A call keeps the pages of a class, or raises them to the number that its live blocks need.
+-- A call leaves the pages of a class unchanged, or raises them to the number that its live blocks
+-- need.
 made-greatest : (s : StoreState) (h : ℕ) (b : Block) (c : ℕ) → length s.classes ≡ 11
     → (slice_index (made s h b).classes c ≡ slice_index s.classes c)
     ⊎ (slice_index (made s h b).classes c ≡ max (slice_index s.classes c) (pages_for c (live_in c (made s h b).unique)))
@@ -331,7 +334,7 @@ served-greatest s (CloseDynamic h) choice c eleven = inl refl
 served-greatest s (Allocate h n) choice c eleven = made-greatest s h (block_of h n choice) c eleven
 served-greatest s (Free f) choice c eleven = inl refl
 
--- The pages of a class are the greatest number that its live blocks needed so far.
+-- The pages of a class are the greatest number that the class's live blocks have needed so far.
 pub serves-greatest : (s t : StoreState) (call : Call) (a : Answer) (c : ℕ) → c ≤ greatest_class → IsSound s → Serves s call a t
     → slice_index t.classes c ≡ max (slice_index s.classes c) (pages_for c (live_in c t.unique))
 serves-greatest s t call a c bound sound serves = elim (by (refusal s call) serves) [
@@ -365,7 +368,7 @@ then-full : (b : Bool) (o : Option Refusal) (why : Refusal) → (why ≡ Full �
 then-full true o why other e = e
 then-full false o why other e = absurd (other (same_from_some e))
 
--- a store is full only if the demand would exceed its pages
+-- A store is full only if the call would need more pages than the store has.
 pub full-past : (s : StoreState) (call : Call) → refusal s call ≡ Some Full → s.pages < demand (served s call (any_choice s))
 full-past s OpenLexical e = past s OpenLexical (full-some (is_full s OpenLexical) e)
 full-past s (CloseTo mark) e = absurd (only-why (nat_le mark (lexical_count s.regions)) BadMark (λ k. cc) e)
@@ -377,7 +380,7 @@ full-past s (Allocate h n) e =
     past s (Allocate h n) (full-some (is_full s (Allocate h n)) (then-full (is_size n) (full_at (is_full s (Allocate h n))) BadSize (λ k. cc) rest))
 full-past s (Free f) e = absurd (only-why (is_some (lookup address_of s.unique f)) NotABlock (λ k. cc) e)
 
--- a call that is not refused leads to a demand of at most the pages
+-- If a call is not refused, then the store afterwards needs at most the pages that it has.
 pub fits : (s : StoreState) (call : Call) → IsSound s → refusal s call ≡ None → demand (served s call (any_choice s)) ≤ s.pages
 fits s OpenLexical sound none = within s OpenLexical (full-none (is_full s OpenLexical) none)
 fits s (CloseTo mark) sound none = (closed-sound s (down_to mark s.regions) s.memory sound (IsPart-down_to mark s.regions) sound.words).demand
@@ -391,7 +394,7 @@ fits s (Free f) sound none = sound.demand
 
 -- ---- blocks and their words
 
--- two live blocks that share an address are equal
+-- Two live blocks that contain the same address are equal.
 pub one_block : (s : StoreState) → IsSound s → (g h first other x : ℕ) (b c : Block) → block_at (homes s) g first ≡ Some b → block_at (homes s) h other ≡ Some c
     → covers b x ≡ true → covers c x ≡ true → (g ≡ h) × (b ≡ c)
 one_block s sound g h first other x b c at there inside also =
@@ -409,7 +412,7 @@ word-live s sound h first i b at below =
     (add-mul-mod_self_left b.address 4 i ∙ placed.aligned)
     ∙ ap (λ o. word_in o s.memory (b.address + 4 * i)) (sound.regions.apart h first (b.address + 4 * i) b at inside)
 
--- whatever is live before and after a call keeps its words
+-- A word that is live before and after a call keeps its value.
 pub serves-words : (s t : StoreState) (call : Call) (a : Answer) (x : ℕ) (h : Holder) → Serves s call a t
     → holder (homes s) x ≡ Some h → holder (homes t) x ≡ Some h → word_at t x ≡ word_at s x
 serves-words s t call a x h serves here there =
@@ -453,7 +456,7 @@ word_in-same : (o : Option Holder) (m n : Memory) (x : ℕ) → m x ≡ n x → 
 word_in-same None m n x same = refl
 word_in-same (Some h) m n x same = ap (λ w. Some w) same
 
--- the written word is read back
+-- A word that is written is read back.
 pub saved-same : (s : StoreState) (x w old : ℕ) → word_at s x ≡ Some old → word_at (saved s x w) x ≡ Some w
 saved-same s x w old found =
     ap (λ o. word_at (has_saved s x w o) x) found
@@ -470,7 +473,7 @@ has_saved-other s x w y None other = refl
 has_saved-other s x w y (Some old) other =
     ap (λ z. if y % 4 == 0 then z else None) (word_in-same (holder (homes s) y) (put s.memory x w) s.memory y (when_other y x w (s.memory y) other))
 
--- every other word stays
+-- Writing a word leaves every other word unchanged.
 pub saved-other : (s : StoreState) (x w y : ℕ) → (y ≡ x → ⊥) → word_at (saved s x w) y ≡ word_at s y
 saved-other s x w y other = has_saved-other s x w y (word_at s x) other
 

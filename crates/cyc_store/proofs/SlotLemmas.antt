@@ -1,4 +1,5 @@
--- Slots of unique blocks are disjoint, and the live words of a store with a layout.
+-- This file proves that slots of unique blocks are disjoint, and determines the live words of a
+-- store with a layout.
 use Rattle.std.proofs.Common.{◌≡◌, ℕ, ◌+◌, ◌*◌, ◌^◌, ◌<◌, ◌≤◌, true, List, [], ◌∷◌, Option, None, Some, refl, sym, ap, subst, ◌∙◌, inl, inr, arith}
 use Rattle.std.proofs.lemmas.Bool.{cases_Bool}
 use Rattle.std.proofs.lemmas.Nat.{pow_pos}
@@ -50,7 +51,7 @@ module _ (owner : ℕ → Option ℕ) (class_at : ℕ → ℕ) where
 
 -- ---- lookups of blocks
 
--- a block found by any of its addresses is found by its first address
+-- A block that is found by any of its addresses is found by its first address.
 pub holder_in-lookup : (h : ℕ) (bs : List Block) (x : ℕ) (k : Holder) → AreDistinct address_of bs → holder_in h bs x ≡ Some k
     → lookup address_of bs k.block.address ≡ Some k.block
 holder_in-lookup h [] x k distinct found = absurd (let e : None ≡ Some k = found in cc)
@@ -73,7 +74,7 @@ holder-unique s x k sound found is = elim (or_else-cases (holder_in UNIQUE s.uni
 -- ---- live words
 
 module _ (s : StoreState) (l : Layout) (laid : IsLaidOut s l) where
-  -- a live block with an address of a slot fills the slot
+  -- A live block that contains an address of a slot fills the slot.
   slot-holder : (c w x : ℕ) (k : Holder) → IsSlot l.pages.owner l.class c w → covers (slot_block c w) x ≡ true → holder (homes s) x ≡ Some k
       → k.block ≡ slot_block c w
   slot-holder c w x k slot inside found =
@@ -96,7 +97,7 @@ module _ (s : StoreState) (l : Layout) (laid : IsLaidOut s l) where
       page-same base p q a b m n v y x v_is y_is low high also_low also_high fits also_fits =
           omega (arith, v_is, y_is, low, high, also_low, also_high, fits, also_fits)
 
-  -- if no block begins at a slot, the slot contains no block
+  -- If no block begins at the first word of a slot, then the slot contains no block.
   pub slot-apart : (c w : ℕ) → IsSlot l.pages.owner l.class c w → lookup address_of s.unique (place_of w) ≡ None → IsApart (homes s) (slot_block c w)
   slot-apart c w slot none x inside = elim (none_or_some (holder (homes s) x)) [
     | inl nothing ↦ nothing
@@ -121,7 +122,7 @@ module _ (s : StoreState) (l : Layout) (laid : IsLaidOut s l) where
           begins : (base p q a b m n v : ℕ) → v ≡ 1024 * p + a → base + 4 * v ≡ base + 4 * (1024 * q) + 4 * b → a + m ≤ 1024 → b + n ≤ 1024 → n ≡ m → 0 < m → p ≡ q
           begins base p q a b m n v v_is place fits also_fits same some = omega (arith, v_is, place, fits, also_fits, same, some)
 
-  -- a block that begins at a slot has all addresses of the slot
+  -- A block that begins at a slot's first word contains all addresses of the slot.
   pub slot-live : (c w x : ℕ) (b : Block) → IsSlot l.pages.owner l.class c w → covers (slot_block c w) x ≡ true → lookup address_of s.unique (place_of w) ≡ Some b
       → holder (homes s) x ≡ Some (record { handle = UNIQUE; block = b })
   slot-live c w x b slot inside there =
@@ -154,7 +155,7 @@ module _ (s : StoreState) (l : Layout) (laid : IsLaidOut s l) where
             found.inside,
       )
 
-  -- a word past the fill mark, or of a free page, is not live
+  -- A word of a region's page past the fill mark is not live, and neither is a word of a free page.
   pub past-dead : (page word : ℕ) → word < PAGE_WORDS → ((handle : ℕ) → l.pages.owner page ≡ Some handle → l.pages.filled page ≤ word)
       → holder (homes s) (place_of (PAGE_WORDS * page + word)) ≡ None
   past-dead page word small past = elim (none_or_some (holder (homes s) (place_of (PAGE_WORDS * page + word)))) [

@@ -1,4 +1,5 @@
--- Allocating a unique block in an empty slot, and freeing one, keep the layout of a store.
+-- Allocating a unique block in an empty slot, and freeing a unique block, preserve the layout of a
+-- store.
 use Rattle.std.proofs.Common.{◌≡◌, ◌≢◌, ℕ, suc, ◌+◌, ◌*◌, ◌^◌, ◌<◌, ◌≤◌, true, List, [], ◌∷◌, ◌++◌, length, Option, Some, refl, sym, ap, subst, ◌∙◌, inl, inr, arith}
 use Rattle.std.specs.Prelude.{◌==◌, if◌then◌else◌}
 use Rattle.std.specs.List.{AllByRecursion}
@@ -21,7 +22,7 @@ use Rattle.cyc_store.specs.Slots.{place_of, Layout, slot_block, IsSlot, IsLiveSl
 use Rattle.cyc_store.proofs.SlotCounts.{class-power, raised-fits, live_in-without_same, live_in-without_other}
 use Rattle.cyc_store.proofs.SlotLemmas.{slots-one, slot-apart}
 
--- the layout with the dead slots of one class replaced
+-- The layout in which the dead slots of one class are replaced.
 abbrev pub with_dead : Layout → (class : ℕ) → List ℕ → Layout
 with_dead l class words = record l { dead = λ (other : ℕ). if other == class then words else l.dead other }
 
@@ -45,7 +46,7 @@ slot-lies owner class_at c w slot = record {
 pub same-words : (v w : ℕ) → place_of v ≡ place_of w → v ≡ w
 same-words v w e = omega (arith, e)
 
--- the first address of a slot belongs to it
+-- The first address of a slot belongs to the slot.
 pub first-in : (c w : ℕ) → covers (slot_block c w) (place_of w) ≡ true
 first-in c w = covers_from (slot_block c w) (place_of w) (starts (place_of w)) (within (place_of w) (2 ^ c) (pow_pos c))
   where
@@ -55,13 +56,14 @@ first-in c w = covers_from (slot_block c w) (place_of w) (starts (place_of w)) (
     within : (n z : ℕ) → 0 < z → n < n + 4 * z
     within n z some = omega (arith, some)
 
--- slots of different classes do not begin at one word
+-- Slots of different classes do not begin at the same word.
 classes-apart : (owner : ℕ → Option ℕ) (class_at : ℕ → ℕ) (c d w : ℕ) → IsSlot owner class_at c w → IsSlot owner class_at d w → c ≡ d
 classes-apart owner class_at c d w one other = (slots-one owner class_at c d w w (place_of w) one other (first-in c w) (first-in d w)).0
 
 -- ---- page invariants under a change of the unique blocks
 
--- the regions, the pages and the demand are unchanged
+-- If the regions, the pages and the number of needed pages are unchanged, then the layout in pages
+-- is preserved.
 pub paged-unique : (s : StoreState) (pages : Pages) (free : List ℕ) (unique : List Block) (classes : List ℕ) (memory : Memory) → IsPaged s pages free
     → AreLaidIn pages UNIQUE unique → demand_of (sizes_in s.regions) classes ≡ demand s
     → IsPaged (record s { unique = unique; classes = classes; memory = memory }) pages free
@@ -81,7 +83,7 @@ module _ (s : StoreState) (l : Layout) (laid : IsLaidOut s l) (c w : ℕ) (bound
   first-dead : IsDeadSlot s.unique l.pages.owner l.class c w
   first-dead = (subst (AllByRecursion (IsDeadSlot s.unique l.pages.owner l.class c)) next (laid.slots.dead c bound)).0
 
-  -- the block lies in the store's address range
+  -- The block in a dead slot lies in the store's address range.
   pub dead-placed : IsPlaced s.pages (slot_block c w)
   dead-placed =
       let dead : IsDeadSlot s.unique l.pages.owner l.class c w = first-dead in
@@ -94,7 +96,7 @@ module _ (s : StoreState) (l : Layout) (laid : IsLaidOut s l) (c w : ℕ) (bound
   pub dead-apart : IsApart (homes s) (slot_block c w)
   dead-apart = slot-apart s l laid c w first-dead.slot first-dead.none
 
-  -- the pages of the classes are unchanged
+  -- Filling a dead slot leaves the pages of the classes unchanged.
   pub dead-classes : raised s.classes (class_of (2 ^ c)) (suc (live_in (class_of (2 ^ c)) s.unique)) ≡ s.classes
   dead-classes =
       ap (λ n. raised s.classes n (suc (live_in n s.unique))) (class-power c bound)
@@ -107,7 +109,7 @@ module _ (s : StoreState) (l : Layout) (laid : IsLaidOut s l) (c w : ℕ) (bound
   pub dead-demand : demand (made_unique s (slot_block c w)) ≡ demand s
   dead-demand = ap (demand_of (sizes_in s.regions)) dead-classes
 
-  -- the slots after the allocation
+  -- The slots of the layout after an allocation in a dead slot.
   pub dead-slots : AreSlots (s.unique ++ slot_block c w ∷ []) s.classes (with_dead l c rest)
   dead-slots = record {
     bound = laid.slots.bound;

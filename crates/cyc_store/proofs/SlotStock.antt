@@ -1,4 +1,4 @@
--- Cutting a free page into slots of a class keeps the layout of a store.
+-- Cutting a free page into slots of a class preserves the layout of a store.
 use Rattle.std.proofs.Common.{◌≡◌, ◌≢◌, ℕ, zero, suc, ◌+◌, ◌*◌, ◌^◌, ◌<◌, ◌≤◌, List, [], ◌∷◌, length, None, Some, refl, sym, ap, subst, ◌∙◌, inl, inr, arith, length-set, get_or-set_same, get_or-set_other, zero-add}
 use Rattle.std.specs.Prelude.{◌==◌, if◌then◌else◌, slice_index, set}
 use Rattle.std.specs.List.{AllByRecursion}
@@ -55,7 +55,7 @@ stocked l page rest class = record {
   dead = λ (other : ℕ). if other == class then slots_from (2 ^ class) (PAGE_WORDS * page) (blocks_in_page class) else l.dead other;
 }
 
--- a store that is not full has room for the slots
+-- Cutting a page into slots raises the number of pages that the store needs by one.
 pub with_page-demand : (s : StoreState) (c : ℕ) → IsSound s → c ≤ greatest_class → demand (with_page s c) ≡ suc (demand s)
 with_page-demand s c sound bound = demand-set (sizes_in s.regions) s.classes c (within (length s.classes) c sound.classes bound)
   where
@@ -120,7 +120,7 @@ module _ (s : StoreState) (l : Layout) (laid : IsLaidOut s l) (page : ℕ) (rest
       refilled r ordinary chain = chain-filled (drawn l.pages page UNIQUE) page PAGE_WORDS UNIQUE r
           (when_equal page page (Some UNIQUE) (l.pages.owner page) refl) ordinary chain
 
-  -- no live block is in the page
+  -- No live block begins in a page that was free.
   pub page-empty : (w u : ℕ) → w ≡ PAGE_WORDS * page + u → u < PAGE_WORDS → lookup address_of s.unique (place_of w) ≡ None
   page-empty w u is small = elim (none_or_some (lookup address_of s.unique (place_of w))) [
     | inl nothing ↦ nothing

@@ -1,4 +1,4 @@
--- The table of pages, one page at a time.
+-- This file is about the table of pages, one page at a time.
 use Rattle.std.proofs.Common.{◌≡◌, ℕ, zero, suc, ◌+◌, ◌-◌, ◌<◌, ◌≤◌, Bool, List, length, sym, ap, ◌∙◌, inl, inr, arith}
 use Rattle.std.specs.Prelude.{◌⊎◌, ◌&&◌, nat_le, nat_lt, slice_index_or, set}
 use Rattle.std.proofs.lemmas.Bool.{and_right, cond-true, cond-false, le-leb, lt-leb, le-ltb, lt-ltb}
@@ -7,7 +7,7 @@ use Rattle.cyc_store.specs.declared.row.Row.{Row}
 use Rattle.cyc_store.specs.declared.row.TheConstants.{NONE}
 use Rattle.cyc_store.specs.Table.{free_row, row_at, given_rows, given_free, AreThere, marked_between}
 
--- this many pages of a chain are still to be freed
+-- The state of the loop that frees the pages of a chain; `left` pages are yet to be freed.
 pub record IsGiving (rows : List Row) (page left free : ℕ) (first : List Row) (newest count none : ℕ) : Type 0 where
   pub there : AreThere rows page left free
   pub rows_are : given_rows rows page left free ≡ given_rows first newest count none
@@ -25,7 +25,7 @@ giving-step rows page (suc left) free first newest count none giving some =
     let less : suc left - 1 ≡ left = omega arith in
     rw less (record { there = giving.there.1; rows_are = giving.rows_are; free_is = giving.free_is })
 
--- the row read for an existing page
+-- The row that is read for an existing page is the row of this page.
 pub row_at-read : (rows : List Row) (page : ℕ) (r : Row) → page < length rows → r ≡ slice_index_or rows page r → row_at rows page ≡ r
 row_at-read rows page r inside is = get_or_default rows page (free_row NONE) r inside ∙ sym is
 

@@ -1,4 +1,4 @@
--- Freeing the chain of a closed region, page by page, keeps the table's layout.
+-- Freeing the chain of a closed region, page by page, preserves the table's layout.
 use Rattle.std.proofs.Common.{◌≡◌, ◌≢◌, ℕ, zero, suc, ◌-◌, ◌<◌, List, [], ◌∷◌, ◌++◌, length, Option, None, Some, refl, sym, ap, subst, ◌∙◌, inl, inr, arith, get_or-set_same, get_or-set_other, length-set}
 use Rattle.std.specs.Prelude.{◌⊎◌, set}
 use Rattle.std.specs.List.{AllByRecursion}
@@ -150,7 +150,7 @@ module _ (t : Table) (lexicals : List ℕ) (classes : ℕ → ClassSlots) (b : B
   halves : (m n : ℕ) → handle_of_page m ≡ handle_of_page n → m ≡ n
   halves m n e = omega (arith, e)
 
-  -- no other region has a page of this region as its first page
+  -- No other region has a page of the closed region as its first page.
   rootless : (p : ℕ) → l.pages.owner p ≡ Some h → lookup handle_of (without handle_of b.regions h) (handle_of_page p) ≡ None
   rootless p owned = elim (cases_eq (handle_of_page p) h) [
     | inl same ↦ ap (lookup handle_of (without handle_of b.regions h)) same ∙ lookup-without handle_of b.regions h
@@ -164,7 +164,7 @@ module _ (t : Table) (lexicals : List ℕ) (classes : ℕ → ClassSlots) (b : B
     ]
   ]
 
-  -- the first page belongs to the region with its handle
+  -- The first page of a region belongs to the region with this page's handle.
   root-owned : (p : ℕ) → handle_of_page p ≡ h → l.pages.owner p ≡ Some h
   root-owned p same =
       let root : rooted.root ≡ p = halves rooted.root p (sym rooted.handle ∙ (handle-is ∙ sym same)) in
@@ -172,7 +172,7 @@ module _ (t : Table) (lexicals : List ℕ) (classes : ℕ → ClassSlots) (b : B
 
   module _ (row : ℕ → Row) (free : ℕ) (others : (p : ℕ) → AllByRecursion (λ x. p ≢ x) chain → row p ≡ t.row p) (gone : (p : ℕ) → IsOneOf chain p → IsGone (row p))
       (linked : IsChain (λ p. (row p).next) free (moved chain tied.given)) (left : List ℕ) (lexical : left ≡ lexical_handles (without handle_of b.regions h)) where
-    -- a page of another owner keeps its row
+    -- Freeing the pages of a region leaves the rows of pages with other owners unchanged.
     kept : (p : ℕ) → (l.pages.owner p ≡ Some h → ⊥) → row p ≡ t.row p
     kept p other = elim (one-cases chain p) [
       | inl inside ↦ absurd (other (one-all (λ (x : ℕ). l.pages.owner x ≡ Some h) chain p chain-owned inside))

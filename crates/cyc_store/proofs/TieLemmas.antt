@@ -1,4 +1,4 @@
--- Chains of a table of pages, and taking a free page.
+-- This file is about chains in a table of pages, and about taking a free page.
 use Rattle.std.proofs.Common.{◌≡◌, ◌≢◌, ℕ, suc, ◌-◌, ◌<◌, ◌≤◌, List, [], ◌∷◌, ◌++◌, length, refl, sym, ap, subst, ◌∙◌, inl, inr, arith}
 use Rattle.std.specs.Prelude.{◌⊎◌, ◌==◌, if◌then◌else◌}
 use Rattle.std.specs.List.{AllByRecursion}
@@ -16,12 +16,12 @@ use Rattle.cyc_store.proofs.LookupLemmas.{when_other}
 
 -- ---- chains of pages
 
--- a chain is unchanged if the links of its elements are
+-- If the links of the elements of a chain are unchanged, then the chain is unchanged.
 pub chain-also : (next also : ℕ → ℕ) (first : ℕ) (xs : List ℕ) → AllByRecursion (λ x. also x ≡ next x) xs → IsChain next first xs → IsChain also first xs
 chain-also next also first [] all linked = linked
 chain-also next also first (x ∷ xs) all linked = (linked.0, chain-also next also (also x) xs all.1 (subst (λ n. IsChain next n xs) (sym all.0) linked.1))
 
--- changing the row of a page does not affect elements different from that page
+-- Changing the row of a page does not affect lists of other pages.
 pub all-away : (row : ℕ → Row) (page : ℕ) (r : Row) (xs : List ℕ) → AllByRecursion (λ x. page ≢ x) xs
     → AllByRecursion (λ x. (if x == page then r else row x).next ≡ (row x).next) xs
 all-away row page r [] away = tt
@@ -36,7 +36,7 @@ module _ (t : Table) (lexicals : List ℕ) (classes : ℕ → ClassSlots) (b : B
       few : (n m : ℕ) → n ≤ m → m ≤ 65536 → n < 4294967295
       few n m first second = omega (arith, first, second)
 
-  -- if no used page is free, the free pages are those that were never used
+  -- If no used page is free, then the free pages are those that were never used.
   pub all-fresh : t.count ≤ t.free → l.free ≡ numbers_from t.count (t.most - t.count)
   all-fresh past = by tied.given tied.free tied.linked tied.within
     where
@@ -48,7 +48,7 @@ module _ (t : Table) (lexicals : List ℕ) (classes : ℕ → ClassSlots) (b : B
           clash : (f x n : ℕ) → f ≡ x → x < n → n ≤ f → ⊥
           clash f x n same less more = omega (arith, same, less, more)
 
-  -- if also no unused page is left, there is no free page
+  -- If no used page is free and no unused page is left, then there is no free page.
   pub none-free : t.count ≤ t.free → t.most ≤ t.count → l.free ≡ []
   none-free past most = all-fresh past ∙ ap (numbers_from t.count) (nothing t.most t.count most)
     where
@@ -86,7 +86,7 @@ module _ (t : Table) (lexicals : List ℕ) (classes : ℕ → ClassSlots) (b : B
       reach : (p n m : ℕ) → p < n → n ≤ m → p < m
       reach p n m less more = omega (arith, less, more)
 
-  -- the page was used before
+  -- The page that is taken was used before.
   pub taken-again : t.free < t.count → IsTaken t.free t.count (t.row t.free).next
   taken-again below = by tied.given tied.free tied.linked tied.within
     where
@@ -106,7 +106,7 @@ module _ (t : Table) (lexicals : List ℕ) (classes : ℕ → ClassSlots) (b : B
           same : (n : ℕ) → n ≤ n
           same n = omega arith
 
-  -- the page was never used
+  -- The page that is taken was never used.
   pub taken-new : t.count ≤ t.free → t.count < t.most → IsTaken t.count (suc t.count) t.free
   taken-new past room = by tied.given tied.free tied.linked tied.within
     where
@@ -133,7 +133,7 @@ module _ (t : Table) (lexicals : List ℕ) (classes : ℕ → ClassSlots) (b : B
 
 -- ---- the effect of `draw`
 
--- after a page is taken, the table reads as before except for the free pages
+-- After a page is taken, all parts of the table except the free pages are unchanged.
 pub drawn-table : (old new : PageTable) (page : ℕ) → Draws old new page
     → table_of new ≡ record (table_of old) { count = length new.rows.items; free = new.free }
 drawn-table old new page draws =

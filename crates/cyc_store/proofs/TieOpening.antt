@@ -1,4 +1,4 @@
--- Making a taken page the first page of a new region keeps the table's layout.
+-- Making a taken page the first page of a new region preserves the table's layout.
 use Rattle.std.proofs.Common.{◌≡◌, ◌≢◌, ℕ, ◌-◌, ◌<◌, Bool, false, true, List, [], ◌∷◌, ◌++◌, None, Some, refl, sym, ap, subst, ◌∙◌, inl, inr, arith}
 use Rattle.std.specs.Prelude.{◌==◌, if◌then◌else◌}
 use Rattle.std.specs.List.{AllByRecursion}
@@ -20,14 +20,14 @@ use Rattle.cyc_store.proofs.PagedRegions.{still-chained}
 use Rattle.cyc_store.proofs.LiveWords.{odd-apart}
 use Rattle.cyc_store.proofs.TieLemmas.{chain-also, all-away}
 
--- the first row of a region with one empty page
+-- The row of the first page of a region with one empty page.
 abbrev pub first_row : (sort : Sort) → (page : ℕ) → Row
 first_row sort page = record { role = role_of_sort sort; filled = 0; next = NONE; newest = page; count = 1 }
 
 abbrev pub with_row : Table → (page : ℕ) → Row → Table
 with_row t page r = record t { row = λ (other : ℕ). if other == page then r else t.row other }
 
--- the lexical regions after one more is opened
+-- The list of lexical regions after one more region is opened.
 abbrev pub lexicals_with : Sort → (handle : ℕ) → List ℕ
 lexicals_with Heap handle = []
 lexicals_with Lexical handle = handle ∷ []
@@ -51,7 +51,7 @@ lexical-append (r ∷ rs) qs = either (is_lexical r.sort) r.handle (lexical_hand
 handle_of_one_page : (m n : ℕ) → handle_of_page m ≡ handle_of_page n → m ≡ n
 handle_of_one_page m n e = omega (arith, e)
 
--- a page of another owner keeps its row
+-- A page that has an owner differs from the free page.
 pub owner-away : (pages : Pages) (page p h : ℕ) → pages.owner page ≡ None → pages.owner p ≡ Some h → p ≡ page → ⊥
 owner-away pages page p h none owned e = never_none_and_some none (ap pages.owner (sym e) ∙ owned)
 
@@ -59,7 +59,7 @@ pub owned-away : (pages : Pages) (page h : ℕ) → pages.owner page ≡ None �
 owned-away pages page h none [] all = tt
 owned-away pages page h none (x ∷ xs) all = (λ e. never_none_and_some none (ap pages.owner e ∙ all.0), owned-away pages page h none xs all.1)
 
--- a region is unchanged if another page is taken
+-- Taking a free page leaves the representation of every other region unchanged.
 pub rooted-drawn : (row : ℕ → Row) (pages : Pages) (page h : ℕ) (new : Row) (r : Home) → pages.owner page ≡ None → (r.handle ≡ h → ⊥) → IsRooted row pages r
     → IsRooted (λ (other : ℕ). if other == page then new else row other) (drawn pages page h) r
 rooted-drawn row pages page h new r none other rooted = record {
@@ -84,7 +84,7 @@ rooted-drawn row pages page h new r none other rooted = record {
 
 module _ (t : Table) (lexicals : List ℕ) (classes : ℕ → ClassSlots) (b : Blocks) (l : Layout) (tied : IsTied t lexicals classes b l) (page : ℕ) (none : l.pages.owner page ≡ None)
     (away : AllByRecursion (λ x. page ≢ x) l.free) (there : page < t.count) where
-  -- no region has the page's handle
+  -- No region has the handle of the taken page.
   pub fresh-handle : lookup handle_of b.regions (handle_of_page page) ≡ None
   fresh-handle = elim (none_or_some (lookup handle_of b.regions (handle_of_page page))) [
     | inl nothing ↦ nothing

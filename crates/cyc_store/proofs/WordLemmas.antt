@@ -1,4 +1,4 @@
--- Writing a word of an array of words.
+-- This file is about writing a word of an array of words.
 use Rattle.std.proofs.Common.{◌≡◌, ℕ, ◌+◌, ◌-◌, ◌*◌, ◌/◌, ◌%◌, ◌<◌, ◌≤◌, Bool, true, false, List, length, refl, sym, ap, subst, ◌∙◌, inl, inr, arith, get_or-set_same, get_or-set_other}
 use Rattle.std.specs.Prelude.{◌==◌, ◌&&◌, nat_le, if◌then◌else◌, slice_index, set}
 use Rattle.std.proofs.lemmas.Bool.{cases_eq, leb-true, eqb-true}
@@ -11,7 +11,7 @@ use Rattle.cyc_store.specs.Slots.{place_of}
 use Rattle.cyc_store.proofs.LookupLemmas.{when_other}
 use Rattle.cyc_store.proofs.KeptLoads.{memory-word, word-place}
 
--- the word at each address after the write
+-- The memory after a word is written differs only in this word.
 pub memory-set : (words : List ℕ) (at word : ℕ) → at < length words → memory_of (set words at word) ≡ put (memory_of words) (place_of at) word
 memory-set words at word there = fun_ext (λ x. elim (cases_eq x (place_of at)) [
   | inl here ↦
@@ -38,7 +38,7 @@ memory-set words at word there = fun_ext (λ x. elim (cases_eq x (place_of at)) 
     by x other false true even low = refl
     by x other false false even low = refl
 
--- after a word is written, all contents are words
+-- After a 32-bit word is written, all contents of memory are 32-bit words.
 pub words-put : (memory : Memory) (address word : ℕ) → AreWords memory → IsWord word → AreWords (put memory address word)
 words-put memory address word words is x = elim (cases_eq x address) [
   | inl here ↦ subst IsWord (sym (when_equal x address word (memory x) here)) is

@@ -1,5 +1,5 @@
--- How the results of the trait's methods are read as answers of the services. `None` is lack of memory, which the relation of the services
--- does not cover. The reading of results as answers is this project's own choice.
+-- This file says how the results of the trait's methods are read as answers of the store relation. `None` is lack of memory, which the
+-- store relation does not cover. The reading of results as answers is this project's own choice.
 use Rattle.std.specs.Prelude.{◌≡◌, ℕ, Bool, true, Option, Some, None, Result, Ok, Err}
 use Rattle.cyc_store.specs.State.{StoreState}
 use Rattle.cyc_store.specs.Services.{Call, Answer, Refused, Done, Opened, OpenedLexical, Allocated, refusal, Serves}
@@ -25,13 +25,13 @@ abbrev pub allocated : Result ℕ No → Option Answer
 allocated (Ok address) = Some (Allocated address)
 allocated (Err why) = refused why
 
--- the answer of a call that can be refused for only one reason and does not allocate
+-- The answer to a call that does not allocate and can be refused for only one reason.
 abbrev pub done_unless : {A E : Type 0} → services.Refusal → Result A E → Option Answer
 done_unless why (Ok a) = Some Done
 done_unless why (Err e) = Some (Refused why)
 
--- The relation of the services holds. Lack of memory occurs only for a store that grows, only if there is no other reason to refuse, and
--- changes nothing.
+-- Says that the store relation holds for a call and its result. Lack of memory occurs only for a store that grows, only if there is no
+-- other reason to refuse, and changes nothing.
 abbrev pub Responds : (grows : Bool) → StoreState → Call → Option Answer → StoreState → Type 0
 Responds grows s call (Some a) t = Serves s call a t
 Responds grows s call None t = (grows ≡ true) × (refusal s call ≡ None) × (t ≡ s)

@@ -9,6 +9,6 @@ pub mod Slots
 pub mod Soundness
 pub mod State
 pub mod Table
--- Contracts between this crate's functions, and statements of its proofs. No public contract of the product depends on these internal
--- definitions.
+-- This module has the contracts between this crate's functions, and the statements of its proofs. No public contract of the product
+-- depends on these internal definitions.
 pub mod inside

@@ -1,5 +1,5 @@
--- The result of a list of calls to a store: a run of the store relation over them, in order. The definition of the result of calls is this
--- project's own choice.
+-- This file defines the result of a list of calls to a store: a run of the store relation over the calls, in order. The definition of the
+-- result of calls is this project's own choice.
 use Rattle.std.specs.Prelude.{◌≡◌, ◌⊎◌, Bool, true, List, [], ◌∷◌, Option, Some, None}
 use Rattle.cyc_store.specs.State.{StoreState}
 use Rattle.cyc_store.specs.Services as services
@@ -8,7 +8,7 @@ use Rattle.cyc_store.specs.Run.{Exchange, Service, Load, Save, Exchanges, Run}
 use Rattle.cyc_store.specs.declared.runs.Asked.{Asked}
 use Rattle.cyc_store.specs.declared.runs.Asked.TheVariants as asked
 
--- the service that a call requests, unless it reads or writes a word
+-- The request to the store relation that a call makes, unless the call reads or writes a word.
 abbrev pub call_of : Asked → Option Call
 call_of asked.OpenLexical = Some services.OpenLexical
 call_of (asked.CloseTo mark) = Some (services.CloseTo mark)
@@ -19,7 +19,7 @@ call_of (asked.Free address) = Some (services.Free address)
 call_of (asked.Load address) = None
 call_of (asked.Save address word) = None
 
--- the exchange is a possible result of this call
+-- Says that an exchange is a possible result of this call.
 abbrev pub IsOf : Asked → Exchange → Type 0
 IsOf a (Service call answer) = call_of a ≡ Some call
 IsOf a (Load address word) = a ≡ asked.Load address
@@ -29,14 +29,15 @@ IsOf a (Save address word done) = a ≡ asked.Save address word
 abbrev pub Makes : (grows : Bool) → Asked → (s t : StoreState) → Type 0
 Makes grows a s t = ((e : Exchange) × IsOf a e × Exchanges s e t) ⊎ ((grows ≡ true) × (t ≡ s))
 
--- one exchange for each of these calls, in order, except for calls that failed for lack of memory
+-- Says that there is one exchange for each of these calls, in order, except for calls that failed
+-- for lack of memory.
 abbrev pub AreOf : (grows : Bool) → List Asked → List Exchange → Type 0
 AreOf grows [] [] = Unit {0}
 AreOf grows [] (e ∷ es) = ⊥
 AreOf grows (a ∷ calls) [] = (grows ≡ true) × AreOf grows calls []
 AreOf grows (a ∷ calls) (e ∷ es) = (IsOf a e × AreOf grows calls es) ⊎ ((grows ≡ true) × AreOf grows calls (e ∷ es))
 
--- a run over these calls leads from one store to the other
+-- Says that a run over these calls takes the store from s to t.
 pub record MakesAll (grows : Bool) (calls : List Asked) (s t : StoreState) : Type 0 where
   pub exchanges : List Exchange
   pub are : AreOf grows calls exchanges

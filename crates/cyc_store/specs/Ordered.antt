@@ -1,5 +1,5 @@
--- Stores whose blocks are laid out in pages. If the demand allows a call of such a store, there is room for its result, and some choice
--- keeps the layout. The layout of blocks in pages is this project's own choice.
+-- This file defines stores whose blocks are laid out in pages. If such a store has enough pages for a call, then there is room for the
+-- call's result, and some choice preserves the layout. The layout of blocks in pages is this project's own choice.
 use Rattle.std.specs.Prelude.{◌≡◌, ◌≤◌, List, [], ◌∷◌}
 use Rattle.cyc_store.specs.State.{StoreState}
 use Rattle.cyc_store.specs.Services.{Call, Choice, served, IsAllowed}
@@ -7,19 +7,19 @@ use Rattle.cyc_store.specs.Run.{Exchange, Service, Load, Save, Run}
 use Rattle.cyc_store.specs.Slots.{Layout, IsLaidOut}
 use Rattle.cyc_store.specs.declared.range.TheConstants.{MOST_PAGES}
 
--- the number of pages is within the limit, and the blocks have a layout in pages
+-- Says that the number of pages is within the limit, and that the blocks have a layout in pages.
 pub record IsOrdered (s : StoreState) : Type 0 where
   pub few : s.pages ≤ MOST_PAGES
   pub layout : Layout
   pub laid : IsLaidOut s layout
 
--- the store relation allows a choice after which the blocks still have a layout in pages
+-- Says that the store relation allows a choice after which the blocks still have a layout in pages.
 pub record HasChoice (s : StoreState) (call : Call) : Type 0 where
   pub choice : Choice
   pub allowed : IsAllowed s call choice
   pub ordered : IsOrdered (served s call choice)
 
--- one exchange for each of these calls, in order
+-- Says that there is one exchange for each of these calls, in order.
 abbrev pub AreServices : List Call → List Exchange → Type 0
 AreServices [] [] = Unit {0}
 AreServices [] (e ∷ es) = ⊥
@@ -28,7 +28,7 @@ AreServices (call ∷ calls) (Service other a ∷ es) = (other ≡ call) × AreS
 AreServices (call ∷ calls) (Load address word ∷ es) = ⊥
 AreServices (call ∷ calls) (Save address word done ∷ es) = ⊥
 
--- a run that answers each of these calls, and ends in a store that still has a layout in pages
+-- A run that answers each of these calls, and ends in a store that still has a layout in pages.
 pub record Answers (calls : List Call) (s : StoreState) : Type 0 where
   pub exchanges : List Exchange
   pub services : AreServices calls exchanges

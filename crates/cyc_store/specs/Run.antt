@@ -1,10 +1,11 @@
--- Lists of calls to a store, in order. The form of lists of calls is this project's own choice.
+-- This file defines lists of calls to a store, in order. The form of lists of calls is this
+-- project's own choice.
 use Rattle.std.specs.Prelude.{◌≡◌, ℕ, Bool, List, [], ◌∷◌, Option, is_some}
 use Rattle.cyc_words.specs.Word.{IsWord}
 use Rattle.cyc_store.specs.State.{StoreState, word_at, saved}
 use Rattle.cyc_store.specs.Services.{Call, Answer, Serves}
 
--- a call with its result: a service, or a read or write of a word
+-- A call with its result: a request to the store, or a read or write of a word.
 pub data Exchange : Type 0 where
   Service : Call → Answer → Exchange
   Load : (address : ℕ) → Option ℕ → Exchange

@@ -1,6 +1,6 @@
--- The services of a store as a relation between the call, the answer and the store afterwards. A store chooses the places of blocks and the
--- handles of regions; the relation allows every harmless choice. (Regions are those of Grossman et al. 2002; services, refusals and their
--- order are this project's own choice.)
+-- This file defines the services of a store as a relation between the call, the answer and the store afterwards. A store chooses
+-- the addresses of blocks and the handles of regions; the relation allows every harmless choice. (Regions are those of Grossman et
+-- al. 2002; services, refusals and their order are this project's own choice.)
 use Rattle.std.specs.Prelude.{◌≡◌, ℕ, ◌+◌, ◌*◌, ◌<◌, ◌≤◌, ◌%◌, ◌^◌, ◌==◌, ◌&&◌, nat_le, nat_lt, Bool, true, false, if◌then◌else◌, Option, Some, None, is_some, List}
 use Rattle.cyc_store.specs.State.{lookup, without, Memory, AreWords, Block, address_of, Sort, Heap, Lexical, Dynamic, Uniques, Home, handle_of, StoreState, homes, covers, Holder, holder, demand, opened, lexical_count, down_to, made_in, made_unique, room}
 use Rattle.cyc_store.specs.declared.range.TheConstants.{STORE_BASE, PAGE_WORDS, MOST_BLOCK_WORDS, UNIQUE}
@@ -24,12 +24,12 @@ pub data Answer : Type 0 where
   Refused : Refusal → Answer
   Done : Answer
   Opened : (handle : ℕ) → Answer
-  -- the mark is the number of lexical regions that were open before
+  -- The number `mark` is the number of lexical regions that were open before.
   OpenedLexical : (handle mark : ℕ) → Answer
   Allocated : (address : ℕ) → Answer
 
--- A store's choice: the handle of a region, the address of a block, and the value of every word afterwards. Each call uses only the parts
--- that it needs.
+-- The choice of a store: the handle of a region, the address of a block, and the value of every word afterwards. Each call uses only the
+-- parts that it needs.
 pub record Choice : Type 0 where
   pub handle : ℕ
   pub address : ℕ
@@ -65,7 +65,8 @@ answer s (Free address) c = Done
 
 -- ---- refusals
 
--- The demand depends only on sizes, so whether a store is full does not depend on its choice.
+-- The number of pages that a store needs depends only on sizes, so the choice of a store does not
+-- decide if the store is full.
 abbrev pub any_choice : StoreState → Choice
 any_choice s = record { handle = 0; address = 0; memory = s.memory }
 
@@ -88,7 +89,7 @@ names_dynamic (Some r) = is_dynamic r.sort
 abbrev pub is_size : (words : ℕ) → Bool
 is_size words = nat_le 1 words && nat_le words MOST_BLOCK_WORDS
 
--- the first reason to refuse the call, if there is one
+-- The first reason to refuse the call, if there is one.
 abbrev pub refusal : StoreState → Call → Option Refusal
 refusal s OpenLexical = full_at (is_full s OpenLexical)
 refusal s (CloseTo mark) = if nat_le mark (lexical_count s.regions) then None else Some BadMark
@@ -102,18 +103,18 @@ refusal s (Free address) = if is_some (lookup address_of s.unique address) then 
 
 -- ---- choices
 
--- the block lies in the store's address range
+-- Says that a block lies in the store's address range.
 pub record IsPlaced (pages : ℕ) (b : Block) : Type 0 where
   pub aligned : b.address % 4 ≡ 0
   pub low : STORE_BASE ≤ b.address
   pub high : b.address + 4 * b.size ≤ STORE_BASE + 4 * (PAGE_WORDS * pages)
   pub some : 0 < b.size
 
--- no live block shares an address with this one
+-- Says that no live block shares an address with this block.
 abbrev pub IsApart : List Home → Block → Type 0
 IsApart rs b = (address : ℕ) → covers b address ≡ true → holder rs address ≡ None
 
--- the handle is a word that names no region
+-- Says that a handle is a 32-bit word that names no region.
 abbrev pub IsFresh : StoreState → (handle : ℕ) → Type 0
 IsFresh s handle = (lookup handle_of (homes s) handle ≡ None) × (handle < 2 ^ 32)
 
@@ -125,7 +126,8 @@ MayChoose s (CloseDynamic handle) c = Unit {0}
 MayChoose s (Allocate handle words) c = IsPlaced s.pages (block_of handle words c) × IsApart (homes s) (block_of handle words c)
 MayChoose s (Free address) c = Unit {0}
 
--- The words of everything that is live before and after stay. A new block may contain anything, and words that are not live may change.
+-- Says that all words that are live before and after a call keep their values. A new block may contain anything, and words that are not
+-- live may change.
 abbrev pub Keeps : StoreState → StoreState → Type 0
 Keeps s t = (address : ℕ) (h : Holder) → holder (homes s) address ≡ Some h → holder (homes t) address ≡ Some h
     → t.memory address ≡ s.memory address
@@ -137,7 +139,7 @@ pub record IsAllowed (s : StoreState) (call : Call) (c : Choice) : Type 0 where
 
 -- ---- the relation of the services
 
--- a refusal changes nothing
+-- A refusal leaves the store unchanged.
 abbrev pub ServesBy : StoreState → Call → Option Refusal → Answer → StoreState → Type 0
 ServesBy s call (Some why) a t = (a ≡ Refused why) × (t ≡ s)
 ServesBy s call None a t = (c : Choice) × IsAllowed s call c × (a ≡ answer s call c) × (t ≡ served s call c)

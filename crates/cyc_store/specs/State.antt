@@ -1,6 +1,6 @@
--- The content of a store: regions, unique blocks, and the words of memory. The regions are those of Grossman et al. (2002). A block is an
--- address and a size; the words are one function of the address, so writing a word changes no block. A store may place blocks anywhere:
--- page boundaries are not part of the content.
+-- This file defines the content of a store: regions, unique blocks, and the words of memory. The regions are those of Grossman et al.
+-- (2002). A block is an address and a size; the words are one function of the address, so writing a word changes no block. A store may
+-- place blocks anywhere: page boundaries are not part of the content.
 use Rattle.std.specs.Prelude.{ℕ, zero, suc, ◌+◌, ◌*◌, ◌%◌, ◌^◌, ◌==◌, ◌&&◌, nat_le, nat_lt, max, Bool, true, false, if◌then◌else◌, List, [], ◌∷◌, ◌++◌, map, Option, Some, None, slice_index, set, ◌≡◌}
 use Rattle.cyc_words.specs.Word.{IsWord}
 use Rattle.cyc_words.specs.Demand.{class_of, pages_for, demand_of}
@@ -8,29 +8,29 @@ use Rattle.cyc_store.specs.declared.range.TheConstants.{HEAP, UNIQUE}
 
 -- ---- lists indexed by a key that each element has, so that removing an element does not shift the other elements
 
--- the first element with this key
+-- The first element of a list with this key.
 abbrev pub lookup : {A : Type 0} → (key : A → ℕ) → List A → (number : ℕ) → Option A
 lookup key [] number = None
 lookup key (x ∷ xs) number = if key x == number then Some x else lookup key xs number
 
--- the list without the elements with this key
+-- The list without the elements that have this key.
 abbrev pub without : {A : Type 0} → (key : A → ℕ) → List A → (number : ℕ) → List A
 without key [] number = []
 without key (x ∷ xs) number = if key x == number then without key xs number else x ∷ without key xs number
 
--- the list with the first element of this key changed
+-- The list after its first element with this key is changed.
 abbrev pub changed : {A : Type 0} → (key : A → ℕ) → (change : A → A) → List A → (number : ℕ) → List A
 changed key change [] number = []
 changed key change (x ∷ xs) number = if key x == number then change x ∷ xs else x ∷ changed key change xs number
 
--- all keys in the list are different
+-- Says that all keys in the list are different.
 abbrev pub AreDistinct : {A : Type 0} → (key : A → ℕ) → List A → Type 0
 AreDistinct key [] = Unit {0}
 AreDistinct key (x ∷ xs) = (lookup key xs (key x) ≡ None) × AreDistinct key xs
 
 -- ---- memory
 
--- the word at each address
+-- A memory gives the word at each address.
 abbrev pub Memory : Type 0
 Memory = ℕ → ℕ
 
@@ -42,7 +42,7 @@ AreWords memory = (address : ℕ) → IsWord (memory address)
 
 -- ---- blocks and regions
 
--- a block: its first address, a multiple of 4, and its number of words
+-- A block is given by its first address, a multiple of 4, and its number of words.
 pub record Block : Type 0 where
   pub address : ℕ
   pub size : ℕ
@@ -50,14 +50,15 @@ pub record Block : Type 0 where
 abbrev pub address_of : Block → ℕ
 address_of b = b.address
 
--- the sort of a region: the heap, a lexical region, a dynamic region, or the home of the unique blocks
+-- The sort of a region: the heap, a lexical region, a dynamic region, or the region of the unique
+-- blocks.
 pub data Sort : Type 0 where
   Heap : Sort
   Lexical : Sort
   Dynamic : Sort
   Uniques : Sort
 
--- a region, with its blocks in the order of their allocation
+-- A region of the store, with its blocks in the order of their allocation.
 pub record Home : Type 0 where
   pub handle : ℕ
   pub sort : Sort
@@ -66,25 +67,28 @@ pub record Home : Type 0 where
 abbrev pub handle_of : Home → ℕ
 handle_of r = r.handle
 
--- a newly opened region
+-- A region that was just opened and has no blocks.
 abbrev pub empty_home : (handle : ℕ) → Sort → Home
 empty_home handle sort = record { handle = handle; sort = sort; blocks = [] }
 
--- A store. A store lists its open regions, and the lexical ones among them, in the order of their opening.
+-- The content of a store. A store lists its open regions, and the lexical regions among them, in the order
+-- of their opening.
 pub record StoreState : Type 0 where
   pub pages : ℕ
   pub regions : List Home
   -- the live unique blocks
   pub unique : List Block
-  -- for each class of unique blocks, the pages for the largest number of live blocks so far
+  -- For each class of unique blocks, the number of pages that its largest number of live blocks so
+  -- far needs.
   pub classes : List ℕ
   pub memory : Memory
 
--- all regions, preceded by the unique blocks as one more region with a handle of its own
+-- All regions of a store, preceded by the unique blocks as one more region with a separate handle.
 abbrev pub homes : StoreState → List Home
 homes s = record { handle = UNIQUE; sort = Uniques; blocks = s.unique } ∷ s.regions
 
--- a new store, which contains only the empty heap; the classes are those of 1, 2, 4 and so on up to 1,024 words
+-- A new store, which contains only the empty heap; the size classes are those of 1, 2, 4 and so on up to 1,024
+-- words.
 abbrev pub start : (pages : ℕ) → Memory → StoreState
 start pages memory = record {
   pages = pages;
@@ -99,7 +103,7 @@ start pages memory = record {
 abbrev pub covers : Block → (address : ℕ) → Bool
 covers b address = nat_le b.address address && nat_lt address (b.address + 4 * b.size)
 
--- a block, and the handle of its region
+-- A block together with the handle of its region.
 pub record Holder : Type 0 where
   pub handle : ℕ
   pub block : Block
@@ -113,7 +117,7 @@ abbrev pub or_else : Option Holder → Option Holder → Option Holder
 or_else None other = other
 or_else (Some h) other = Some h
 
--- the live block that contains this address
+-- The live block that contains an address.
 abbrev pub holder : List Home → (address : ℕ) → Option Holder
 holder [] address = None
 holder (r ∷ rs) address = or_else (holder_in r.handle r.blocks address) (holder rs address)
@@ -122,7 +126,7 @@ abbrev pub block_in : Option Home → (address : ℕ) → Option Block
 block_in None address = None
 block_in (Some r) address = lookup address_of r.blocks address
 
--- the block of this region that begins at this address
+-- The block that begins at an address, in the region with a handle.
 abbrev pub block_at : List Home → (handle address : ℕ) → Option Block
 block_at rs handle address = block_in (lookup handle_of rs handle) address
 
@@ -132,7 +136,7 @@ abbrev pub word_in : Option Holder → Memory → (address : ℕ) → Option ℕ
 word_in None memory address = None
 word_in (Some h) memory address = Some (memory address)
 
--- the word at an address, if the address is that of a word in a live block
+-- The word at an address, if the address is that of a word in a live block.
 abbrev pub word_at : StoreState → (address : ℕ) → Option ℕ
 word_at s address = if address % 4 == 0 then word_in (holder (homes s) address) s.memory address else None
 
@@ -140,7 +144,7 @@ abbrev pub has_saved : StoreState → (address word : ℕ) → Option ℕ → St
 has_saved s address word None = s
 has_saved s address word (Some old) = record s { memory = put s.memory address word }
 
--- the store after a word of a live block is written; a write elsewhere changes nothing
+-- The store after a word of a live block is written; a write at any other address changes nothing.
 abbrev pub saved : StoreState → (address word : ℕ) → StoreState
 saved s address word = has_saved s address word (word_at s address)
 
@@ -152,7 +156,7 @@ sizes_of bs = map (λ (b : Block). b.size) bs
 abbrev pub sizes_in : List Home → List (List ℕ)
 sizes_in rs = map (λ (r : Home). sizes_of r.blocks) rs
 
--- the number of pages that the blocks need
+-- The number of pages that the blocks of a store need.
 abbrev pub demand : StoreState → ℕ
 demand s = demand_of (sizes_in s.regions) s.classes
 
@@ -161,7 +165,7 @@ abbrev pub live_in : (class : ℕ) → List Block → ℕ
 live_in class [] = 0
 live_in class (b ∷ bs) = if class_of b.size == class then suc (live_in class bs) else live_in class bs
 
--- the pages of the classes if this many blocks of one class are live
+-- The numbers of pages of the classes after `live` blocks of one class are live.
 abbrev pub raised : (classes : List ℕ) → (class live : ℕ) → List ℕ
 raised classes class live = set classes class (max (slice_index classes class) (pages_for class live))
 
@@ -180,7 +184,8 @@ abbrev pub lexical_count : List Home → ℕ
 lexical_count [] = 0
 lexical_count (r ∷ rs) = if is_lexical r.sort then suc (lexical_count rs) else lexical_count rs
 
--- The regions after closing lexical ones: the oldest, as many as the mark, stay, and so do all other regions.
+-- The regions after lexical regions are closed: the oldest `mark` lexical regions stay open, and so do all
+-- regions that are not lexical.
 abbrev pub down_to : (mark : ℕ) → List Home → List Home
 down_to mark [] = []
 down_to zero (r ∷ rs) = if is_lexical r.sort then down_to zero rs else r ∷ down_to zero rs
@@ -204,6 +209,6 @@ room handle words = if handle == UNIQUE then 2 ^ class_of words else words
 
 -- ---- initial stores of a run
 
--- a new store with this many pages, in which the heap is open; its words are arbitrary
+-- Says that a store is new, has this many pages, and has the heap open; its words are arbitrary.
 abbrev pub IsNew : (pages : ℕ) → StoreState → Type 0
 IsNew pages store = (memory : Memory) × AreWords memory × (store ≡ start pages memory)

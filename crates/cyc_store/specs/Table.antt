@@ -1,5 +1,5 @@
--- The table of the pages of a store: the entries read for a page, and the effect of the table's functions. The form of the page table is
--- this project's own choice.
+-- This file is about the table of the pages of a store: the entries read for a page, and the effect of the table's functions. The form
+-- of the page table is this project's own choice.
 use Rattle.std.specs.Prelude.{◌≡◌, ℕ, zero, suc, ◌+◌, ◌*◌, ◌<◌, ◌≤◌, ◌⊎◌, Bool, false, ◌&&◌, nat_le, nat_lt, if◌then◌else◌, List, length, slice_index, slice_index_or, set}
 use Rattle.cyc_store.specs.declared.row.PageTable.{PageTable}
 use Rattle.cyc_store.specs.declared.row.Row.{Row}
@@ -7,19 +7,19 @@ use Rattle.cyc_store.specs.declared.row.Role.TheVariants.{Rest}
 use Rattle.cyc_store.specs.declared.row.TheConstants.{NONE}
 use Rattle.cyc_store.specs.declared.range.TheConstants.{PAGE_WORDS}
 
--- the row of an empty page, followed by a free page
+-- The row of an empty page that is followed by a free page.
 abbrev pub free_row : (next : ℕ) → Row
 free_row next = record { role = Rest; filled = 0; next = next; newest = NONE; count = 0 }
 
 abbrev pub row_at : List Row → (page : ℕ) → Row
 row_at rows page = slice_index_or rows page (free_row NONE)
 
--- the words and marks of all pages exist
+-- Says that the table has the words and live marks of all of its pages.
 pub record IsWhole (t : PageTable) : Type 0 where
   pub words : length t.words.items ≡ PAGE_WORDS * length t.rows.items
   pub live : length t.live.items ≡ PAGE_WORDS * length t.rows.items
 
--- both tables have equal contents
+-- Says that two tables have equal contents.
 pub record IsSame (old new : PageTable) : Type 0 where
   pub most : new.most ≡ old.most
   pub words : new.words.items ≡ old.words.items
@@ -27,7 +27,8 @@ pub record IsSame (old new : PageTable) : Type 0 where
   pub rows : new.rows.items ≡ old.rows.items
   pub free : new.free ≡ old.free
 
--- A page is taken: the first free page, or else a new page after all others. Pages after the last one read as if they existed.
+-- Says that a page is taken: the first free page, or else a new page after all others. Pages after the last one read as if
+-- they existed.
 pub record Draws (old new : PageTable) (page : ℕ) : Type 0 where
   pub most : new.most ≡ old.most
   pub whole : IsWhole new
@@ -38,7 +39,7 @@ pub record Draws (old new : PageTable) (page : ℕ) : Type 0 where
   pub from : ((old.free < length old.rows.items) × (page ≡ old.free) × (new.free ≡ (row_at old.rows.items page).next) × (length new.rows.items ≡ length old.rows.items))
       ⊎ ((length old.rows.items ≤ old.free) × (page ≡ length old.rows.items) × (new.free ≡ old.free) × (length new.rows.items ≡ suc (length old.rows.items)))
 
--- the marks in this range are set to this value, and all others are unchanged
+-- The live marks after those in a range are set to one value; all other live marks are unchanged.
 abbrev pub marked_between : (old : ℕ → Bool) → (first count : ℕ) → Bool → ℕ → Bool
 marked_between old first count mark word = if nat_le first word && nat_lt word (first + count) then mark else old word
 
@@ -52,7 +53,7 @@ abbrev pub given_free : List Row → (page count free : ℕ) → ℕ
 given_free rows page zero free = free
 given_free rows page (suc count) free = given_free (set rows page (free_row free)) (row_at rows page).next count page
 
--- all pages of the chain exist
+-- Says that all pages of a chain exist.
 abbrev pub AreThere : List Row → (page count free : ℕ) → Type 0
 AreThere rows page zero free = Unit {0}
 AreThere rows page (suc count) free = (page < length rows) × AreThere (set rows page (free_row free)) (row_at rows page).next count page

@@ -1,19 +1,20 @@
-//! The results of a store that refuses a call.
+//! This file defines the results of a store that refuses a call.
 
-/// Why a region was not opened, or a block not allocated. If several reasons hold, the first in this order is returned.
+/// The reason why a region was not opened, or why a block was not allocated. If several reasons hold, then the first
+/// one in this order is returned.
 #[derive(Clone, Copy, Debug, PartialEq, Eq)]
 pub enum No {
     /// The handle names no open region.
     BadHandle,
     /// The size is not between 1 and 1,000 words.
     BadSize,
-    /// The demand would exceed the pages of the store.
+    /// The call would need more pages than the store has.
     Full,
     /// An allocation by the store failed.
     Memory,
 }
 
-/// Fewer lexical regions are open than the mark states.
+/// Fewer lexical regions are open than the argument `mark` states.
 #[derive(Clone, Copy, Debug, PartialEq, Eq)]
 pub struct BadMark;
 

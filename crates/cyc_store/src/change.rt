@@ -1,4 +1,4 @@
-//! The effect of a service on the blocks of a store.
+//! This file defines the effect of a call on the blocks of a store.
 
 /// A change of the blocks of a store.
 #[derive(Clone, Copy)]

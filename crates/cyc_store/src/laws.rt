@@ -13,8 +13,8 @@ ghost use Rattle.cyc_store.specs.Run.{Exchange, Run};
 
 use super::range::{PAGE_WORDS, UNIQUE};
 
-/// A new store is sound, and every call of a sound store leaves a sound one, for every choice. In a sound store each handle names one
-/// region, and blocks are aligned, in range and disjoint. The demand is at most the number of pages.
+/// A new store is sound, and every call of a sound store leaves a sound store, for every choice of the store. In a sound store each
+/// handle names one region, and blocks are aligned, in range and disjoint. A sound store needs at most as many pages as it has.
 pub fn stores_stay_sound()
     ensures starts { (pages : ℕ) (memory : Memory) → AreWords memory → 1 ≤ pages → IsSound (start pages memory) }
     ensures served { (s : StoreState) (call : Call) (c : Choice) → IsSound s → refusal s call ≡ None → IsAllowed s call c → IsSound (served s call c) }
@@ -33,7 +33,8 @@ pub fn blocks_stand_apart()
         → word_at s (b.address + 4 * i) ≡ Some (s.memory (b.address + 4 * i)) }
 {}
 
-/// An allocated block is live, with the requested words; a freed block is not live, and a closed dynamic region has no handle.
+/// An allocated block is live, with the requested words; a freed block is not live, and the handle of a closed dynamic region
+/// names no region.
 pub fn blocks_come_and_go()
     ensures made { (s t : StoreState) (handle words address : ℕ) → IsSound s → Serves s (Allocate handle words) (Allocated address) t
         → block_at (homes t) handle address ≡ Some (record { address = address; size = room handle words }) }
@@ -41,19 +42,20 @@ pub fn blocks_come_and_go()
     ensures closed { (s t : StoreState) (handle : ℕ) → Serves s (CloseDynamic handle) Done t → lookup handle_of t.regions handle ≡ None }
 {}
 
-/// A refusal gives the first reason that holds, and changes nothing.
+/// A refusal states the first reason that holds, and leaves the store unchanged.
 pub fn refusals_change_nothing()
     ensures { (s t : StoreState) (call : Call) (why : Refusal) → Serves s call (Refused why) t → (refusal s call ≡ Some why) × (t ≡ s) }
 {}
 
-/// A call is refused as full exactly if the demand afterwards would exceed the pages, whatever the store would choose.
+/// A call is refused as full exactly if it would need more pages than the store has, for every choice of the store.
 pub fn full_goes_by_demand()
     ensures full { (s : StoreState) (call : Call) → refusal s call ≡ Some Full → s.pages < demand (served s call (any_choice s)) }
     ensures fits { (s : StoreState) (call : Call) → IsSound s → refusal s call ≡ None → demand (served s call (any_choice s)) ≤ s.pages }
     ensures choices { (s : StoreState) (call : Call) (c d : Choice) → demand (served s call c) ≡ demand (served s call d) }
 {}
 
-/// The pages of a class of unique blocks never decrease: they are the greatest number that its live blocks needed so far.
+/// The pages of a class of unique blocks never decrease: they are the greatest number of pages that the class's live
+/// blocks have needed so far.
 pub fn classes_never_fall()
     ensures never { (s t : StoreState) (call : Call) (a : Answer) (class : ℕ) → IsSound s → Serves s call a t
         → slice_index s.classes class ≤ slice_index t.classes class }
@@ -61,7 +63,8 @@ pub fn classes_never_fall()
         → slice_index t.classes class ≡ max (slice_index s.classes class) (pages_for class (live_in class t.unique)) }
 {}
 
-/// A written word is read back, and every other word stays. A call keeps the words of everything that is live before and after it.
+/// A word that is written is read back, and every other word stays. A call preserves every word that is live both before and after
+/// it.
 pub fn words_hold()
     ensures same { (s : StoreState) (address word old : ℕ) → word_at s address ≡ Some old → word_at (saved s address word) address ≡ Some word }
     ensures other { (s : StoreState) (address word other : ℕ) → other ≢ address → word_at (saved s address word) other ≡ word_at s other }
@@ -69,14 +72,16 @@ pub fn words_hold()
         → holder (homes s) address ≡ Some h → holder (homes t) address ≡ Some h → word_at t address ≡ word_at s address }
 {}
 
-/// A unique block has the size of its class, which covers the request; any other block has the requested size.
+/// A unique block has the size of its class, which is at least the requested size; any other block has exactly
+/// the requested size.
 pub fn blocks_have_room()
     ensures unique { (words : ℕ) → room UNIQUE words ≡ 2 ^ class_of words }
     ensures enough { (words : ℕ) → words ≤ page_words → words ≤ 2 ^ class_of words }
     ensures asked { (handle words : ℕ) → handle ≢ UNIQUE → room handle words ≡ words }
 {}
 
-/// The pages of a region are filled in order; a block that does not fit the rest of the last page begins the next one.
+/// The pages of a region are filled in order; a block that does not fit in the rest of the last page begins the next
+/// page.
 pub fn pages_are_filled()
     ensures page { PAGE_WORDS ≡ page_words }
     ensures empty { region_pages [] ≡ 1 }

@@ -1,4 +1,4 @@
-//! The blocks of a store, as contracts and proofs see them.
+//! This file defines the blocks of a store as contracts and proofs see them.
 
 ghost use Rattle.std.specs.Prelude.{◌≡◌};
 ghost use Rattle.std.specs.Borrow.{ftrue};
@@ -8,7 +8,7 @@ use super::change::Change;
 use std::marker::Model;
 
 /// The blocks of a store, which only contracts read. The list of blocks takes no memory, and its functions do nothing at run time: a store
-/// need not know where each of its blocks ends.
+/// does not need to know where each of its blocks ends.
 #[derive(Drop)]
 pub struct Ledger {
     pub ghost blocks: { Blocks },
@@ -26,7 +26,7 @@ impl Ledger {
         Ledger {}
     }
 
-    /// Returns the blocks after a change.
+    /// Returns the blocks of a store after a change.
     pub fn with(_before: &Ledger, _change: &Change) -> Ledger
         ensures { result.blocks ≡ after _before.now.blocks _change.now }
     {

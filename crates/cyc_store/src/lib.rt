@@ -1,7 +1,8 @@
-//! The store of a running program: its content, the effect of its services as a relation, and the trait that each store implements.
+//! This crate defines the store of a running program: its content, the effect of its services as a relation, and the trait that
+//! each store implements.
 //!
 //! The definitions are in `specs/`: the content of a store (`State`), its services (`Services`), and the invariant of every store
-//! (`Soundness`). [`laws`] contains their laws.
+//! (`Soundness`). [`laws`] contains the laws of these definitions.
 #![tactic(auto)]
 
 mod answer;

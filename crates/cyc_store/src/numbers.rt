@@ -1,4 +1,4 @@
-//! Arithmetic on the numbers of words and pages, which every store of pages uses.
+//! This file has the arithmetic on the numbers of words and pages, which every store of pages uses.
 
 ghost use Rattle.std.specs.Prelude.{◌≡◌, ◌≢◌, ◌+◌, ◌*◌, ◌%◌, ◌^◌, ◌<◌, ◌≤◌, ◌⊎◌, IsTrue, MatchOption, false};
 ghost use Rattle.cyc_words.specs.Demand.{class_of};
@@ -14,7 +14,8 @@ pub fn size_of(class: u32) -> u32
     1 << class
 }
 
-/// Returns the class of a block: the exponent of the least power of two that holds it.
+/// Returns the class of a block with this many words: the exponent of the least power of two that
+/// is at least as large.
 pub fn class_of(words: u32) -> u32
     requires { words ≤ 1024 }
     ensures { result ≡ class_of words }

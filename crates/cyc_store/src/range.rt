@@ -1,4 +1,4 @@
-//! The addresses and the sizes of a store: this project's own choice.
+//! The addresses and the sizes of a store, which are this project's own choice.
 
 /// The address of the first word of the store.
 pub const STORE_BASE: u32 = 0x2000_0000;
@@ -18,5 +18,5 @@ pub const MOST_BLOCK_WORDS: u32 = 1000;
 /// The handle of the heap, a region that is open from the start and is never closed.
 pub const HEAP: u32 = 1;
 
-/// The handle of the unique region, whose blocks are freed one at a time.
+/// The handle of the unique region, in which each block is freed separately.
 pub const UNIQUE: u32 = 2;

@@ -1,14 +1,14 @@
-//! The table of the pages of a store.
+//! This file defines the table of the pages of a store.
 
 ghost use Rattle.std.specs.Prelude.{◌≡◌, ℕ, [], ◌+◌, ◌≤◌, IfOk, OnErr, length, slice_index_or, false, IsTrue, ◌↔◌};
 
 use super::range::PAGE_WORDS;
 use std::alloc::{AllocError, Global};
 
-/// The use of a page.
+/// The role of a page in the store.
 #[derive(Clone, Copy)]
 pub enum Role {
-    /// The page is free, or a later page of a region.
+    /// The page is free, or it is a page of a region other than the first.
     Rest,
     /// The first page of the heap.
     Heap,
@@ -16,17 +16,19 @@ pub enum Role {
     Lexical,
     /// The first page of a dynamic region.
     Dynamic,
-    /// A page of unique blocks of one class, the exponent of their words.
+    /// The page is cut into slots for unique blocks of one class, which is the exponent of their
+    /// number of words.
     Slots(u32),
 }
 
-/// A row of the table.
+/// A row of the page table.
 #[derive(Clone, Copy)]
 pub struct Row {
     pub role: Role,
     /// For a page of a region, the number of its filled words.
     pub filled: u32,
-    /// The next page in the page's chain: an older page of its region, or a free one.
+    /// The next page in the chain to which this page belongs: an older page of its region, or a
+    /// free page.
     pub next: u32,
     /// For a region's first page, the region's newest page.
     pub newest: u32,
@@ -37,14 +39,16 @@ pub struct Row {
 /// The empty slots of one class.
 #[derive(Clone, Copy)]
 pub struct ClassSlots {
-    /// The first of the slots that contained a block before. The first word of each such slot is the next one.
+    /// The first of the empty slots that contained a block before. The first word of each of these slots is
+    /// the number of the next one.
     pub dead: u32,
-    /// The first of the slots that never contained a block, which are consecutive in one page, and their number.
+    /// The first of the empty slots that never contained a block; these slots are consecutive in one page. The
+    /// field after it is their number.
     pub fresh: u32,
     pub left: u32,
 }
 
-/// The mark for no page and no slot.
+/// The value that stands for no page and no slot.
 pub const NONE: u32 = 0xffff_ffff;
 
 /// The row of an empty page.
@@ -56,13 +60,13 @@ pub const BLANK: Row = Row {
     count: 0,
 };
 
-/// The pages that were ever used, with their words, one page after another.
+/// The pages that have ever been used, with their words, one page after another.
 #[derive(Drop)]
 pub struct PageTable {
-    /// The largest number of pages.
+    /// The largest number of pages that the table may have.
     pub most: u32,
     pub words: Vec<u32>,
-    /// For each word of all pages, a mark that it is a word of a live unique block.
+    /// For each word of all pages, a mark that tells if the word belongs to a live unique block.
     pub live: Vec<bool>,
     pub rows: Vec<Row>,
     /// The first page of the chain of free pages.
@@ -96,7 +100,7 @@ impl PageTable {
         self.rows.len() <= self.free as usize && self.most as usize <= self.rows.len()
     }
 
-    /// Takes a free page, or a new one.
+    /// Takes a page: a free page or, if there is none, a new one.
     pub fn draw(&mut self) -> Result<u32, AllocError>
         requires few { length self.old.rows.items ≤ 65536 }
         requires whole { IsWhole self.old }
@@ -121,7 +125,7 @@ impl PageTable {
         Ok(page as u32)
     }
 
-    /// Marks this many words as words of a live unique block, or as words of none.
+    /// Marks `count` words as words of a live unique block, or as words of no live block.
     pub fn mark(&mut self, first: usize, count: usize, mark: bool)
         requires { first + count ≤ length self.old.live.items }
         ensures live { (word : ℕ) → slice_index_or self.new.live.items word false
@@ -137,7 +141,7 @@ impl PageTable {
         }
     }
 
-    /// Frees a chain of this many pages.
+    /// Frees a chain of `count` pages.
     pub fn give_back(&mut self, newest: u32, count: u32)
         requires { AreThere self.old.rows.items newest count self.old.free }
         ensures rows { self.new.rows.items ≡ given_rows self.old.rows.items newest count self.old.free }

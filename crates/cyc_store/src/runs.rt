@@ -1,4 +1,5 @@
-//! Lists of calls to a store. Each list is a run of the store relation; if the blocks have a layout in pages, the run can always continue.
+//! This file defines lists of calls to a store. Each list is a run of the store relation; if the blocks have a layout in pages, then the
+//! run can always continue.
 
 ghost use Rattle.std.specs.Prelude.{◌≡◌, ℕ, ◌≤◌, List, None};
 ghost use Rattle.cyc_words.specs.Word.{IsWord};
@@ -63,8 +64,9 @@ fn make<S: Store>(store: &mut S, asked: Asked)
 
 /// Calls a store several times in order, and ignores the results.
 ///
-/// The content of the store afterwards is the end of a run of the store relation over these calls, from its content before. A call that
-/// fails for lack of memory is not part of that run, and changes nothing. A store that does not grow has no such calls.
+/// The content of the store afterwards is the end of a run of the store relation over these calls that begins with the content before.
+/// A call that fails for lack of memory is not part of that run, and changes nothing. In a store that does not grow, no call fails for
+/// lack of memory.
 pub fn make_all<S: Store>(store: &mut S, calls: &[Asked])
     ensures { MakesAll S.GROWS calls.now (S.held store.old) (S.held store.new) }
 {
@@ -73,9 +75,9 @@ pub fn make_all<S: Store>(store: &mut S, calls: &[Asked])
     }
 }
 
-/// The blocks of a store may have a layout in pages. If they have one, the store relation allows a choice for each call that is not
-/// refused, and a layout exists afterwards. There is room whenever the demand allows a call. Every list of calls has a run with a result
-/// for each call. A new store has a layout, and writing a word keeps it.
+/// The blocks of a store may have a layout in pages. If they have a layout, then the store relation allows a choice for each call that
+/// is not refused, and a layout exists after the call. If the store has enough pages for a call, then there is room for its result.
+/// Every list of calls has a run with a result for each call. A new store has a layout, and writing a word preserves the layout.
 pub fn choices_exist()
     ensures begins { (pages : ℕ) (s : StoreState) → IsNew pages s → 1 ≤ pages → pages ≤ MOST_PAGES → IsOrdered s }
     ensures chooses { (s : StoreState) (call : Call) → IsOrdered s → refusal s call ≡ None → HasChoice s call }

@@ -1,4 +1,4 @@
-//! The trait that each store implements.
+//! This file defines the trait that each store implements.
 
 ghost use Rattle.std.specs.Prelude.{◌≡◌, ◌+◌, ◌*◌, ◌<◌, ◌≤◌, Bool, IsSome, IsTrue, is_some};
 ghost use Rattle.cyc_store.specs.Answers.{Responds, allocated, done_unless, opened_dynamic, opened_lexical};
@@ -9,11 +9,11 @@ ghost use Rattle.cyc_store.specs.declared.range.TheConstants.{STORE_BASE, PAGE_W
 
 use super::answer::{BadHandle, BadMark, No, NotABlock};
 
-/// A store of regions and blocks. Regions are opened and closed, blocks are allocated in them, unique blocks are freed one at a time, and
+/// A store of regions and blocks. Regions are opened and closed, blocks are allocated in them, unique blocks are freed separately, and
 /// the words of live blocks are read and written.
 ///
-/// The content of the store is its ghost member `held`. Each method changes it as the relation of the services allows. The store chooses
-/// the handle of a region and the place of a block. A refused call changes nothing in the store.
+/// The content of the store is its ghost member `held`. Each method changes the content as the store relation allows. The store chooses
+/// the handle of a region and the address of a block. A call that is refused changes nothing in the store.
 pub trait Store {
     ghost held: { Self → StoreState };
 
@@ -26,7 +26,7 @@ pub trait Store {
     fn open_lexical(&mut self) -> Result<(u32, u32), No>
         ensures { Responds GROWS (held self.old) OpenLexical (opened_lexical result) (held self.new) };
 
-    /// Closes the newest lexical regions until `mark` are open.
+    /// Closes the newest lexical regions until `mark` lexical regions are open.
     fn close_to(&mut self, mark: u32) -> Result<(), BadMark>
         ensures { Responds GROWS (held self.old) (CloseTo mark) (done_unless services.BadMark result) (held self.new) };
 
@@ -38,8 +38,9 @@ pub trait Store {
     fn close_dynamic(&mut self, handle: u32) -> Result<(), BadHandle>
         ensures { Responds GROWS (held self.old) (CloseDynamic handle) (done_unless services.BadHandle result) (held self.new) };
 
-    /// Allocates a block of this many words, with arbitrary contents, in the region with this handle, and returns its address. In the
-    /// unique region the block has the size of its class, the least power of two that holds the request.
+    /// Allocates a block of this many words, with arbitrary contents, in the region with this handle, and returns the address of the
+    /// block. In the unique region the block has the size of its class, which is the least power of two that is at least the
+    /// requested size.
     fn alloc(&mut self, handle: u32, words: u32) -> Result<u32, No>
         ensures { Responds GROWS (held self.old) (Allocate handle words) (allocated result) (held self.new) };
 
@@ -47,13 +48,14 @@ pub trait Store {
     fn free(&mut self, address: u32) -> Result<(), NotABlock>
         ensures { Responds GROWS (held self.old) (Free address) (done_unless services.NotABlock result) (held self.new) };
 
-    /// Returns the word at an address, if it is a word of a live block; such a word lies in the store's pages.
+    /// Returns the word at an address, if the address is that of a word in a live block; such a word lies in
+    /// the store's pages.
     fn load(&self, address: u32) -> Option<u32>
         ensures word { result ≡ word_at (held self.now) address }
         ensures inside { IsSome result → (STORE_BASE ≤ address) × (address < STORE_BASE + 4 * (PAGE_WORDS * (held self.now).pages)) };
 
-    /// Writes a word of a live block, which lies in the store's pages. Returns false, without a change, if the address is not in a live
-    /// block.
+    /// Writes a word of a live block; such a word lies in the store's pages. Returns false, without a change, if the address is not in
+    /// a live block.
     fn save(&mut self, address: u32, word: u32) -> bool
         ensures done { result ≡ is_some (word_at (held self.old) address) }
         ensures inside { IsTrue result → (STORE_BASE ≤ address) × (address < STORE_BASE + 4 * (PAGE_WORDS * (held self.old).pages)) }

@@ -1,4 +1,5 @@
--- Cuts of a text into its longest pieces: at most one exists, and a cut can be extended at its end.
+-- A cut divides a text into its longest pieces (tokens, spaces and comments): at most one exists,
+-- and a cut can be extended at its end.
 use Rattle.std.proofs.Common.{◌≡◌, ◌≢◌, ℕ, ◌⊎◌, inl, inr, ⊎_elim, List, [], ◌∷◌, ◌++◌, refl, sym, ap, subst, ◌∙◌, append_assoc, append-nil, arith}
 use Rattle.cyc_words.proofs.Lists.{same_fronts}
 use Rattle.cyc_syntax.specs.Tokens.{Token}
@@ -6,11 +7,11 @@ use Rattle.cyc_syntax.specs.Spelling.{Piece, OpenComment, Spells}
 use Rattle.cyc_syntax.specs.TokenRule.{IsRead, Part, IsCut, bytes_of, part_tokens, tokens_of, HasTokens}
 use Rattle.cyc_syntax.proofs.PieceLemmas.{piece_starts, one_piece}
 
--- a piece has at least one byte
+-- Every piece (token, space or comment) has at least one byte.
 pub piece_nonempty : (m : Piece) → Spells m [] → ⊥
 piece_nonempty m spelled = piece_starts m [] spelled
 
--- two pieces that are read at one position are equal and have equal bytes
+-- Two pieces that can be read at one position of a text are equal and have equal bytes.
 pub one_part : (p q : Part) (after other : List ℕ) → p.bytes ++ after ≡ q.bytes ++ other
     → IsRead p.piece p.bytes after → IsRead q.piece q.bytes other → (p ≡ q) × (after ≡ other)
 one_part p q after other e read also =
@@ -20,11 +21,12 @@ one_part p q after other e read also =
     let piece = one_piece p.piece q.piece q.bytes (subst (Spells p.piece) bytes.0 read.spelled) also.spelled in
     ((λ i. record { piece = piece i; bytes = bytes.0 i }), bytes.1)
 
--- `qs` extends `ps`: its further parts cut the remaining text left by `ps`
+-- `GoesOn` says that the parts `qs` extend the parts `ps`: the further parts cut the text that `ps`
+-- leaves.
 abbrev pub GoesOn : List Part → List Part → List ℕ → List ℕ → Type 0
 GoesOn ps qs r s = (more : List Part) × (qs ≡ ps ++ more) × IsCut more r s
 
--- of two cuts of one text, one extends the other
+-- Of two cuts of one text into its longest pieces, one extends the other.
 pub cuts_meet : (ps qs : List Part) (text r s : List ℕ) → IsCut ps text r → IsCut qs text s → GoesOn ps qs r s ⊎ GoesOn qs ps s r
 cuts_meet [] qs text r s cut also = inl (qs, refl, subst (λ l. IsCut qs l s) cut also)
 cuts_meet (p ∷ ps) [] text r s cut also = inr (p ∷ ps, refl, subst (λ l. IsCut (p ∷ ps) l r) also cut)
@@ -35,7 +37,7 @@ cuts_meet (p ∷ ps) (q ∷ qs) text r s cut also =
     (λ x. inr (x.0, (λ i. same.0 i ∷ x.1 i), x.2))
     (cuts_meet ps qs cut.0 r s cut.4 (subst (λ l. IsCut qs l s) (sym same.1) also.4))
 
--- a cut that has reached the end of the text cannot be extended
+-- A cut that has reached the end of the text cannot be extended by any part.
 pub no_more : (more : List Part) (s : List ℕ) → IsCut more [] s → more ≡ []
 no_more [] s cut = refl
 no_more (p ∷ ps) s cut = absurd (none p.bytes cut.1 cut.2.spelled)
@@ -51,11 +53,11 @@ one_cut ps qs text cut also =
     (λ x. x.1 ∙ ap (λ l. qs ++ l) (no_more x.0 [] x.2) ∙ append-nil qs)
     (cuts_meet ps qs text [] [] cut also)
 
--- a text has at most one list of tokens
+-- Each text has at most one list of tokens.
 pub one_token_list : (text : List ℕ) (a b : List Token) → HasTokens text a → HasTokens text b → a ≡ b
 one_token_list text a b has also = sym has.2 ∙ ap (tokens_of []) (one_cut has.0 also.0 text has.1 also.1) ∙ also.2
 
--- a cut extended by one more part is a cut
+-- A cut of a text, extended by one more part, is again a cut.
 pub IsCut-push : (ps : List Part) (p : Part) (text after : List ℕ) → IsCut ps text (p.bytes ++ after)
     → IsRead p.piece p.bytes after → p.piece ≢ OpenComment → IsCut (ps ++ p ∷ []) text after
 IsCut-push [] p text after cut read closed = (after, cut, read, closed, refl)

@@ -1,4 +1,4 @@
--- texts and their tokens
+-- proofs about texts and their tokens
 pub mod PieceLemmas
 pub mod CutLemmas
 pub mod PlaceLemmas

@@ -1,4 +1,4 @@
--- The index of names stays correct when texts are added.
+-- The index that maps names to numbers stays correct when texts are added.
 use Rattle.std.proofs.Common.{Vec, Global, ⊎_elim, ◌≡◌, ℕ, ◌<◌, Bool, true, false, ◌||◌, cond, if◌then◌else◌, Option, Some, None, List, [], ◌∷◌, ◌++◌, length, get_or, slice_get, is_some, refl, sym, ap, subst, ◌∙◌, arith, IfSome}
 use Rattle.std.specs.Ordering.{is_eq, nat_cmp}
 use Rattle.std.specs.Cmp.{eq_by_cmp_equiv}
@@ -22,11 +22,11 @@ use Rattle.cyc_syntax.proofs.NameLemmas.{slice_get-number_of}
 is_among-new : (texts : List (List ℕ)) (text : List ℕ) → is_among text (texts ++ text ∷ []) ≡ true
 is_among-new texts text = any-push (bytes_eq text) texts text ∙ or_right _ _ (bytes_eq-itself text)
 
--- a new text gets the next number
+-- A new text gets the next number in the list of names.
 pub number_of-new : (texts : List (List ℕ)) (text : List ℕ) → is_among text texts ≡ false → number_of (texts ++ text ∷ []) text ≡ length texts
 number_of-new texts text new = position_push (bytes_eq text) texts text new (bytes_eq-itself text) ∙ position-none (bytes_eq text) texts new
 
--- the number of a new text leads back to that text
+-- If a text is new, looking up its number in the extended list yields this text.
 pub slice_get-new : (texts : List (List ℕ)) (text : List ℕ) → is_among text texts ≡ false → slice_get (texts ++ text ∷ []) (length texts) ≡ Some text
 slice_get-new texts text new =
     ap (slice_get (texts ++ text ∷ [])) (sym (number_of-new texts text new))
@@ -35,7 +35,7 @@ slice_get-new texts text new =
 number_if-new : (texts : List (List ℕ)) (text : List ℕ) → is_among text texts ≡ false → number_if (texts ++ text ∷ []) text ≡ Some (length texts)
 number_if-new texts text new = cond-true _ _ _ (is_among-new texts text) ∙ ap (λ n. Some n) (number_of-new texts text new)
 
--- adding a text does not change the numbers of other texts
+-- Adding a text to the list of names does not change the numbers of other texts.
 number_if-other : (texts : List (List ℕ)) (text other : List ℕ) → bytes_eq other text ≡ false → number_if (texts ++ text ∷ []) other ≡ number_if texts other
 number_if-other texts text other apart =
     ⊎_elim
@@ -48,14 +48,14 @@ number_if-other texts text other apart =
     ∙ sym (cond-false _ _ _ none))
     (cases_Bool (is_among other texts))
 
--- appending a text does not change the results of earlier lookups
+-- Appending a text to the list of names does not change the results of earlier lookups.
 found_at-push : (texts : List (List ℕ)) (new : List ℕ) (first other : Option ℕ) (text : List ℕ) → IfSome first (λ n. n < length texts)
     → found_at (texts ++ new ∷ []) first other text ≡ found_at texts first other text
 found_at-push texts new None other text within = refl
 found_at-push texts new (Some n) other text within =
     ap (λ t. if bytes_eq t text then Some n else other) (get_or_append_left texts (new ∷ []) [] n within)
 
--- texts with different keys are different
+-- If the keys of two texts differ, the texts differ.
 apart_by_keys : (text t : List ℕ) → is_eq (nat_cmp (key_of text) (key_of t)) ≡ false → bytes_eq t text ≡ false
 apart_by_keys text t differs =
     ⊎_elim
@@ -90,7 +90,7 @@ module _ (texts : List (List ℕ)) (text : List ℕ) (first : ℕ → Option ℕ
           (λ differs. index.apart t (sym (off (key_of t) differs) ∙ missing))
           (cases_Bool (is_eq (nat_cmp (key_of text) (key_of t))))
 
-      -- before the addition, a lookup under the new key found nothing
+      -- If the key of the new text was not stored, no lookup with this key found a number before.
       unknown : (t : List ℕ) → is_eq (nat_cmp (key_of text) (key_of t)) ≡ true → first (key_of t) ≡ None
       unknown t same = ap first (sym (same_from_nat_cmp _ _ same)) ∙ none
 
@@ -141,7 +141,8 @@ module _ (texts : List (List ℕ)) (text : List ℕ) (first : ℕ → Option ℕ
           (λ is_not. off t is_not ∙ index.apart t missing)
           (cases_Bool (bytes_eq text t))
 
-      -- the first text with this key is a different text
+      -- If the key of the new text was stored already, the first text with this key is a different
+      -- text.
       is_other : bytes_eq (get_or texts number []) text ≡ false
       is_other =
           ⊎_elim
@@ -171,18 +172,20 @@ module _ (texts : List (List ℕ)) (text : List ℕ) (first : ℕ → Option ℕ
           ∙ sym (number_if-other texts text t (bytes_eq-apart_turned text t is_not)))
           (cases_Bool (bytes_eq text t))
 
--- the map of keys after an insertion
+-- After an insertion into the map of keys, a lookup finds the inserted number for the inserted key
+-- and the old result for every other key.
 pub firsts_after : (m n : BTreeMap ℕ ℕ) (key number : ℕ) → tree.Updates nat_cmp m n key (Some number)
     → (k : ℕ) → first_in n k ≡ cond (is_eq (nat_cmp key k)) (Some number) (first_in m k)
 firsts_after m n key number updates k = updates.0 k
 
--- an update at one key keeps the entries of all other keys
+-- An update at one key leaves the entries of all other keys unchanged.
 others_kept : {X : Type 0} (eq : X → X → Bool) (test : X → Bool) (old new : List (X × ℕ)) → KeepsOthers eq test old new
     → (query : X → Bool) → IsKeyTest eq query → AreApart test query → lookup query new ≡ lookup query old
 unfolding KeepsOthers
 others_kept eq test old new keeps = keeps
 
--- the map of the other texts after an insertion
+-- After an insertion into the map of other texts, a lookup finds the inserted number for the
+-- inserted text and the old result for every other text.
 pub others_after : (m n : BTreeMap (Vec ℕ Global) ℕ) (v : Vec ℕ Global) (number : ℕ) → tree.Updates (λ x y. slice_cmp nat_cmp x.items y.items) m n v (Some number)
     → (t : List ℕ) → other_in n t ≡ cond (bytes_eq v.items t) (Some number) (other_in m t)
 others_after m n v number updates t =
@@ -197,7 +200,7 @@ others_after m n v number updates t =
         ∙ ap (bytes_eq t) (sym ((bytes_eq-Decides v.items k.items).0 (sym (is_eq-slice_cmp v.items k.items) ∙ here)))
         ∙ bytes_eq-apart_turned v.items t is_not
 
--- the index stays correct when a text is added, whether its key is new or not
+-- The index of names stays correct when a text is added, if its key is new and if it is not.
 module _ (texts : List (List ℕ)) (text : List ℕ) (firsts : BTreeMap ℕ ℕ) (others : BTreeMap (Vec ℕ Global) ℕ)
     (index : IsIndexOf texts (first_in firsts) (other_in others)) (new : is_among text texts ≡ false)
     (key number : ℕ) (is_key : key ≡ key_of text) (is_number : number ≡ length texts) where
@@ -221,7 +224,7 @@ module _ (texts : List (List ℕ)) (text : List ℕ) (firsts : BTreeMap ℕ ℕ)
       ∙ ap (λ x. cond (bytes_eq x t) (Some number) (other_in others t)) is
       ∙ ap (λ n. cond (bytes_eq text t) (Some n) (other_in others t)) is_number)
 
--- a text with a stored number is in the list, at that number
+-- If a lookup finds a number for a text, the text is in the list, at this number.
 pub has_number : (texts : List (List ℕ)) (text : List ℕ) (number : ℕ) → Some number ≡ number_if texts text → (is_among text texts ≡ true) × (number ≡ number_of texts text)
 has_number texts text number has =
     ⊎_elim
@@ -229,7 +232,7 @@ has_number texts text number has =
     (λ new. anything_from_none_is_some number (sym (cond-false _ _ _ new) ∙ sym has) _)
     (cases_Bool (is_among text texts))
 
--- a text without a stored number is not in the list
+-- If a lookup finds no number for a text, the text is not in the list.
 pub has_no_number : (texts : List (List ℕ)) (text : List ℕ) → None ≡ number_if texts text → is_among text texts ≡ false
 has_no_number texts text has_none =
     ⊎_elim

@@ -1,4 +1,5 @@
--- The numbers of names: a text keeps its number when texts are added, and the number determines the text.
+-- A text keeps its number when further texts are added to the list of names, and the number determines
+-- the text.
 use Rattle.std.proofs.Common.{zero, get_or, fold, ⊎_elim, ◌≡◌, ◌≢◌, ℕ, suc, ◌<◌, true, false, Some, List, [], ◌∷◌, ◌++◌, length, slice_get, sym, ap, subst, ◌∙◌, arith}
 use Rattle.std.specs.Str.{bytes_eq}
 use Rattle.std.proofs.lemmas.Bool.{true≢false, cases_Bool, cond-true, cond-false, cases_lt, or_left, or_right, or_cases, or_parts}
@@ -8,13 +9,13 @@ use Rattle.std.proofs.lemmas.Slice.Eq.{bytes_eq-Decides}
 use Rattle.cyc_words.proofs.Searches.{position-found, position-append, bytes_eq-itself}
 use Rattle.cyc_syntax.specs.Names.{is_among, with_text, distinct_texts, number_of, AreDistinct}
 
--- a text of the list has a number, and the number leads back to the text
+-- Each text of the list has a number, and the list has this text at this number.
 pub slice_get-number_of : (texts : List (List ℕ)) (text : List ℕ) → is_among text texts ≡ true → slice_get texts (number_of texts text) ≡ Some text
 slice_get-number_of texts text among =
     let found = position-found (bytes_eq text) texts among in
     found.1 ∙ ap (λ x. Some x) (sym ((bytes_eq-Decides text found.0).0 found.2))
 
--- a text that was met is in the list
+-- After a text is added to the list of names, it is in the list.
 pub is_among-with_text : (texts : List (List ℕ)) (text : List ℕ) → is_among text (with_text texts text) ≡ true
 is_among-with_text texts text =
     ⊎_elim (λ there. ap (is_among text) (cond-true _ _ _ there) ∙ there) (λ new. ap (is_among text) (cond-false _ _ _ new) ∙ last texts) (cases_Bool (is_among text texts))
@@ -23,7 +24,7 @@ is_among-with_text texts text =
     last [] = or_left _ _ (bytes_eq-itself text)
     last (x ∷ xs) = or_right _ _ (last xs)
 
--- a text of the list stays there with its number, whichever texts are met later
+-- A text in the list keeps its place when other texts are added.
 pub is_among-with_text_other : (texts : List (List ℕ)) (a b : List ℕ) → is_among a texts ≡ true → is_among a (with_text texts b) ≡ true
 is_among-with_text_other texts a b among =
     ⊎_elim (λ there. ap (is_among a) (cond-true _ _ _ there) ∙ among) (λ new. ap (is_among a) (cond-false _ _ _ new) ∙ more texts among) (cases_Bool (is_among b texts))
@@ -39,13 +40,13 @@ number_of-with_text texts a b among =
     (λ new. ap (λ l. number_of l a) (cond-false _ _ _ new) ∙ position-append (bytes_eq a) texts (b ∷ []) among)
     (cases_Bool (is_among b texts))
 
--- texts with equal numbers are equal
+-- If two texts of the list have equal numbers, they are equal.
 pub one_text : (texts : List (List ℕ)) (a b : List ℕ) → is_among a texts ≡ true → is_among b texts ≡ true
     → number_of texts a ≡ number_of texts b → a ≡ b
 one_text texts a b has also same =
     same_Some a b (sym (slice_get-number_of texts a has) ∙ ap (slice_get texts) same ∙ slice_get-number_of texts b also)
 
--- adding a text keeps the list free of duplicates
+-- Adding a text to a list of distinct texts keeps the texts distinct.
 distinct_met : (texts : List (List ℕ)) (text : List ℕ) → AreDistinct texts → AreDistinct (with_text texts text)
 distinct_met texts text distinct =
     ⊎_elim

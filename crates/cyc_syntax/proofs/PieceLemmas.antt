@@ -1,4 +1,5 @@
--- The bytes that can begin a piece. A byte string spells at most one piece.
+-- The bytes that can begin a piece (a token, a space or a comment). A byte string spells at most
+-- one piece.
 use Rattle.std.proofs.Common.{eqb, unwrap_or, ◌≡◌, ◌≢◌, ℕ, Bool, true, false, ◌||◌, cond, Option, Some, None, ⊎_elim, List, [], ◌∷◌, ◌++◌, drop, refl, sym, ap, ◌∙◌, arith}
 use Rattle.std.specs.Prelude.{codes}
 use Rattle.std.specs.List.{starts_with}
@@ -13,7 +14,7 @@ use Rattle.cyc_syntax.specs.declared.tokens.Sign.TheVariants as signs
 use Rattle.cyc_syntax.specs.Tokens.{Identifier, RegionName, Number, Character, Word, Mark}
 use Rattle.cyc_syntax.specs.Spelling.{is_between, is_digit, is_letter, is_space, keyword_text, sign_text, is_name, is_decimal, is_hexadecimal, number_in, escaped, HasNoClose, Piece, Lexeme, Space, Comment, OpenComment, Spells}
 
--- the classes of first bytes, by the pieces that they can begin
+-- The classes of first bytes, by the pieces that can begin with them.
 pub data Start : Type 0 where
   AtName : Start
   AtNumber : Start
@@ -46,7 +47,7 @@ space_no_letter b h = grind (arith, nat_tests)
 space_no_digit : (b : ℕ) → is_space b ≡ true → is_digit b ≡ false
 space_no_digit b h = grind (arith, nat_tests)
 
--- the class of first bytes of each piece
+-- Returns the class of the first byte of a token that is an operator or punctuation.
 
 abbrev pub sign_start : Sign → Start
 sign_start signs.Slash = AtSlash
@@ -85,7 +86,7 @@ hexadecimal_starts (b ∷ c ∷ []) hexadecimal = absurd (true≢false (sym hexa
 hexadecimal_starts (b ∷ c ∷ d ∷ ds) hexadecimal =
     ap start_of (eqb-true b 48 (and_parts _ _ (and_parts _ _ hexadecimal).0).0)
 
--- a keyword has the spelling of a name
+-- Each keyword has the spelling of a name.
 pub is_name-keyword_text : (k : Keyword) → is_name (keyword_text k) ≡ true
 is_name-keyword_text words.Int = refl
 is_name-keyword_text words.Char = refl
@@ -164,7 +165,7 @@ space_starts b space =
     ∙ cond-false (is_digit b) _ _ (space_no_digit b space)
     ∙ cond-true (is_space b) _ _ space
 
--- the first byte of a piece is in the piece's class
+-- The first byte of a piece is in the class that `piece_start` assigns to this piece.
 pub piece_starts : (m : Piece) (bytes : List ℕ) → Spells m bytes → starts_as bytes (piece_start m)
 piece_starts (Lexeme (Identifier name)) bytes h = rw h.0 (name_starts name h.1)
 piece_starts (Lexeme (RegionName name)) bytes h = rw h.0 refl
@@ -177,7 +178,7 @@ piece_starts Space bytes h = rw h.1 (space_starts h.0 h.2)
 piece_starts Comment bytes h = ⊎_elim (λ line. rw line.1 refl) (λ block. rw block.1 refl) h
 piece_starts OpenComment bytes h = rw h.1 refl
 
--- the only piece that a byte string can spell
+-- The list of all keywords.
 
 abbrev all_keywords : List Keyword
 all_keywords =
@@ -195,7 +196,7 @@ abbrev sign_among : List Sign → List ℕ → Option Sign
 sign_among [] bytes = None
 sign_among (s ∷ ss) bytes = cond (bytes_eq (sign_text s) bytes) (Some s) (sign_among ss bytes)
 
--- true if `*/` occurs in the bytes
+-- Returns true if `*/` occurs in the bytes.
 abbrev pub has_close : List ℕ → Bool
 has_close [] = false
 has_close (b ∷ bs) = starts_with eqb (b ∷ bs) (codes "*/") || has_close bs
@@ -304,13 +305,13 @@ piece_of-sign_text signs.Colon = refl
 piece_of-sign_text signs.At = refl
 piece_of-sign_text signs.Question = refl
 
--- the piece that the bytes spell, by cases on the class of their first byte
+-- The piece that bytes spell is determined by cases on the class of their first byte.
 piece_of-at : (bytes : List ℕ) (s : Start) (P : Piece) → starts_as bytes s
     → ((b : ℕ) (bs : List ℕ) → bytes ≡ b ∷ bs → piece_at s b bs ≡ P) → piece_of bytes ≡ P
 piece_of-at [] s P start is = absurd start
 piece_of-at (b ∷ bs) s P start is = ap (λ t. piece_at t b bs) start ∙ is b bs refl
 
--- a name that is not a keyword is not found among the keywords
+-- A search for a name among the keywords fails if the name is not a keyword.
 keyword_among-fresh : (ks : List Keyword) (name : List ℕ) → ((k : Keyword) → name ≢ keyword_text k) → keyword_among ks name ≡ None
 keyword_among-fresh [] name fresh = refl
 keyword_among-fresh (k ∷ ks) name fresh =
@@ -327,12 +328,12 @@ decimal_no_hexadecimal (b ∷ c ∷ d ∷ ds) decimal =
     no_zero : (b : ℕ) → is_between 49 57 b ≡ true → eqb b 48 ≡ false
     no_zero b h = grind (arith, nat_tests)
 
--- `*/` is found if it occurs in the bytes
+-- If `*/` occurs in the bytes, the search finds it.
 has_close-within : (before after : List ℕ) → has_close (before ++ (codes "*/" ++ after)) ≡ true
 has_close-within [] after = refl
 has_close-within (b ∷ before) after = or_right _ _ (has_close-within before after)
 
--- `*/` is found only if it occurs in the bytes
+-- If the search finds `*/`, it occurs in the bytes.
 pub close_from_has_close : (bytes : List ℕ) → has_close bytes ≡ true → (before after : List ℕ) × (bytes ≡ before ++ (codes "*/" ++ after))
 close_from_has_close [] h = absurd (true≢false (sym h))
 close_from_has_close (b ∷ bs) h =
@@ -345,7 +346,7 @@ pub has_close-none : (bytes : List ℕ) → HasNoClose bytes → has_close bytes
 has_close-none bytes none =
     false_from_ne_true _ (λ h. let found = close_from_has_close bytes h in none found.0 found.1 found.2)
 
--- a byte string spells at most one piece
+-- Each byte string spells at most one piece (token, space or comment).
 spelled_piece : (m : Piece) (bytes : List ℕ) → Spells m bytes → piece_of bytes ≡ m
 spelled_piece (Lexeme (Identifier name)) bytes h =
     piece_of-at bytes AtName _ (piece_starts (Lexeme (Identifier name)) bytes h)

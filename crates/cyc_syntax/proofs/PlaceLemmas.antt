@@ -1,4 +1,4 @@
--- Lines and columns after one more byte.
+-- The line and the column of a position after one more byte.
 use Rattle.std.proofs.Common.{◌≡◌, ℕ, ◌+◌, ◌-◌, false, not, cond, eqb, List, [], ◌∷◌, ◌++◌, length, sym, ap, ◌∙◌, arith}
 use Rattle.std.specs.List.{suffix_len, prefix_len, count_by}
 use Rattle.std.proofs.lemmas.List.{length-drop, reverse-append}
@@ -8,7 +8,7 @@ use Rattle.cyc_syntax.specs.inside.Place.{IsAfter}
 use Rattle.cyc_syntax.specs.Spelling.{is_line_feed}
 use Rattle.cyc_syntax.specs.TokenRule.{line_after, column_after}
 
--- the column after some bytes is the number of bytes since the last line feed, plus one
+-- The column after some bytes is the number of bytes since the last line feed, plus one.
 column_is : (front : List ℕ) → column_after front ≡ suffix_len (λ b. not (is_line_feed b)) front + 1
 column_is front =
     let cut = length-drop (length front - suffix_len (λ b. not (is_line_feed b)) front) front in
@@ -18,7 +18,7 @@ column_is front =
 suffix_push : (front : List ℕ) (b : ℕ) → suffix_len (λ b. not (is_line_feed b)) (front ++ b ∷ []) ≡ cond (not (is_line_feed b)) (1 + suffix_len (λ b. not (is_line_feed b)) front) 0
 suffix_push front b = ap (prefix_len (λ b. not (is_line_feed b))) (reverse-append front (b ∷ []))
 
--- a line feed ends the line
+-- A line feed increases the line number by one.
 pub line_after-line_feed : (front : List ℕ) (b : ℕ) → b ≡ 10 → line_after (front ++ b ∷ []) ≡ line_after front + 1
 line_after-line_feed front b is = ap (λ n. n + 1) (sum_by_push (λ x. cond (is_line_feed x) 1 0) front b ∙ ap (λ c. count_by is_line_feed front + cond (eqb c 10) 1 0) is)
 
@@ -26,7 +26,7 @@ pub column_after-line_feed : (front : List ℕ) (b : ℕ) → b ≡ 10 → colum
 column_after-line_feed front b is =
     column_is (front ++ b ∷ []) ∙ ap (λ n. n + 1) (suffix_push front b ∙ ap (λ c. cond (not (eqb c 10)) (1 + suffix_len (λ b. not (is_line_feed b)) front) 0) is)
 
--- any other byte adds one to the column
+-- A byte other than a line feed leaves the line number unchanged and increases the column by one.
 pub line_after-other : (front : List ℕ) (b : ℕ) → eqb b 10 ≡ false → line_after (front ++ b ∷ []) ≡ line_after front
 line_after-other front b other =
     ap (λ n. n + 1) (sum_by_push (λ x. cond (is_line_feed x) 1 0) front b ∙ ap (λ c. count_by is_line_feed front + cond c 1 0) other ∙ omega arith)
@@ -37,7 +37,8 @@ column_after-other front b other =
     ∙ ap (λ n. n + 1) (suffix_push front b ∙ ap (λ c. cond (not c) (1 + suffix_len (λ b. not (is_line_feed b)) front) 0) other)
     ∙ omega (arith, column_is front)
 
--- a place of the code, advanced by one byte
+-- If the code advances a source position by one byte, it stays the position after the bytes read so
+-- far.
 pub after_line_feed : (place next : Span) (front : List ℕ) (b : ℕ) → b ≡ 10 → next.line ≡ place.line + 1 → next.column ≡ 1
     → IsAfter place front → IsAfter next (front ++ b ∷ [])
 after_line_feed place next front b is line column following = record {

@@ -1,4 +1,4 @@
--- Examples of the definitions on names and tokens, by computation.
+-- Examples of the definitions of names and tokens, proved by computation.
 use Rattle.std.specs.Prelude.{◌≡◌, true, false, Some, List, [], ◌∷◌, ◌++◌, codes, refl}
 use Rattle.cyc_syntax.specs.declared.tokens.Keyword.TheVariants as words
 use Rattle.cyc_syntax.specs.declared.tokens.Sign.TheVariants as signs
@@ -10,25 +10,25 @@ use Rattle.cyc_syntax.specs.TokenRule.{Part, line_after, column_after, tokens_of
 names : (is_name (codes "_x1") ≡ true) × (is_name (codes "1x") ≡ false)
 names = (refl, refl)
 
--- `08` and `0x` are not numbers
+-- Example: `0` is a decimal number, but `08` and `0x` are not numbers.
 numbers : (is_decimal (codes "0") ≡ true) × (is_decimal (codes "08") ≡ false) × (is_hexadecimal (codes "0x") ≡ false)
 numbers = (refl, refl, refl)
 
 values : (number_in 10 (codes "2147483648") ≡ 2147483648) × (number_in 16 (codes "1fA") ≡ 506)
 values = (refl, refl)
 
--- `\n` is a line feed
+-- Example: the escape sequence `\n` denotes a line feed.
 escapes : escaped 110 ≡ Some 10
 escapes = refl
 
 keyword : SpellsToken (Word words.RegionType) (codes "region_t")
 keyword = refl
 
--- the place after `ab`, a line feed and `c` is line 2, column 2
+-- Example: the position after `ab`, a line feed and `c` is line 2, column 2.
 places : (line_after (codes "ab" ++ (10 ∷ codes "c")) ≡ 2) × (column_after (codes "ab" ++ (10 ∷ codes "c")) ≡ 2)
 places = (refl, refl)
 
--- the parts of `int x;` and the tokens among them
+-- Example: the parts of the text `int x;`, and the tokens among these parts.
 parts : List Part
 parts =
     record { piece = Lexeme (Word words.Int); bytes = codes "int" }

@@ -1,6 +1,6 @@
--- The grammar: it relates a list of symbols to its syntax trees. `Yields` contains the productions; this file contains the conditions on
--- the parts of a tree, and defines when a yield spells a tree. (The grammar is the Cyclone manual's; its operator levels and the binding of
--- `else` are C's; the limits are this project's own choice.)
+-- The grammar relates a list of symbols to its syntax trees. `Yields` contains the productions of the grammar. The conditions on the parts
+-- of a tree, and the definition of when a yield spells a tree, are in this file. (The grammar is the Cyclone manual's; its operator levels
+-- and the binding of `else` are C's; the limits are this project's own choice.)
 use Rattle.std.specs.Prelude.{◌≡◌, ℕ, suc, ◌≤◌, ◌<◌, Bool, true, false, List, [], ◌∷◌, Option}
 use Rattle.std.specs.List.{AllByRecursion}
 use Rattle.std.specs.Option.{IfSome}
@@ -44,7 +44,7 @@ binary_level = 10
 abbrev pub assignment_level : ℕ
 assignment_level = 11
 
--- true if postfixes may follow the expression
+-- Returns true if a postfix operator may follow an expression of this form.
 abbrev pub is_primary : Expression → Bool
 is_primary (Number p n) = true
 is_primary (Character p c) = true
@@ -66,7 +66,8 @@ is_primary (Binary e os) = false
 is_primary (Assign a b) = false
 
 abbrev mutual
-  -- The expression is of this level or tighter, and each of its parts satisfies the condition of its production.
+  -- `IsExpression` says that an expression has at most this precedence level, and that each of its parts
+  -- satisfies the condition of its production.
   pub IsExpression : ℕ → Expression → Type 0
   IsExpression most (Number p n) = Unit {0}
   IsExpression most (Character p c) = Unit {0}
@@ -84,7 +85,8 @@ abbrev mutual
   IsExpression most (Prefixed p o e) = IsExpression unary_level e
   IsExpression most (New p i) = IsInitial i
   IsExpression most (RegionNew p h i) = IsExpression assignment_level h × IsInitial i
-  -- the operators of a chain all have one level, and its operands are of tighter levels
+  -- The operators of a chain all have one precedence level, and its operands have lower levels,
+  -- which bind tighter.
   IsExpression most (Binary e os) = (below : ℕ) × (below < most) × (below < binary_level) × IsExpression below e × IsSomeOperation os × AreOperations below os
   IsExpression most (Assign a b) = (assignment_level ≤ most) × IsExpression binary_level a × IsExpression assignment_level b
 
@@ -106,7 +108,7 @@ abbrev mutual
   AreOperations below NoOperations = Unit {0}
   AreOperations below (ThenOperation o p e os) = (level o ≡ suc below) × IsExpression below e × AreOperations below os
 
-  -- the list has at least one expression, and each is well-formed
+  -- `IsSomeExpression` says that a list has at least one expression, and that each is well-formed.
   pub IsSomeExpression : Expressions → Type 0
   IsSomeExpression NoExpressions = ⊥
   IsSomeExpression (MoreExpressions e es) = Unit {0}
@@ -125,7 +127,8 @@ abbrev mutual
 abbrev pub IsExpressionOrNone : Option Expression → Type 0
 IsExpressionOrNone v = IfSome v (λ e. IsExpression assignment_level e)
 
--- True if the statement ends in an `if` without `else`: an `else` after it would belong to that `if`.
+-- Returns true if a statement ends in an `if` without an `else`. An `else` after it would belong to
+-- this `if`.
 abbrev pub wants_else : Statement → Bool
 wants_else (Block b) = false
 wants_else (Labelled l b) = false
@@ -149,7 +152,8 @@ abbrev mutual
   IsStatement (Evaluate e) = IsExpression assignment_level e
   IsStatement (Swap a b) = IsExpression unary_level a × IsExpression unary_level b
   IsStatement (If p c s) = IsExpression assignment_level c × IsStatement s
-  -- an `else` belongs to the nearest `if`, so the first branch must not end in an `if` without `else`
+  -- An `else` belongs to the nearest `if`, so the first branch of an `if` with `else` must not end in
+  -- an `if` without `else`.
   IsStatement (IfElse p c s t) = IsExpression assignment_level c × IsStatement s × (wants_else s ≡ false) × IsStatement t
   IsStatement (While p c s) = IsExpression assignment_level c × IsStatement s
   IsStatement (Return p v) = IsExpressionOrNone v
@@ -184,7 +188,7 @@ abbrev mutual
 
 -- ---- declarations
 
--- the list has at least one expression, and each is well-formed
+-- `IsNonempty` says that a list has at least one element.
 abbrev pub IsNonempty : {A : Type 0} → List A → Type 0
 IsNonempty [] = ⊥
 IsNonempty (x ∷ xs) = Unit {0}
@@ -201,7 +205,8 @@ AreDeclarations (d ∷ ds) = IsDeclaration d × AreDeclarations ds
 
 -- ---- when symbols spell a tree
 
--- the symbol is the token of the leaf, at the leaf's place if it has one
+-- `IsLeaf` says that a symbol is the token of a leaf, at the leaf's source position if the leaf has
+-- one.
 pub record IsLeaf (leaf : Leaf) (symbol : Symbol) : Type 0 where
   pub terminal : symbol.terminal ≡ leaf.terminal
   pub place : IfSome leaf.place (λ p. symbol.place ≡ p)
@@ -212,7 +217,8 @@ IsSpelled [] (symbol ∷ symbols) = ⊥
 IsSpelled (leaf ∷ leaves) [] = ⊥
 IsSpelled (leaf ∷ leaves) (symbol ∷ symbols) = IsLeaf leaf symbol × IsSpelled leaves symbols
 
--- THE GRAMMAR: this tree, a program of at least one declaration, is a parse of the symbols.
+-- THE GRAMMAR: `HasTree` says that this tree, a program of at least one declaration, is a parse of
+-- these symbols.
 pub record HasTree (symbols : List Symbol) (tree : List Declaration) : Type 0 where
   pub nonempty : IsNonempty tree
   pub formed : AreDeclarations tree

@@ -1,6 +1,6 @@
--- The byte strings that are tokens, spaces and comments. Cyclone's lexical syntax is C's, plus a backquote before region names, the pointer
--- marks `@` and `?`, and the swap `:=:` (the Cyclone manual's grammar). This project's own choice: ASCII only, no floating, octal or
--- suffixed numbers, no strings, six escapes, and the keywords of its subset.
+-- The byte strings that are tokens, spaces and comments. Cyclone's lexical syntax is C's, with a backquote before region names, the pointer
+-- signs `@` and `?`, and the swap operator `:=:` added (the Cyclone manual's grammar). The restrictions of Cyclone's lexical syntax are
+-- this project's own choice: ASCII only, no floating, octal or suffixed numbers, no strings, six escapes, and the keywords of its subset.
 use Rattle.std.specs.Prelude.{◌≡◌, ◌≢◌, ℕ, ◌+◌, ◌-◌, ◌*◌, Bool, false, not, ◌&&◌, ◌||◌, ◌==◌, nat_le, if◌then◌else◌, IsTrue, Option, Some, None, ◌⊎◌, List, [], ◌∷◌, ◌++◌, drop, fold, codes}
 use Rattle.std.specs.List.{list_all, list_any}
 use Rattle.cyc_syntax.specs.declared.tokens.Keyword.{Keyword}
@@ -18,19 +18,19 @@ is_between low high b = nat_le low b && nat_le b high
 abbrev pub is_digit : ℕ → Bool
 is_digit b = is_between 48 57 b
 
--- `a` to `f`, `A` to `F`, or a digit
+-- Returns true if a byte is a hexadecimal digit: `a` to `f`, `A` to `F`, or a decimal digit.
 abbrev pub is_hex_digit : ℕ → Bool
 is_hex_digit b = is_digit b || is_between 97 102 b || is_between 65 70 b
 
--- a letter or `_`
+-- Returns true if a byte is a letter or `_`.
 abbrev pub is_letter : ℕ → Bool
 is_letter b = is_between 97 122 b || is_between 65 90 b || b == 95
 
--- a byte that may follow the first byte of a name
+-- Returns true if a byte may follow the first byte of a name.
 abbrev pub is_name_byte : ℕ → Bool
 is_name_byte b = is_letter b || is_digit b
 
--- tab, line feed, carriage return, space
+-- Returns true if a byte is a space: tab, line feed, carriage return or blank.
 abbrev pub is_space : ℕ → Bool
 is_space b = b == 9 || b == 10 || b == 13 || b == 32
 
@@ -113,18 +113,20 @@ sign_text signs.Question = codes "?"
 
 -- ---- names, numbers and characters
 
--- a letter or `_`, then letters, digits and `_`
+-- Returns true if bytes form a name: a letter or `_`, then letters, digits and `_`.
 abbrev pub is_name : List ℕ → Bool
 is_name [] = false
 is_name (b ∷ bs) = is_letter b && list_all is_name_byte bs
 
--- `0`, or a digit 1 to 9 followed by digits
+-- Returns true if bytes form a decimal number: one digit, or a digit from 1 to 9 followed by
+-- digits.
 abbrev pub is_decimal : List ℕ → Bool
 is_decimal [] = false
 is_decimal (b ∷ []) = is_digit b
 is_decimal (b ∷ c ∷ bs) = is_between 49 57 b && list_all is_digit (c ∷ bs)
 
--- `0x` or `0X`, followed by at least one hexadecimal digit
+-- Returns true if bytes form a hexadecimal number: `0x` or `0X`, followed by at least one
+-- hexadecimal digit.
 abbrev pub is_hexadecimal : List ℕ → Bool
 is_hexadecimal [] = false
 is_hexadecimal (b ∷ []) = false
@@ -134,15 +136,17 @@ is_hexadecimal (b ∷ c ∷ d ∷ ds) = b == 48 && (c == 120 || c == 88) && list
 abbrev pub digit_value : ℕ → ℕ
 digit_value b = if is_digit b then b - 48 else (if is_between 97 102 b then b - 87 else b - 55)
 
--- the value of the digits in a base, the first digit the highest
+-- Returns the value of digits in a number base; the first digit is the highest.
 abbrev pub number_in : ℕ → List ℕ → ℕ
 number_in base digits = fold (λ n d. n * base + digit_value d) 0 digits
 
--- a byte that may appear unescaped in a character constant: printable, no quote and no backslash
+-- Returns true if a byte may appear unescaped in a character constant: it is printable, and neither
+-- a quote nor a backslash.
 abbrev pub is_plain : ℕ → Bool
 is_plain b = is_between 32 126 b && not (b == 39) && not (b == 92)
 
--- the byte that an escape denotes, given the byte after the backslash: line feed, tab, carriage return, zero, backslash or quote
+-- Returns the byte that an escape sequence denotes, for the byte after the backslash: line feed, tab, carriage return, zero,
+-- backslash or quote.
 abbrev pub escaped : ℕ → Option ℕ
 escaped b =
     if b == 110 then Some 10
@@ -153,44 +157,46 @@ escaped b =
     else (if b == 39 then Some 39
     else None)))))
 
--- the byte string spells a token of this kind
+-- `SpellsToken` says that the byte string spells a token of this kind.
 
 abbrev pub SpellsToken : Kind → List ℕ → Type 0
 SpellsToken (Identifier name) bytes = (bytes ≡ name) × IsTrue (is_name name) × ((k : Keyword) → name ≢ keyword_text k)
--- a region name is a backquote and a name, which may also be a keyword
+-- A region name is spelled by a backquote and a name, which may also be a keyword.
 SpellsToken (RegionName name) bytes = (bytes ≡ 96 ∷ name) × IsTrue (is_name name)
 SpellsToken (Number n) bytes =
     (IsTrue (is_decimal bytes) × (n ≡ number_in 10 bytes)) ⊎ (IsTrue (is_hexadecimal bytes) × (n ≡ number_in 16 (drop 2 bytes)))
--- a character constant is one byte or an escape between quotes
+-- A character constant is spelled by one byte or an escape sequence between quotes.
 SpellsToken (Character c) bytes =
     ((bytes ≡ 39 ∷ c ∷ 39 ∷ []) × IsTrue (is_plain c)) ⊎ ((b : ℕ) × (bytes ≡ 39 ∷ 92 ∷ b ∷ 39 ∷ []) × (escaped b ≡ Some c))
 SpellsToken (Word k) bytes = bytes ≡ keyword_text k
 SpellsToken (Mark s) bytes = bytes ≡ sign_text s
 
--- `*/` does not occur in the bytes
+-- `HasNoClose` says that `*/` does not occur in the bytes.
 abbrev pub HasNoClose : List ℕ → Type 0
 HasNoClose bytes = (before after : List ℕ) → bytes ≢ before ++ (codes "*/" ++ after)
 
--- a line comment is `//` without a line feed
+-- `IsLineComment` says that bytes are a line comment: `//` and bytes without a line feed.
 abbrev pub IsLineComment : List ℕ → Type 0
 IsLineComment bytes = (body : List ℕ) × (bytes ≡ codes "//" ++ body) × (list_any is_line_feed body ≡ false)
 
--- A block comment is `/*` up to the first `*/`: comments do not nest, and `/*/` is not closed.
+-- `IsBlockComment` says that bytes are a block comment, from `/*` up to the first `*/`. Block
+-- comments do not nest, and `/*/` is not closed.
 abbrev pub IsBlockComment : List ℕ → Type 0
 IsBlockComment bytes = (body : List ℕ) × (bytes ≡ codes "/*" ++ (body ++ codes "*/")) × HasNoClose (body ++ codes "*")
 
--- an open comment is `/*` without its end
+-- `IsOpenComment` says that bytes begin with `/*` and contain no `*/` that closes the comment.
 abbrev pub IsOpenComment : List ℕ → Type 0
 IsOpenComment bytes = (body : List ℕ) × (bytes ≡ codes "/*" ++ body) × HasNoClose body
 
--- The pieces of a text. An unclosed comment is a piece, so `/*` is never read as two signs. A text that contains one has no list of tokens.
+-- The pieces of a text: tokens, spaces and comments. An unclosed comment is a piece, so `/*` is never read as two operators. A text that
+-- contains an unclosed comment has no list of tokens.
 pub data Piece : Type 0 where
   Lexeme : Kind → Piece
   Space : Piece
   Comment : Piece
   OpenComment : Piece
 
--- the byte string spells this piece
+-- `Spells` says that the byte string spells this piece (a token, a space or a comment).
 abbrev pub Spells : Piece → List ℕ → Type 0
 Spells (Lexeme k) bytes = SpellsToken k bytes
 Spells Space bytes = (b : ℕ) × (bytes ≡ b ∷ []) × IsTrue (is_space b)

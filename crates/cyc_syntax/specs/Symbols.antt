@@ -1,4 +1,4 @@
--- The symbols that the grammar reads: tokens whose names are numbers. The distinct identifiers and region names of the program are listed
+-- The symbols that the grammar reads: tokens whose names are numbers. The distinct identifiers and region names of a program are listed
 -- in the order of their first occurrence. The number of a name is its index in this list. The numbering of names is this project's own
 -- choice.
 use Rattle.std.specs.Prelude.{ℕ, List, [], ◌∷◌, map}
@@ -9,12 +9,12 @@ use Rattle.cyc_syntax.specs.Names.{distinct_texts, number_of}
 use Rattle.cyc_syntax.specs.Tokens.{Kind, Token}
 use Rattle.cyc_syntax.specs.Tokens as kinds
 
--- a place in the text: line and column from 1; columns count bytes
+-- A source position: line and column from 1; columns count bytes.
 pub record Place : Type 0 where
   pub line : ℕ
   pub column : ℕ
 
--- the place of a span of the code
+-- Returns the source position of a span of the code.
 abbrev pub place_of_span : Span → Place
 place_of_span s = record { line = s.line; column = s.column }
 
@@ -32,7 +32,7 @@ pub record Symbol : Type 0 where
 
 -- ---- from tokens to symbols
 
--- the texts of the names among the tokens, in order
+-- Returns the texts of the names among the tokens, in order.
 abbrev pub name_texts : Kind → List (List ℕ) → List (List ℕ)
 name_texts (kinds.Identifier text) texts = text ∷ texts
 name_texts (kinds.RegionName text) texts = text ∷ texts

@@ -1,20 +1,20 @@
 -- Abstract syntax trees as mathematical values, for the grammar and all later definitions. A name in a tree is a number. Lists of nodes are
--- chains of their own constructors. (The form of trees is this project's own choice; their meaning is that of the Cyclone manual's
--- grammar.)
+-- linked lists with constructors of their own. (The form of trees is this project's own choice; their meaning is that of the Cyclone
+-- manual's grammar.)
 use Rattle.std.specs.Prelude.{ℕ, Bool, List, Option}
 use Rattle.cyc_syntax.specs.declared.tree.PointerKind.{PointerKind}
 use Rattle.cyc_syntax.specs.declared.tree.PrefixOperator.{PrefixOperator}
 use Rattle.cyc_syntax.specs.declared.tree.BinaryOperator.{BinaryOperator}
 use Rattle.cyc_syntax.specs.Symbols.{Place}
 
--- an identifier or a region name, with its place
+-- An identifier or a region name, with its source position.
 pub record Named : Type 0 where
   pub name : ℕ
   pub place : Place
 
 -- ---- types
 
--- a pointer mark, and the region written after it
+-- A pointer sign, and the region written after it.
 pub record Pointer : Type 0 where
   pub kind : PointerKind
   pub region : Option Named
@@ -22,7 +22,7 @@ pub record Pointer : Type 0 where
 pub data BaseType : Type 0 where
   Int : BaseType
   Char : BaseType
-  -- the region arguments may be omitted; then the list is empty
+  -- A struct type with its region arguments; if they are omitted, the list is empty.
   Struct : Named → List Named → BaseType
   Handle : Named → BaseType
   Key : Named → BaseType
@@ -30,7 +30,7 @@ pub data BaseType : Type 0 where
 pub record WrittenType : Type 0 where
   pub place : Place
   pub base : BaseType
-  -- pointer marks from left to right; the last mark is the outermost pointer
+  -- The pointer signs of a type from left to right; the last sign is that of the outermost pointer.
   pub marks : List Pointer
 
 -- ---- expressions
@@ -53,22 +53,22 @@ mutual
     FreeUnique : Place → Expression → Expression
     -- the call `free_ukey`
     FreeKey : Place → Named → Expression
-    -- an operand followed by postfixes
+    -- An operand followed by postfix operators.
     Chained : Expression → Postfixes → Expression
     Prefixed : Place → PrefixOperator → Expression → Expression
     New : Place → Initial → Expression
     -- the allocation `rnew`
     RegionNew : Place → Expression → Initial → Expression
-    -- operands joined by operators of one level, which associate to the left
+    -- Operands joined by operators of one precedence level, which associate to the left.
     Binary : Expression → Operations → Expression
     Assign : Expression → Expression → Expression
 
-  -- the initial contents of the object that `new` or `rnew` allocates
+  -- The initial contents of the object that `new` or `rnew` allocates.
   pub data Initial : Type 0 where
     Plain : Expression → Initial
-    -- a struct, its region arguments, and the values of its fields
+    -- A struct initializer: the struct, its region arguments, and the values of its fields.
     Fields : Named → List Named → Expressions → Initial
-    -- the array initializer `{for variable < length : element}`
+    -- The array initializer `{for variable < length : element}`.
     Array : Place → (variable : Named) → (length : Expression) → (element : Expression) → Initial
 
   pub data Expressions : Type 0 where
@@ -80,7 +80,7 @@ mutual
     ThenIndex : Expression → Postfixes → Postfixes
     ThenField : Named → Postfixes → Postfixes
 
-  -- each operator of a chain, with its place and its right operand
+  -- Each operator of a chain, with its source position and its right operand.
   pub data Operations : Type 0 where
     NoOperations : Operations
     ThenOperation : BinaryOperator → Place → Expression → Operations → Operations
@@ -103,7 +103,7 @@ mutual
     Throw : Place → (exception : Named) → Option Expression → Statement
     Try : Place → Statement → Clauses → Statement
 
-  -- a block: its items, and the places of its braces
+  -- A block: its items, and the source positions of its braces.
   pub data Body : Type 0 where
     Braces : (start : Place) → Items → (end : Place) → Body
 
@@ -114,12 +114,12 @@ mutual
   pub data Item : Type 0 where
     Execute : Statement → Item
     Local : WrittenType → Named → Option Expression → Item
-    -- a lexical region with its handle, or an opened dynamic region with the key that opens it
+    -- A lexical region with its handle, or an opened dynamic region with the key that opens it.
     Region : (region : Named) → (handle : Named) → (key : Option Named) → Item
     Alias : (region : Named) → WrittenType → (variable : Named) → (source : Named) → Item
     DynamicRegion : (region : Named) → (key : Named) → Item
 
-  -- the clauses of a catch; only the last may be the default
+  -- The clauses of a `catch`; only the last one may be the default clause.
   pub data Clauses : Type 0 where
     NoClauses : Clauses
     Default : Items → Clauses
@@ -127,7 +127,7 @@ mutual
 
 -- ---- declarations
 
--- a field of a struct, or a parameter
+-- A field of a struct, or a parameter of a function.
 pub record Member : Type 0 where
   pub of_type : WrittenType
   pub name : Named
@@ -136,14 +136,14 @@ pub record Constructor : Type 0 where
   pub name : Named
   pub has_int : Bool
 
--- the initial value of a global variable, with the place of its first token
+-- The initial value of a global variable, with the source position of its first token.
 pub data GlobalValue : Type 0 where
   Positive : Place → ℕ → GlobalValue
   Negative : Place → ℕ → GlobalValue
   Byte : Place → ℕ → GlobalValue
   NullPointer : Place → GlobalValue
 
--- an outlives constraint: the first region outlives the second
+-- An outlives constraint: the first region outlives the second one.
 pub record Constraint : Type 0 where
   pub longer : Named
   pub shorter : Named
@@ -154,7 +154,7 @@ pub data ParameterList : Type 0 where
 
 pub record Parameters : Type 0 where
   pub list : ParameterList
-  -- `None` if the effect is omitted, which differs from an empty effect
+  -- The effect of a function; `None` if it is omitted, which differs from an empty effect.
   pub effect : Option (List Named)
   pub constraints : List Constraint
 
@@ -162,10 +162,10 @@ pub data Declaration : Type 0 where
   StructType : Named → (regions : List Named) → (fields : List Member) → Declaration
   Exceptions : List Constructor → Declaration
   Global : WrittenType → Named → Option GlobalValue → Declaration
-  -- a void function has no result
+  -- A function definition; a `void` function has no result.
   Function : (result : Option WrittenType) → Named → Parameters → Body → Declaration
 
--- a program is the list of its declarations
+-- A program is the list of its declarations.
 
 -- ---- the place of an expression: that of its first token
 

@@ -1,4 +1,4 @@
--- The productions of the grammar. Each case below is one production: it gives the leaves that spell a tree, from left to right (the yield
+-- The productions of the grammar. Each case below is one production: it lists the leaves that spell a tree, from left to right (the yield
 -- of the tree). The grammar is that of the Cyclone manual, reduced to this project's subset. The form of outlives constraints is this
 -- project's own choice.
 --
@@ -27,7 +27,8 @@ use Rattle.cyc_syntax.specs.Trees.{Chained, Prefixed, New, RegionNew, Binary, As
 use Rattle.cyc_syntax.specs.Trees.{Statement, Block, Labelled, Empty, Evaluate, Swap, If, IfElse, While, Return, Break, Continue, Throw, Try, Body, Braces, Items, NoItems, MoreItems, Item, Execute, Local, Region, Alias, DynamicRegion, Clauses}
 use Rattle.cyc_syntax.specs.Trees.{NoClauses, Default, Case, Member, Constructor, GlobalValue, Positive, Negative, Byte, NullPointer, Constraint, ParameterList, Void, Listed, Parameters, Declaration, StructType, Exceptions, Global, Function}
 
--- A leaf of a tree. A leaf has the place of its token if the tree stores that place.
+-- A leaf of a syntax tree. A leaf has the source position of its token if the tree stores this
+-- position.
 pub record Leaf : Type 0 where
   pub terminal : Terminal
   pub place : Option Place
@@ -43,7 +44,7 @@ infixr 10 ◌⨾◌
 abbrev pub ◌⨾◌ : Yield → Yield → Yield
 first ⨾ second = first ++ second
 
--- a token at a nesting depth, whose place the tree stores or does not store
+-- Returns the yield of one token at a nesting depth, whose source position the tree stores.
 abbrev pub at : ℕ → Terminal → Place → Yield
 at d t p = record { terminal = t; place = Some p; nesting = d; item = 0 } ∷ []
 
@@ -59,7 +60,7 @@ identifier d x = at d (Identifier x.name) x.place
 abbrev pub region_name : ℕ → Named → Yield
 region_name d r = at d (RegionName r.name) r.place
 
--- the yield with its first leaf marked as the item of this number
+-- Returns the yield whose first leaf has this item number.
 abbrev pub item_number : ℕ → Yield → Yield
 item_number i [] = []
 item_number i (leaf ∷ leaves) = record leaf { item = i } ∷ leaves
@@ -70,17 +71,17 @@ optional yield (Some x) = yield x
 
 -- ---- lists with numbered items
 
--- the items one after the other, numbered from this number
+-- Returns the yields of the items one after the other, numbered from `i` on.
 abbrev pub each : {A : Type 0} → (A → Yield) → ℕ → List A → Yield
 each yield i [] = []
 each yield i (x ∷ xs) = item_number i (yield x) ⨾ each yield (suc i) xs
 
--- the items, each preceded by a comma, numbered from this number
+-- Returns the yields of the items, each preceded by a comma, numbered from `i` on.
 abbrev pub more : {A : Type 0} → (A → Yield) → ℕ → ℕ → List A → Yield
 more yield d i [] = []
 more yield d i (x ∷ xs) = sign d signs.Comma ⨾ item_number i (yield x) ⨾ more yield d (suc i) xs
 
--- the items separated by commas
+-- Returns the yields of the items, separated by commas.
 abbrev pub separated : {A : Type 0} → (A → Yield) → ℕ → List A → Yield
 separated yield d [] = []
 separated yield d (x ∷ xs) = item_number 1 (yield x) ⨾ more yield d 2 xs
@@ -124,7 +125,7 @@ operator_sign operators.Remainder = signs.Percent
 abbrev pub regions : ℕ → List Named → Yield
 regions d rs = separated (region_name d) d rs
 
--- region arguments or parameters, which may be omitted
+-- Returns the yield of region arguments or parameters; it is empty if they are omitted.
 abbrev pub region_list : ℕ → List Named → Yield
 region_list d [] = []
 region_list d (r ∷ rs) = sign d signs.Less ⨾ regions d (r ∷ rs) ⨾ sign d signs.Greater
@@ -173,7 +174,7 @@ abbrev mutual
   initial d (Fields s rs es) = identifier d s ⨾ region_list d rs ⨾ sign d signs.LeftBrace ⨾ values (suc d) es ⨾ sign (suc d) signs.RightBrace
   initial d (Array p x n e) = sign d signs.LeftBrace ⨾ at (suc d) (Word words.For) p ⨾ identifier (suc d) x ⨾ sign (suc d) signs.Less ⨾ expression (suc d) n ⨾ sign (suc d) signs.Colon ⨾ expression (suc d) e ⨾ sign (suc d) signs.RightBrace
 
-  -- the values of a struct's fields, which no limit counts
+  -- Returns the yield of the values of a struct's fields, which no limit counts.
   pub values : ℕ → Expressions → Yield
   values d NoExpressions = []
   values d (MoreExpressions e es) = expression d e ⨾ more_values d es
@@ -201,19 +202,19 @@ abbrev mutual
 
 -- ---- statements
 
--- `= value`, the initializer of a local variable
+-- Returns the yield of `= value`, the initializer of a local variable.
 abbrev pub given : ℕ → Expression → Yield
 given d e = sign d signs.Assign ⨾ expression (suc d) e
 
--- `= open(key)`, which opens a dynamic region
+-- Returns the yield of `= open(key)`, which opens a dynamic region.
 abbrev pub opened : ℕ → Named → Yield
 opened d k = sign d signs.Assign ⨾ word (suc d) words.Open ⨾ sign (suc d) signs.LeftParen ⨾ identifier (suc (suc d)) k ⨾ sign (suc (suc d)) signs.RightParen
 
--- `(value)`, the argument of a thrown exception
+-- Returns the yield of `(value)`, the argument of a thrown exception.
 abbrev pub thrown : ℕ → Expression → Yield
 thrown d e = sign d signs.LeftParen ⨾ expression (suc d) e ⨾ sign (suc d) signs.RightParen
 
--- `(variable)`, the parameter of a caught exception
+-- Returns the yield of `(variable)`, the parameter of a caught exception.
 abbrev pub caught : ℕ → Named → Yield
 caught d x = sign d signs.LeftParen ⨾ identifier (suc d) x ⨾ sign (suc d) signs.RightParen
 
@@ -261,7 +262,7 @@ member d m = written_type d m.of_type ⨾ identifier d m.name
 abbrev pub field : ℕ → Member → Yield
 field d m = member d m ⨾ sign d signs.Semicolon
 
--- `(int)`, the parameter of an exception constructor
+-- Returns the yield of `(int)`, the parameter of an exception constructor.
 abbrev pub has_int : ℕ → Bool → Yield
 has_int d false = []
 has_int d true = sign d signs.LeftParen ⨾ word (suc d) words.Int ⨾ sign (suc d) signs.RightParen
@@ -269,7 +270,8 @@ has_int d true = sign d signs.LeftParen ⨾ word (suc d) words.Int ⨾ sign (suc
 abbrev pub constructor : ℕ → Constructor → Yield
 constructor d c = identifier d c.name ⨾ has_int d c.has_int ⨾ sign d signs.Semicolon
 
--- a minus sign before the number counts as a prefix operator for the nesting
+-- A minus sign before the number increases the nesting of a global's initial value, like a prefix
+-- operator.
 abbrev pub global_value : ℕ → GlobalValue → Yield
 global_value d (Positive p n) = sign d signs.Assign ⨾ at (suc d) (terminals.Number n) p
 global_value d (Negative p n) = sign d signs.Assign ⨾ at (suc d) (Mark signs.Minus) p ⨾ record { terminal = terminals.Number n; place = None; nesting = suc (suc d); item = 0 } ∷ []

@@ -1,7 +1,7 @@
--- places of the code
+-- source positions in the code
 pub mod Place
--- the index of names by their keys
+-- the index that maps names to numbers by their keys
 pub mod NameIndex
 pub mod Weight
--- the trees of the code, viewed as pure trees
+-- the syntax trees of the code, viewed as mathematical trees
 pub mod TreeView

@@ -1,4 +1,4 @@
-//! Interning: names as numbers.
+//! Interns names: it represents each distinct name by a number.
 ghost use Rattle.std.specs.Prelude.{◌≡◌, ◌<◌, List, [], ◌∷◌, ◌++◌, false, length, slice_get, Some, is_some, IfSome, IfNone, IsTrue, IsOk, IfOk, OnOk, OnErr};
 ghost use Rattle.cyc_syntax.specs.Names.{is_among, with_text, number_of};
 ghost use Rattle.cyc_syntax.specs.inside.NameIndex as index;
@@ -7,21 +7,22 @@ use std::alloc::{AllocError, Global};
 use std::collections::BTreeMap;
 use std::marker::Model;
 
-/// A name: the number of its text in the `Names` that interned it.
+/// A name, represented by the number of its text in the `Names` that interned it.
 #[derive(Clone, Copy, Debug, PartialEq, Eq)]
 pub struct Name {
     pub number: usize,
 }
 
-/// The interned texts, each once, in the order of their first occurrence. A text's number is its index, from 0.
-// A text is looked up by its key, a number. The author of a program may choose many names with equal keys. Both lookups use ordered maps:
-// each lookup takes logarithmic time, whatever names the author of a program chooses.
+/// The interned texts, each once, in the order of their first occurrence. The number of a text is its index,
+/// from 0.
+// A text is looked up by its key, a number. The author of a program may choose many names with equal keys. Both lookups, by key and by
+// text, use ordered maps, so each takes logarithmic time, whatever names the author chooses.
 #[derive(Drop)]
 pub struct Names {
     texts: Vec<Vec<u8>>,
-    /// Maps a key to the number of the first text with that key.
+    /// Maps a key to the number of the first text with this key.
     firsts: BTreeMap<u64, usize>,
-    /// Maps each other text (one whose key an earlier text has) to its number.
+    /// Maps each text whose key an earlier text has to its number.
     others: BTreeMap<Vec<u8>, usize>,
 }
 
@@ -36,7 +37,8 @@ impl Model for Names {
     ghost invariant = { λ n. IsIndexOf (map (λ v. v.items) n.texts.items) (first_in n.firsts) (other_in n.others) };
 }
 
-/// Returns the key of a text: its bytes as the digits of a number, modulo 2^64. Texts of up to seven bytes have distinct keys.
+/// Returns the key of a text: its bytes as the digits of a number, modulo 2^64. Texts of at most seven bytes have distinct
+/// keys.
 fn key_of(text: &[u8]) -> u64
     ensures { result ≡ index.key_of text.now }
 {
@@ -48,7 +50,8 @@ fn key_of(text: &[u8]) -> u64
 }
 
 impl Names {
-    /// Returns an empty set of names. Nothing is allocated before the first name.
+    /// Returns an empty set of names. The empty set allocates no memory before the first name is
+    /// interned.
     pub fn new(alloc: Global) -> Result<Names, AllocError>
         ensures empty { IfOk result (λ names. names ≡ []) }
         ensures succeeds { IsOk result }
@@ -63,13 +66,13 @@ impl Names {
         })
     }
 
-    /// Returns the name of a text: equal texts have equal names.
+    /// Returns the name of a text, and interns the text if it is new. Equal texts have equal names.
     pub fn intern(&mut self, text: &[u8]) -> Result<Name, AllocError>
         ensures texts { OnOk result (self.new ≡ with_text self.old text.now) }
         ensures number { IfOk result (λ name. name.number ≡ number_of self.new text.now) }
         ensures given { IfOk result (λ name. slice_get self.new name.number ≡ Some text.now) }
         ensures unchanged { OnErr result (self.new ≡ self.old) }
-        // Only a new text needs an allocation.
+        // Interning fails only if the text is new, since only a new text needs an allocation.
         ensures known { IsTrue (is_among text.now self.old) → IsOk result }
     {
         if let Some(number) = self.number(text) {
@@ -79,7 +82,7 @@ impl Names {
         Ok(Name { number })
     }
 
-    /// Adds a text that has no number yet, and returns its new number.
+    /// Appends a text that has no number yet, and returns its number.
     fn add(&mut self, text: &[u8]) -> Result<usize, AllocError>
         requires { is_among text.now self.old ≡ false }
         ensures texts { OnOk result (self.new ≡ self.old ++ text.now ∷ []) }
@@ -100,7 +103,7 @@ impl Names {
         Ok(number)
     }
 
-    /// Returns the number of a text, if it has one.
+    /// Returns the number of a text, or `None` if it was not interned.
     fn number(&self, text: &[u8]) -> Option<usize>
         ensures { result ≡ index.number_if self.now text.now }
     {
@@ -116,14 +119,14 @@ impl Names {
         self.others.get(text).copied()
     }
 
-    /// Returns the number of names, which is the number of the next new text.
+    /// Returns the number of interned names. The next new text gets this number.
     pub fn len(&self) -> usize
         ensures { result ≡ length self.now }
     {
         self.texts.len()
     }
 
-    /// Returns the name of a text, if it has one. Looking up a text interns nothing.
+    /// Returns the name of a text, or `None` if it was not interned. The lookup interns nothing.
     pub fn find(&self, text: &[u8]) -> Option<Name>
         ensures found { is_some result ≡ is_among text.now self.now }
         ensures number { IfSome result (λ name. name.number ≡ number_of self.now text.now) }
@@ -135,7 +138,7 @@ impl Names {
         }
     }
 
-    /// Returns the text of a name that these names interned.
+    /// Returns the text of a name that was interned in this `Names`.
     pub fn text(&self, name: Name) -> &[u8]
         requires { name.number < length self.now }
         ensures { slice_get self.now name.number ≡ Some result.now }

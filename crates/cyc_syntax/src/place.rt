@@ -1,10 +1,10 @@
-//! Places of a text.
+//! Computes source positions (line and column) in a text.
 ghost use Rattle.std.specs.Prelude.{◌≡◌, ℕ, ◌+◌, ◌^◌, ◌<◌, List, ◌++◌, length};
 ghost use Rattle.cyc_syntax.specs.inside.Place.{IsAfter};
 
 use cyc_words::Span;
 
-/// Returns the place after some bytes, from the place before them.
+/// Returns the source position after some bytes, from the position before them.
 pub fn place_after(place: Span, bytes: &[u8]) -> Span
     requires line { place.line + length bytes.now < 2 ^ 32 }
     requires column { place.column + length bytes.now < 2 ^ 32 }

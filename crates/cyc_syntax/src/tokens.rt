@@ -1,8 +1,8 @@
-//! Tokens, and the place of each in its text.
+//! Tokens, with the source position of each in its text.
 
 use cyc_words::Span;
 
-/// A token. A token does not store its text: it is spelled by the bytes `start..end` of the text that it was read from.
+/// A token. A token does not store its text: the bytes `start..end` of the source text spell it.
 #[derive(Clone, Copy, Debug)]
 pub struct Token {
     pub kind: TokenKind,
@@ -11,8 +11,8 @@ pub struct Token {
     pub end: usize,
 }
 
-/// The kind of a token. An identifier and a region name are spelled by the bytes of the token. The bytes of a region name begin with a
-/// backquote. A number and a character constant carry their value.
+/// The kind of a token. The bytes of the token spell an identifier or a region name. The bytes of a region name begin with a
+/// backquote. A number and a character constant contain their value.
 #[derive(Clone, Copy, Debug, PartialEq, Eq)]
 pub enum TokenKind {
     Identifier,
@@ -71,7 +71,7 @@ pub enum Keyword {
     HeapRegion,
 }
 
-/// The signs: operators, brackets and separators.
+/// The tokens that are operators, brackets or separators.
 #[derive(Clone, Copy, Debug, PartialEq, Eq)]
 pub enum Sign {
     /// `:=:`

@@ -1,13 +1,13 @@
-//! Abstract syntax trees, as the grammar builds them from a list of tokens.
+//! Abstract syntax trees, as the parser builds them from a list of tokens.
 //!
-//! A chain of operators of one level is one node with a list, and so is a chain of postfixes. A tree is never deeper than the nesting of
-//! its text times the levels of the grammar, whatever the number of its tokens. Brackets are kept in the tree. A node stores the place of
-//! each token that a fault may name; the place of an expression is that of its leftmost part.
+//! A chain of operators of one precedence level is one node with a list, and so is a chain of postfix operators. The depth of a tree is
+//! at most the nesting of its text times the levels of the grammar, whatever the number of its tokens. Brackets are kept in the tree. A
+//! node stores the source position of each token that a fault may name; the position of an expression is that of its leftmost part.
 
 use crate::{Name, Names};
 use cyc_words::Span;
 
-/// A name with its place: an identifier, or a region name without its backquote.
+/// A name with its source position: an identifier, or a region name without its backquote.
 #[derive(Clone, Copy, Debug, PartialEq, Eq)]
 pub struct Ident {
     pub name: Name,
@@ -22,19 +22,19 @@ pub enum PointerKind {
     Fat,
 }
 
-/// A pointer mark of a type, and the region that is written after it.
+/// A pointer sign of a type, and the region that is written after it.
 #[derive(Clone, Copy, Debug, PartialEq, Eq)]
 pub struct Pointer {
     pub kind: PointerKind,
     pub region: Option<Ident>,
 }
 
-/// A type before its pointer marks.
+/// A type without the pointer signs that follow it.
 #[derive(Drop)]
 pub enum BaseType {
     Int,
     Char,
-    /// The region arguments may be omitted; then the list is empty.
+    /// A struct type with its region arguments; if they are omitted, the list is empty.
     Struct { name: Ident, regions: Vec<Ident> },
     /// `region_t<..>`
     Handle { region: Ident },
@@ -42,7 +42,8 @@ pub enum BaseType {
     Key { region: Ident },
 }
 
-/// A type: its marks make pointers from left to right; the last mark is the outermost pointer.
+/// A type as written: its pointer signs apply from left to right, and the last sign is that of the
+/// outermost pointer.
 #[derive(Drop)]
 pub struct WrittenType {
     pub span: Span,
@@ -50,7 +51,7 @@ pub struct WrittenType {
     pub marks: Vec<Pointer>,
 }
 
-/// `-`, `!`, `~`, `*` and `&`.
+/// The prefix operators `-`, `!`, `~`, `*` and `&`.
 #[derive(Clone, Copy, Debug, PartialEq, Eq)]
 pub enum PrefixOperator {
     Negate,
@@ -60,7 +61,7 @@ pub enum PrefixOperator {
     AddressOf,
 }
 
-/// The binary operators, loosest first.
+/// The binary operators, in order of precedence, those that bind loosest first.
 #[derive(Clone, Copy, Debug, PartialEq, Eq)]
 pub enum BinaryOperator {
     /// `||`
@@ -85,7 +86,7 @@ pub enum BinaryOperator {
     Remainder,
 }
 
-/// An expression, with the places that diagnostics name.
+/// An expression, with the source positions that diagnostics name.
 #[cycle(expression)]
 #[derive(Drop)]
 pub enum Expr {
@@ -138,7 +139,7 @@ pub enum Expr {
         span: Span,
         key: Ident,
     },
-    /// An operand followed by at least one postfix.
+    /// An operand followed by at least one postfix operator.
     Chained {
         base: Box<Expr>,
         postfixes: Vec<Postfix>,
@@ -158,7 +159,8 @@ pub enum Expr {
         region: Box<Expr>,
         value: Box<Initial>,
     },
-    /// Operands joined by operators of one level, which associate to the left. A chain has at least one operator.
+    /// Operands joined by operators of one precedence level, which associate to the left. A chain has at least
+    /// one operator.
     Binary {
         first: Box<Expr>,
         rest: Vec<Operation>,
@@ -178,12 +180,12 @@ pub struct Operation {
     pub operand: Expr,
 }
 
-/// A postfix of an operand.
+/// A postfix operator of an operand, such as an index or a field.
 #[cycle(expression)]
 #[derive(Drop)]
 pub enum Postfix {
     Index { index: Expr },
-    /// `->` and a field's name.
+    /// The postfix `->` with the name of a field.
     Field { name: Ident },
 }
 
@@ -194,13 +196,14 @@ pub enum Initial {
     Plain {
         value: Expr,
     },
-    /// A struct's name, its region arguments, and the values of its fields, at least one.
+    /// A struct initializer: the struct's name, its region arguments, and the values of its fields,
+    /// of which there is at least one.
     Fields {
         name: Ident,
         regions: Vec<Ident>,
         values: Vec<Expr>,
     },
-    /// `{for variable < length : element}`
+    /// The array initializer `{for variable < length : element}`.
     Array {
         span: Span,
         variable: Ident,
@@ -257,7 +260,7 @@ pub enum Stmt {
         exception: Ident,
         value: Option<Expr>,
     },
-    /// At least one clause, the default clause among them.
+    /// A `try` statement. A `try` statement has at least one clause, including the default clause.
     Try {
         span: Span,
         body: Box<Stmt>,
@@ -266,13 +269,13 @@ pub enum Stmt {
     },
 }
 
-/// Statements and declarations between braces, with their place.
+/// A block: statements and declarations between braces, with its source position.
 #[cycle(statement)]
 #[derive(Drop)]
 pub struct Block {
     pub span: Span,
     pub items: Vec<Item>,
-    /// The place of the closing brace.
+    /// The source position of the closing brace.
     pub end: Span,
 }
 
@@ -285,7 +288,7 @@ pub struct Clause {
     pub items: Vec<Item>,
 }
 
-/// A part of a block: a statement or a declaration.
+/// An item of a block: a statement or a declaration.
 #[cycle(statement)]
 #[derive(Drop)]
 pub enum Item {
@@ -317,64 +320,64 @@ pub enum Item {
     },
 }
 
-/// A field of a struct, or a parameter.
+/// A field of a struct, or a parameter of a function.
 #[derive(Drop)]
 pub struct Member {
     pub of_type: WrittenType,
     pub name: Ident,
 }
 
-/// A constructor of `exn`.
+/// A constructor of `exn`, the type of exceptions.
 #[derive(Clone, Copy, Debug, PartialEq, Eq)]
 pub struct Constructor {
     pub name: Ident,
     pub has_int: bool,
 }
 
-/// The initial value of a global.
+/// The initial value of a global variable.
 #[derive(Clone, Copy, Debug, PartialEq, Eq)]
 pub enum GlobalValue {
     Number { span: Span, value: u32 },
-    /// `-` and a number.
+    /// A negative number: `-` followed by a number.
     Negative { span: Span, value: u32 },
     Character { span: Span, value: u8 },
     Null { span: Span },
 }
 
-/// The first region outlives the second.
+/// An outlives constraint: the first region outlives the second one.
 #[derive(Clone, Copy, Debug, PartialEq, Eq)]
 pub struct Constraint {
     pub longer: Ident,
     pub shorter: Ident,
 }
 
-/// The parameters of a function, in order.
+/// The parameter list of a function, in order.
 #[derive(Drop)]
 pub enum ParameterList {
-    /// `void` in place of a list.
+    /// A parameter list that consists of `void`.
     Void,
     Listed { members: Vec<Member> },
 }
 
-/// The parameters of a function, with its effect and its constraints.
+/// The parameter list of a function, with its effect and its outlives constraints.
 #[derive(Drop)]
 pub struct Parameters {
     pub list: ParameterList,
-    /// The effect, if one is written.
+    /// The effect of the function, if one is written.
     pub effect: Option<Vec<Ident>>,
     pub constraints: Vec<Constraint>,
 }
 
-/// A part of a program.
+/// A declaration at the top level of a program.
 #[derive(Drop)]
 pub enum Declaration {
-    /// At least one field.
+    /// A struct declaration with at least one field.
     Struct {
         name: Ident,
         regions: Vec<Ident>,
         fields: Vec<Member>,
     },
-    /// `datatype exn`, with at least one constructor.
+    /// A declaration of exceptions: `datatype exn`, with at least one constructor.
     Exceptions {
         constructors: Vec<Constructor>,
     },
@@ -383,7 +386,7 @@ pub enum Declaration {
         name: Ident,
         value: Option<GlobalValue>,
     },
-    /// A `void` function has no result.
+    /// A function definition; a `void` function has no result.
     Function {
         result: Option<WrittenType>,
         name: Ident,

@@ -1,4 +1,4 @@
--- A run of a file that does what a program means, between a reader and a writer, compared with the program's limited run.
+-- A run of a compiled file, between a reader and a writer, is compared with the limited run of its source program.
 use Rattle.std.proofs.Common.{◌≡◌, ℕ, refl, suc, zero, ◌+◌, ◌-◌, ◌*◌, ◌≤◌, ◌<◌, List, [], Bool, false, Option, Some, None, Result, Ok, Err, sym, ap, subst, ◌∙◌, arith, inl, inr}
 use Rattle.std.specs.Prelude.{MatchBool}
 use Rattle.std.specs.List.{AllByRecursion}
@@ -28,28 +28,29 @@ use Rattle.cyc_compiler.proofs.Preservation.{are_alike, keeps_up}
 
 -- ---- the machine with any image
 
--- An ended run can continue for any number of instructions.
+-- A run that has ended can be extended by any number of instructions, which change nothing.
 ended_rests : (count : ℕ) (w : World) (end : End) → end_of w ≡ Some end → Run count w w
 ended_rests zero w end ended = refl
 ended_rests (suc count) w end ended = (w, Goes-rests w end (over-end_of w end ended), ended_rests count w end ended)
 
--- A stopped run extends to one of the whole budget.
+-- A run that has stopped can be extended to a run of as many instructions as the budget allows.
 whole_run : (stop : Stop) (budget count : ℕ) (u w : World) → Run count u w → count ≤ budget → Stops stop budget count w → Run budget u w
 whole_run (stops.End end) budget count u w run few ended =
     subst (λ (k : ℕ). Run k u w) (let all : count + (budget - count) ≡ budget = omega (arith, few) in all)
     (run_after_run count (budget - count) u w w run (ended_rests (budget - count) w end ended))
 whole_run stops.Spent budget count u w run few (none, all) = subst (λ (k : ℕ). Run k u w) all run
 
--- If the world has an end, the run stopped with that end.
+-- If the world has ended, the report says that the run stopped with the end of this world.
 stopped_at : (stop : Stop) (budget count : ℕ) (w : World) (end : End) → Stops stop budget count w → end_of w ≡ Some end → stop ≡ stops.End end
 stopped_at (stops.End e) budget count w end ended over = let same : Some e ≡ Some end = sym ended ∙ over in cc
 stopped_at stops.Spent budget count w end (none, all) over = absurd (let same : None ≡ Some end = sym none ∙ over in cc)
 
--- The known input bytes of a reader are the bytes that it supplied.
+-- If the input bytes of a reader are known, they are the bytes that the reader supplied.
 input_reported : (reported : Option (List ℕ)) (input bytes : List ℕ) → reported ≡ Some input → Tells reported bytes → bytes ≡ input
 input_reported reported input bytes is tells = sym (let same : input ≡ bytes = subst (λ (o : Option (List ℕ)). Tells o bytes) is tells in same)
 
--- A reader with known bytes still has exactly these.
+-- If the input bytes of a reader were known, the bytes that it still has are known and are exactly
+-- the remaining ones.
 reported_rest : (reported new : Option (List ℕ)) (input rest : List ℕ) → reported ≡ Some input → Leaves reported new rest → new ≡ Some rest
 reported_rest None new input rest is leaves = absurd (let e : None ≡ Some input = is in cc)
 reported_rest (Some reported) None input rest is leaves = absurd leaves
@@ -61,7 +62,7 @@ module _ (p : Program) (image : ImageContents) (limits : Bounds) (store : StoreS
   started : World
   started = start_world image limits store input
 
-  -- Without memory, the run fails before any byte is read or written.
+  -- If memory runs out, the run fails before any byte is read or written.
   kept : old.remaining ≡ Some input → (result : Result Report RunFault) → result ≡ Err Memory → Rests old new → RunsAs p limits input (text_words image) budget old new result
   kept tells result is (unread, silent) =
       let (steps, (seen, ends)) = alike.following 0 (start_world image limits store input) refl in
@@ -80,7 +81,7 @@ module _ (p : Program) (image : ImageContents) (limits : Bounds) (store : StoreS
     unfolding started
     run = subst (λ (bytes : List ℕ). Run count (start_world image limits store bytes) w) (input_reported old.remaining input x.input tells x.reported) (counted_run count (start_world image limits store x.input) w x.counted)
 
-    -- The output so far is the program's, whatever the result of the run.
+    -- The output of the run so far is output of the program, whatever the result of the run.
     so_far : (result : Result Report RunFault) → AnswersAs p limits input (text_words image) budget (seen_in w) result → RunsAs p limits input (text_words image) budget old new result
     unfolding started
     so_far result answers =

@@ -1,2 +1,2 @@
--- lemmas for the law
+-- lemmas for the law of compiled programs
 pub mod CompiledRuns

@@ -1,4 +1,4 @@
--- The output, the remaining input and the result of `run` for a file that does what a program means: those of the program's limited run.
+-- If a file does what a program means, the output, the remaining input and the result of `run` are those of the program's limited run.
 -- The results of compiling and running are described in terms of the source only. The form of these results is this project's own choice.
 use Rattle.std.specs.Prelude.{◌≡◌, ℕ, ◌+◌, ◌*◌, ◌≤◌, List, Some, Result, Ok, Err}
 use Rattle.std.specs.Io.KnownBytes.{Appends}
@@ -18,21 +18,24 @@ use Rattle.cyc_emulator.specs.declared.report.RunFault.TheVariants.{Elf, Load, R
 use Rattle.cyc_emulator.specs.declared.report.Stop.{Stop}
 use Rattle.cyc_emulator.specs.declared.report.Stop.TheVariants as stops
 
--- The reported end is the program's: after some number of steps it has ended as reported, with exactly this output and remaining input.
+-- `IsEndOf` says that the reported end is the program's: after some number of steps the program has ended as reported, with exactly
+-- this output and remaining input.
 abbrev pub IsEndOf : Program → Bounds → (input : List ℕ) → Seen → Stop → Type 0
 IsEndOf p limits input seen (stops.End end) =
     (steps : ℕ) × (ending : Ending) × (ending_of end ≡ Some ending)
     × (status_of (limited p limits input steps) ≡ HasEnded ending) × (seen ≡ seen_of (limited p limits input steps))
 IsEndOf p limits input seen stops.Spent = Unit {0}
 
--- The run is as far as the program in this state: as much is printed and read, and if the program has ended, that end is reported.
+-- `IsAsFar` says that the run is as far as the program in this state: it has printed and read as much, and if the program has
+-- ended, this end is reported.
 abbrev pub IsAsFar : (program : State) → Seen → Stop → Type 0
 IsAsFar s seen stop =
     ComesTo (seen_of s) seen
     × ((ending : Ending) → status_of s ≡ HasEnded ending → (end : End) × (stop ≡ stops.End end) × (ending_of end ≡ Some ending))
 
--- The result for this output and remaining input. With `each` instructions for each step of the program, and as many before the first, a
--- run is as far as the program. No result says that the bytes are no image or that the machine has no place for it.
+-- `AnswersAs` describes the result for this output and remaining input. With `each` instructions for each step of the program, and as
+-- many before the first step, a run is as far as the program. The result is never that the bytes are no image or that the machine has no
+-- place for it.
 abbrev pub AnswersAs : Program → Bounds → (input : List ℕ) → (each budget : ℕ) → Seen → Result Report RunFault → Type 0
 AnswersAs p limits input each budget seen (Ok report) =
     IsEndOf p limits input seen report.stop
@@ -43,8 +46,8 @@ AnswersAs p limits input each budget seen (Err Memory) = Unit {0}
 AnswersAs p limits input each budget seen (Err (Elf f)) = ⊥
 AnswersAs p limits input each budget seen (Err (Load f)) = ⊥
 
--- The output, the remaining input and the result for this input are those of the program's limited run. Whatever the result, the written
--- bytes and the rest of the reader together are the program's output and remaining input after some number of its steps.
+-- `RunsAs` says that the output, the remaining input and the result for this input are those of the program's limited run. Whatever the
+-- result, the bytes written and those left in the reader are the program's output and remaining input after some number of its steps.
 pub record RunsAs (p : Program) (limits : Bounds) (input : List ℕ) (each budget : ℕ) (old new : Devices) (result : Result Report RunFault) : Type 0 where
   pub output : List ℕ
   pub rest : List ℕ

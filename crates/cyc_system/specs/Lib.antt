@@ -1,2 +1,2 @@
--- the effect of `run` on the result of `compile`
+-- the effect of running the result of `compile`
 pub mod CompiledRuns

@@ -1,4 +1,5 @@
-//! The product's calls in one crate: a text is translated to a typed tree or an image, an image is run, an image is listed.
+//! The product's functions in one crate: they translate a text to a typed tree or an image, run an image, and list an
+//! image.
 #![tactic(auto)]
 
 pub mod laws;

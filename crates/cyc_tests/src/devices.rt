@@ -1,9 +1,9 @@
-//! A device that fails at each call.
+//! This file has devices that fail, for tests.
 
 use std::io;
 
-/// A reader and writer that succeeds for a number of calls, fails once, and then succeeds again. The other device supplies the byte x
-/// endlessly, and accepts one byte at a time.
+/// A reader and writer that succeeds for a number of calls, fails once, and then succeeds again. The reader supplies the byte x
+/// endlessly, and the writer accepts one byte at a time.
 #[derive(Drop)]
 pub struct FailsOnce {
     calls_before: usize,
@@ -12,7 +12,8 @@ pub struct FailsOnce {
 }
 
 impl FailsOnce {
-    /// Returns a device that succeeds for this many calls, fails at the next one and then succeeds again.
+    /// Returns a device that succeeds for `calls_before` calls, fails at the next call and then succeeds
+    /// again.
     pub fn new(calls_before: usize) -> FailsOnce {
         FailsOnce {
             calls_before,

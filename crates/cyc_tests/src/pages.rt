@@ -1,4 +1,5 @@
-//! The store on a pool with serials that reach their last value, which no run achieves.
+//! This file tests the store on a pool of pages when its serial numbers reach their last value,
+//! which happens in no run.
 
 use crate::expect::expect;
 use cyc_pagestore::PageStore;
@@ -14,7 +15,7 @@ fn paged_of(alloc: Global, pages: u32) -> Option<PageStore> {
     PageStore::new(alloc, pages).ok()
 }
 
-/// A region with a block on each of two pages.
+/// A region that has one block on each of two pages.
 #[derive(Clone, Copy)]
 struct Pair {
     handle: u32,
@@ -22,7 +23,7 @@ struct Pair {
     second: u32,
 }
 
-/// Opens a region and allocates two blocks in it, each with this number in its first word.
+/// Opens a region and allocates two blocks in it, each with the number `number` in its first word.
 fn open_pair(store: &mut PageStore, number: u32) -> Option<Pair> {
     let handle = store.open_dynamic().ok()?;
     let first = store.alloc(handle, 1000).ok()?;
@@ -37,12 +38,13 @@ fn open_pair(store: &mut PageStore, number: u32) -> Option<Pair> {
     None
 }
 
-/// Returns true if a pair's words are live with this number in each, or, without a number, if no word is live.
+/// Returns true if the first words of both blocks of a pair contain this number or, without a number, if both
+/// words are not live.
 fn has_number(store: &PageStore, pair: Pair, number: Option<u32>) -> bool {
     store.load(pair.first) == number && store.load(pair.second) == number
 }
 
-/// Opens four regions of a store, the last of which stays open.
+/// Opens four regions of a store; the tests close all of them except the last.
 fn open_four(store: &mut PageStore) -> Option<[Pair; 4]> {
     let one = open_pair(store, 1)?;
     let two = open_pair(store, 2)?;
@@ -51,13 +53,15 @@ fn open_four(store: &mut PageStore) -> Option<[Pair; 4]> {
     Some([one, two, three, kept])
 }
 
-/// Closes a region. Returns true if the words of the closed region are dead, and those of another region are unchanged.
+/// Closes a region. Returns true if the words of the closed region are dead, and the words of another region are
+/// unchanged.
 fn is_closed(store: &mut PageStore, pair: Pair, other: Pair, number: u32) -> bool {
     let closed = store.close_dynamic(pair.handle).is_ok();
     closed && has_number(store, pair, None) && has_number(store, other, Some(number))
 }
 
-/// Closes three regions while the serials of a new store reach their last value; one region stays open, and another is opened afterwards.
+/// Closes three regions while the serial numbers of a new store reach their last value; one region stays open, and another region is
+/// opened afterwards.
 fn passes_last_serial(store: &mut PageStore) -> Option<bool> {
     let [one, two, three, kept] = open_four(store)?;
     let block = store.alloc(HEAP, 1).ok()?;
@@ -73,7 +77,7 @@ fn passes_last_serial(store: &mut PageStore) -> Option<bool> {
     Some(first && second && third && gone && open && held)
 }
 
-/// Returns true if a new store passes its last serial.
+/// Returns true if a new store still works after its last serial number.
 fn stays_dead(alloc: Global, pages: u32) -> Option<bool> {
     passes_last_serial(&mut paged_of(alloc, pages)?)
 }
@@ -84,7 +88,8 @@ fn stale_words_stay_dead(rt: HostRuntime) {
     expect(&rt, right == Some(true), "past the last serial");
 }
 
-/// Returns true if one bit of a page of a pool can be set and cleared; stores set many at a time.
+/// Returns true if one bit of a page of a pool can be set and cleared; stores set many bits at a
+/// time.
 fn bit_is_set(alloc: Global, pages: u32) -> Option<bool> {
     if pages > 65_536 {
         return None;

@@ -1,11 +1,11 @@
-//! Devices that fail, of which a user can see only that a run ends.
+//! This file tests devices that fail; a user of such a device sees only that a run ends.
 
 use crate::devices::FailsOnce;
 use crate::expect::expect;
 use cyc_words::{ByteIn, ByteOut, Reader, Writer};
 use std::process::Abort;
 
-/// Asserts that a device supplies this byte next, or its end.
+/// Asserts that a device supplies this byte next, or the end of its input.
 fn expect_byte<A: Abort, I: ByteIn>(rt: &A, input: &mut I, want: Option<u8>) {
     match input.next() {
         Ok(byte) => expect(rt, byte == want, "the next byte"),
@@ -13,7 +13,8 @@ fn expect_byte<A: Abort, I: ByteIn>(rt: &A, input: &mut I, want: Option<u8>) {
     }
 }
 
-/// The inner reader and writer would succeed again after their failure: they are not called again.
+/// The inner reader and writer would succeed again after their failure, but they are not called
+/// again.
 #[test]
 fn a_failure_stays(rt: HostRuntime) {
     let mut input = Reader::new(FailsOnce::new(2));

@@ -1,4 +1,5 @@
--- The boolean tests of `Closure` decide the outlives relation.
+-- The boolean tests of the specification file `Closure` return true exactly if one region outlives
+-- another.
 use Rattle.std.proofs.Common.{◌≡◌, ◌≢◌, ◌⊎◌, inl, inr, true, not, ◌&&◌, ◌||◌, List, [], ◌∷◌, refl, sym, ◌∙◌, subst}
 use Rattle.std.specs.Prelude.{Contains}
 use Rattle.std.proofs.lemmas.Bool.{or_cases, or_left, or_right, and_parts, and_from, cases_Bool, true≢false, false_from_ne_true, not-true, not_from_false}
@@ -45,7 +46,8 @@ above-trans (p ∷ ps) a b d h k =
           ]
     ]
 
--- a pair whose path already exists adds no path
+-- adding a pair (a, b) of regions to a list of pairs adds no path if a path from a to b already
+-- exists
 pub above-known : (p : Region × Region) (ps : List (Region × Region)) → above ps p.0 p.1 ≡ true → (a b : Region) → above (p ∷ ps) a b ≡ above ps a b
 above-known p ps h a b =
     elim (cases_Bool (above ps a b)) [
@@ -83,7 +85,8 @@ above-sound c (p ∷ ps) pairs a b h =
           through a p.0 b (rest a p.0 u.0) (through p.0 p.1 b (pairs p.0 p.1 (Contains-head p ps)) (rest p.1 b u.1))
     ]
 
--- if a leads to b, and b leads to one of these regions, then a does
+-- if pairs form a path from a to b, and a path from b into a list of regions, then a path leads
+-- from a into the list
 pub above_one_of-up : (w : List (Region × Region)) (rs : List Region) (a b : Region) →
     above w a b ≡ true → above_one_of w rs b ≡ true → above_one_of w rs a ≡ true
 above_one_of-up w [] a b h k = k
@@ -107,7 +110,8 @@ module _ (w : List (Region × Region)) (live : List Region) where
   leads-above [] a b h = h
   leads-above (s ∷ e) a b h = or_left (leads w live e a b) _ (leads-above e a b h)
 
-  -- a path over the newest scope, split into its parts
+  -- a path over the newest scope implies three facts: its kind is outlived by live regions, the
+  -- path starts above a live region, and it reaches its end region
   pub newest-parts : (s : Scope) (e : List Scope) (a b : Region) →
       (is_outlived_by_live s.kind && above_one_of w (live_regions live e) a && leads w live e s.region b) ≡ true →
       (is_outlived_by_live s.kind ≡ true) × (above_one_of w (live_regions live e) a ≡ true) × (leads w live e s.region b ≡ true)
@@ -124,7 +128,8 @@ module _ (w : List (Region × Region)) (live : List Region) where
       (and_from (is_outlived_by_live s.kind && above_one_of w (live_regions live e) a) (leads w live e s.region b)
       (and_from (is_outlived_by_live s.kind) (above_one_of w (live_regions live e) a) k u) r)
 
-  -- a path uses only pairs, or it leads over a live region
+  -- a path between two regions either uses only the function's constraints, or its first region has
+  -- a path of constraints to a live region
   pub leads-cases : (opened : List Scope) (a b : Region) → leads w live opened a b ≡ true →
       (above w a b ≡ true) ⊎ (above_one_of w (live_regions live opened) a ≡ true)
   leads-cases [] a b h = inl h
@@ -185,7 +190,7 @@ module _ (w : List (Region × Region)) (live : List Region) where
         | inr q ↦ or_left (leads w live e a b) _ (leads-opening e a b q)
       ]
 
--- the region of an open scope is not the unique region
+-- if no open scope has the unique region, the region of an open scope is not the unique region
 opening_not_unique : (live : List Region) (opened : List Scope) (a b : Region) → names_no_unique_scope opened ≡ true →
     IsLiveAtOpening live opened a b → b ≢ Unique
 opening_not_unique live [] a b n h = absurd h
@@ -212,7 +217,8 @@ module _ (c : RegionContext) (no_unique : names_no_unique c.written ≡ true) (n
             ]
       ]
 
-  -- the cases in which the test is true
+  -- `is_outliving` returns true for a and b if b is not the unique region and a path leads from a
+  -- to b or from a to the heap
   outliving-from : (a b : Region) → b ≢ Unique →
       ((leads c.written c.live c.opened a b ≡ true) ⊎ (leads c.written c.live c.opened a Heap ≡ true)) → is_outliving c a b ≡ true
   outliving-from a b n h =

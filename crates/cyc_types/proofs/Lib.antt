@@ -1,9 +1,9 @@
--- lemmas that the crates above cite
+-- lemmas that proofs of other crates cite
 pub mod RuleLaws
 pub mod TypedTreeViewLemmas
 pub mod WeightLemmas
 pub mod typing
--- lemmas that the proofs of this crate cite
+-- lemmas that proofs of this crate cite
 pub mod RegionLemmas
 pub mod ClosureLemmas
 pub mod TableLemmas

@@ -12,7 +12,7 @@ use Rattle.cyc_types.specs.typing.Scopes.{region_among}
 use Rattle.cyc_types.specs.typing.DeclarationRules.{region_numbers}
 use Rattle.cyc_types.specs.inside.Names.{names_of, Finds}
 
--- a name of a binding has an entry in the table
+-- the name of the oldest binding is a valid index of the table of region names
 pub in_range : (table : List (Option Region)) (bs old : List Binding) (b : Binding) → Finds table old → old ≡ bs ++ b ∷ [] → b.name < length table
 in_range table bs old b f e = get_or_within table b.name b.region (f.0 b.name ∙ ap (λ ns. region_among ns b.name) front ∙ ap (λ t. cond t (Some b.region) (region_among (names_of bs) b.name)) (eq-eqb b.name b.name refl))
   where
@@ -21,7 +21,7 @@ in_range table bs old b f e = get_or_within table b.name b.region (f.0 b.name �
 
 -- ---- sets of names
 
--- after its names are removed, the table marks no name
+-- after all names in a list are removed from the table of flags, the table flags no name
 pub none_left : (table : List Bool) (names : List ℕ) (left : List Bool) (x : ℕ) → get_or table x false ≡ list_any (nat_eq x) (reverse names)
     → get_or left x false ≡ (not (list_any (nat_eq x) names) && get_or table x false) → get_or left x false ≡ false
 none_left table names left x known is =

@@ -1,4 +1,5 @@
--- Live regions and the outlives relation, decided by the opening positions of regions.
+-- Lemmas: the position at which a region's oldest scope was opened decides liveness and the
+-- outlives relation.
 use Rattle.std.proofs.Common.{◌≡◌, ◌⊎◌, inl, inr, ℕ, zero, suc, ◌+◌, ◌<◌, ◌≤◌, Bool, true, false, ◌&&◌, ◌||◌, not, List, [], ◌∷◌, ◌++◌, reverse, length, take, refl, ap, sym, ◌∙◌, subst, arith}
 use Rattle.std.specs.List.{list_any}
 use Rattle.std.proofs.lemmas.Bool.{or_cases, or_left, or_right, and_parts, and_from, false_from_ne_true, cases_lt, true_from_ne_false}
@@ -22,7 +23,7 @@ use Rattle.cyc_types.proofs.TableLemmas.{eq_true_at}
 abbrev default : Scope
 default = record { region = Heap; kind = Block }
 
--- a test that holds of one of the oldest scopes holds at an index
+-- if a test holds for one of the n oldest scopes, it holds for the scope at some index below n
 any-place : (p : Scope → Bool) (n : ℕ) (scopes : List Scope) → list_any p (take n scopes) ≡ true →
     (i : ℕ) × (i < n) × (i < length scopes) × (p (scope_at scopes i) ≡ true)
 any-place p zero scopes h = cc
@@ -41,7 +42,8 @@ any-at p n i scopes lt within e =
 
 -- ---- live regions, and the regions that lead to live regions
 
--- a region that leads to no other region and is not among these regions leads to none of these
+-- if a region has no path to any other region and is not in a list of regions, it has no path to a
+-- region in the list
 not-above : (w : List (Region × Region)) (rs : List Region) (a : Region) → ((b : Region) → above w a b ≡ region_eq a b) →
     is_region_among a rs ≡ false → above_one_of w rs a ≡ true → ⊥
 not-above w rs a alone apart h =
@@ -49,7 +51,8 @@ not-above w rs a alone apart h =
     let e : a ≡ r.0 = region_eq-true a r.0 (sym (alone r.0) ∙ (and_parts (not (region_eq r.0 Unique)) (above w a r.0) r.2).1) in
     never_true_and_false (any-from (λ y. region_eq y a) rs r.0 r.1 (eq_true_at r.0 a (sym e))) apart
 
--- if regions have a path into a list, either list may be searched
+-- if a region's paths lead exactly to the regions in `below`, then searching `below` for a region
+-- in `rs` decides whether a path leads into `rs`
 pub above-among : (w : List (Region × Region)) (rs below : List Region) (a : Region) →
     ((b : Region) → above w a b ≡ is_region_among b below) →
     above_one_of w rs a ≡ list_any (λ r. not (region_eq r Unique) && is_region_among r rs) below
@@ -73,7 +76,8 @@ above-among w rs below a e = same_tests (above_one_of w rs a) (list_any (λ r. n
     (subst (λ z. not (region_eq z Unique) ≡ true) (sym same) u.0)
     (e q.0 ∙ any-from (λ y. region_eq y q.0) below r.0 r.1 (eq_true_at r.0 q.0 (sym same)))))
 
--- a region among these regions leads to a region among these
+-- if a list of regions contains a region other than the unique region, that region has a path (of
+-- length 0) into the list
 pub above-itself : (w : List (Region × Region)) (rs : List Region) (a : Region) → not (region_eq a Unique) ≡ true →
     is_region_among a rs ≡ true → above_one_of w rs a ≡ true
 above-itself w rs a n h =
@@ -100,7 +104,8 @@ module _ (live : List Region) (scopes : List Scope) where
 
 module _ (w : List (Region × Region)) (live : List Region) (openings : List ℕ) (scopes : List Scope) (n : ℕ)
     (order : IsInOrder w live openings scopes n) where
-  -- a region that was not live at the start is not live if its oldest scope is not among these scopes
+  -- a region that was not live at the function's start is not live among the `count` oldest scopes if
+  -- none of these opened it
   pub live-missed : (count : ℕ) (r : Region) → count ≤ n → is_region_among r live ≡ false →
       (opening_of openings r < count → region_eq (scope_at scopes (opening_of openings r)).region r ≡ false) →
       is_region_among r (live_before live scopes count) ≡ false
@@ -119,7 +124,7 @@ module _ (w : List (Region × Region)) (live : List Region) (openings : List ℕ
             ]
       ])
 
-  -- the position of a region's oldest scope decides whether the region is live
+  -- the scope stored as a region's oldest scope decides whether the region is live
   pub live-tested : (count : ℕ) (r : Region) → count ≤ n → is_region_among r live ≡ false → opening_of openings r < count →
       region_eq (scope_at scopes (opening_of openings r)).region r ≡ is_region_among r (live_before live scopes count)
   live-tested count r le never_live lt = same_tests (region_eq (scope_at scopes (opening_of openings r)).region r) (is_region_among r (live_before live scopes count))
@@ -127,7 +132,8 @@ module _ (w : List (Region × Region)) (live : List Region) (openings : List ℕ
       (λ h. true_from_ne_false (region_eq (scope_at scopes (opening_of openings r)).region r)
       (λ f. never_true_and_false h (live-missed count r le never_live (λ l. f))))
 
-  -- a path uses only pairs, or it leads over exactly one scope
+  -- a path between two regions either uses only the function's constraints, or crosses exactly one
+  -- scope
   by-one-scope : (k : ℕ) (a b : Region) → k ≤ n → leads w live (reverse (take k scopes)) a b ≡ true →
       (above w a b ≡ true) ⊎ ((i : ℕ) × (i < n) × (is_outlived_by_live (scope_at scopes i).kind ≡ true)
       × ((scope_at scopes i).region ≡ b) × (above_one_of w (live_before live scopes i) a ≡ true))
@@ -151,7 +157,8 @@ module _ (w : List (Region × Region)) (live : List Region) (openings : List ℕ
             ]
       ]
 
-  -- the oldest scope of a region that is new at a scope is that scope, if the live regions outlive it
+  -- if the live regions outlive a scope's region, the table stores that scope as the oldest scope of
+  -- its region
   its-own : (i : ℕ) → i < n → is_outlived_by_live (scope_at scopes i).kind ≡ true → opening_of openings (scope_at scopes i).region ≡ i
   its-own i lt k =
       let o = order.each i lt in
@@ -167,7 +174,8 @@ module _ (w : List (Region × Region)) (live : List Region) (openings : List ℕ
 -- ---- paths if all scopes are in order
 module _ (w : List (Region × Region)) (live : List Region) (openings : List ℕ) (scopes : List Scope)
     (order : IsInOrder w live openings scopes (length scopes)) where
-  -- a path leads over the scope of its end region, if the live regions outlive that region
+  -- a path leads from a to b over b's scope if the live regions outlive b and a has a path to a
+  -- region live before that scope
   pub leads-there : (a b : Region) → opening_of openings b < length scopes →
       (scope_at scopes (opening_of openings b)).region ≡ b →
       is_outlived_by_live (scope_at scopes (opening_of openings b)).kind ≡ true →
@@ -177,7 +185,8 @@ module _ (w : List (Region × Region)) (live : List Region) (openings : List ℕ
       (subst (λ z. leads w live (reverse (take (opening_of openings b) scopes)) z b ≡ true) (sym e)
       (leads-refl w live (reverse (take (opening_of openings b) scopes)) b))
 
-  -- otherwise no path over a scope leads to the region
+  -- if no path of constraints leads from a to b, and none leads over the scope that opened b, then
+  -- no path leads from a to b
   pub leads-nowhere : (a b : Region) → above w a b ≡ false →
       (opening_of openings b < length scopes → (scope_at scopes (opening_of openings b)).region ≡ b →
       is_outlived_by_live (scope_at scopes (opening_of openings b)).kind ≡ true →
@@ -196,7 +205,8 @@ module _ (w : List (Region × Region)) (live : List Region) (openings : List ℕ
             (subst (λ z. is_outlived_by_live (scope_at scopes z).kind ≡ true) (sym at) p.2)))
       ])
 
-  -- the scope of the end region decides whether a path exists
+  -- if the live regions outlive region b, its scope decides: a path leads from a to b exactly if a
+  -- has a path to a region live before the scope
   pub leads-by_place : (a b : Region) (place : ℕ) → place ≡ opening_of openings b → place < length scopes →
       (scope_at scopes place).region ≡ b → is_outlived_by_live (scope_at scopes place).kind ≡ true → above w a b ≡ false →
       above_one_of w (live_before live scopes place) a ≡ leads w live (reverse scopes) a b
@@ -219,7 +229,7 @@ module _ (w : List (Region × Region)) (live : List Region) (openings : List ℕ
 -- ---- opening and closing of scopes
 
 module _ (w : List (Region × Region)) (live : List Region) where
-  -- being in order depends only on the older scopes
+  -- "the scope at index i is in order" depends only on the scopes up to index i
   orderly-same : (openings : List ℕ) (xs ys : List Scope) (i : ℕ) → ((j : ℕ) → j ≤ i → scope_at xs j ≡ scope_at ys j) → take i xs ≡ take i ys →
       IsOrderly w live openings xs i → IsOrderly w live openings ys i
   orderly-same openings xs ys i at older o =
@@ -240,7 +250,7 @@ module _ (w : List (Region × Region)) (live : List Region) where
             (subst (λ (s : Scope). is_region_among s.region (live_before live xs i) ≡ false) e (o.fresh (back k)));
       }
 
-  -- opening one more scope keeps the older scopes in order
+  -- opening one more scope keeps the older scopes in the order that the table of positions requires
   pub in_order-more : (openings : List ℕ) (scopes : List Scope) (s : Scope) (n : ℕ) → IsInOrder w live openings scopes n →
       IsInOrder w live openings (scopes ++ s ∷ []) n
   in_order-more openings scopes s n o = record {
@@ -251,7 +261,8 @@ module _ (w : List (Region × Region)) (live : List Region) where
         (o.each i lt);
   }
 
-  -- storing the position of a region that is not live keeps the scopes in order
+  -- storing the opening position of a region that is not live keeps the scopes in the order that
+  -- `IsInOrder` requires
   pub in_order-noted : (openings noted : List ℕ) (scopes : List Scope) (n : ℕ) (region : Region) → IsInOrder w live openings scopes n →
       is_region_among region (live_before live scopes (length scopes)) ≡ false →
       ((r : Region) → region_eq region r ≡ false → opening_of noted r ≡ opening_of openings r) →
@@ -303,7 +314,8 @@ module _ (w : List (Region × Region)) (live : List Region) where
               (subst (λ (z : Scope). is_outlived_by_live z.kind ≡ true → is_region_among z.region (live_before live scopes (length scopes)) ≡ false) it fresh);
         }
 
-    -- the region of the new scope is already live
+    -- if the region of a newly opened scope is already live, the scopes including the new one are
+    -- in order
     pub in_order-known : is_outlived_by_live s.kind ≡ false → is_region_among s.region (live_before live scopes (length scopes)) ≡ true →
         IsInOrder w live openings (scopes ++ s ∷ []) (length scopes + 1)
     in_order-known not_outlived known = in_order-next
@@ -327,7 +339,8 @@ module _ (w : List (Region × Region)) (live : List Region) where
         (λ k. absurd (never_true_and_false k not_outlived))
         (λ k. absurd (never_true_and_false k not_outlived))
 
-    -- the region of the new scope is not yet live
+    -- if the region of a newly opened scope is not yet live, the scopes including the new one are
+    -- in order
     pub in_order-new : opening_of openings s.region ≡ length scopes →
         (is_outlived_by_live s.kind ≡ true → (b : Region) → above w s.region b ≡ region_eq s.region b) →
         is_region_among s.region (live_before live scopes (length scopes)) ≡ false →

@@ -13,14 +13,15 @@ nested = record {
   opened = record { region = Variable 3; kind = Lexical } ∷ record { region = Variable 2; kind = Dynamic } ∷ [];
 }
 
--- a region that outlives a live region outlives the lexical region opened after it
+-- example: a region that outlives a live region also outlives the lexical region opened after that
+-- live region
 through_the_live_region : is_outliving nested (Variable 0) (Variable 3) ≡ true
 through_the_live_region = refl
 
 opened_region_is_live : is_outliving nested (Variable 2) (Variable 3) ≡ true
 opened_region_is_live = refl
 
--- no live region except the heap outlives the opened dynamic region
+-- example: a live region other than the heap does not outlive a dynamic region opened later
 live_not_above_opened : is_outliving nested (Variable 1) (Variable 2) ≡ false
 live_not_above_opened = refl
 

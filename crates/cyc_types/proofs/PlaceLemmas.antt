@@ -1,4 +1,5 @@
--- The positions of constraints: a constraint put in front is the first of its region.
+-- Lemmas about a table of constraint positions: a constraint added at the front is the first
+-- constraint of its region.
 use Rattle.std.proofs.Common.{◌≡◌, inl, inr, ℕ, ◌+◌, ◌<◌, cond, List, [], ◌∷◌, length, get_or, drop, Option, Some, None, refl, ap, sym, ◌∙◌, subst}
 use Rattle.std.proofs.lemmas.Bool.{cases_Bool, true≢false, cond-true, cond-false}
 use Rattle.std.proofs.lemmas.List.{drop_more, get_or_default}
@@ -11,7 +12,7 @@ use Rattle.cyc_types.specs.inside.ConstraintPlaces.{place_of, IsFirst, AreFirst}
 use Rattle.cyc_types.proofs.RegionLemmas.{region_eq-true}
 use Rattle.cyc_types.proofs.TableLemmas.{eq_true_at, table_leads-here, table_leads-there}
 
--- constraints of other regions do not change a region's first constraint
+-- adding constraints of other regions does not change the index of a region's first constraint
 first_kept : (all last more : List Constraint) (a : Region) (place : Option ℕ) → ((b : Region) → table_leads more a b ≡ table_leads last a b)
     → IsFirst all last a place → IsFirst all more a place
 first_kept all last more a None same first = λ b. same b ∙ first b

@@ -1,4 +1,4 @@
--- The equality of regions, as the code computes it and as a test.
+-- The equality function of regions decides equality of regions.
 use Rattle.std.proofs.Common.{◌≡◌, true, refl, ap, sym, ◌∙◌, subst}
 use Rattle.std.specs.Bool.{Decides}
 use Rattle.std.proofs.lemmas.Bool.{eqb-true, eq-eqb}

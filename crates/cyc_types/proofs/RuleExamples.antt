@@ -1,5 +1,5 @@
--- Examples of the typing rules, of the flow rules and of weights, by computation, for programs over ints. Each verdict has its program text
--- above it, all on one line.
+-- Examples of the typing rules, the flow rules and tree weights, by computation, for programs over ints. Each example's verdict has the
+-- program text above it on one line.
 use Rattle.std.specs.Prelude.{◌≡◌, ℕ, ◌+◌, List, [], ◌∷◌, Some, None, Ok, Err, codes, refl}
 use Rattle.cyc_words.specs.declared.fault.Code.TheVariants as faults
 use Rattle.cyc_syntax.specs.declared.tree.BinaryOperator.TheVariants as operators
@@ -22,7 +22,7 @@ use Rattle.cyc_types.specs.Weight.{program_weight}
 abbrev at : ℕ → Place
 at n = record { line = 1; column = n }
 
--- the names of the examples, in the order of their numbers
+-- the identifier texts of the example programs, in the order of their numbers
 abbrev texts : List (List ℕ)
 texts = codes "main" ∷ codes "x" ∷ codes "a" ∷ codes "v" ∷ codes "putchar" ∷ codes "getchar" ∷ []
 
@@ -56,7 +56,8 @@ one e = MoreExpressions e NoExpressions
 abbrev only : Item → Items
 only i = MoreItems i NoItems
 
--- the function `int main(){` with these items, up to the brace at this column
+-- the declaration of `int main(){ .. }` with the given body items, whose closing brace is at the
+-- given column
 abbrev main_of : Items → ℕ → Declaration
 main_of is q = Function (Some (int 1)) (main 5) (parameters []) (Braces (at 11) is (at q))
 
@@ -68,7 +69,7 @@ void_v = Function None (v 6) (parameters []) (Braces (at 9) NoItems (at 11))
 abbrev return_0 : ℕ → Item
 return_0 n = Execute (Return (at n) (Some (Number (at (n + 7)) 0)))
 
--- the verdict of typing, and then of flow
+-- the verdict of the typing rules, followed by the flow rules, on a list of declarations
 abbrev verdict : List Declaration → Checked (Unit {0})
 verdict tree = and_then (check_of texts tree) flow_of
 

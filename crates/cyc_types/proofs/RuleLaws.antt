@@ -1,5 +1,5 @@
--- The three readings of a rule agree. The values that it derives and the faults that it rejects with are exactly the results of the
--- checker.
+-- A rule has three readings, and they agree. The values that a rule derives and the faults that it rejects with are exactly the
+-- results of the checker.
 use Rattle.std.proofs.Common.{◌≡◌, ℕ, ◌<◌, ◌≤◌, Bool, true, false, cond, nat_lt, ◌⊎◌, List, [], ◌∷◌, ◌++◌, Option, Some, None, Ok, Err, inl, inr, refl, sym, ap, subst, ◌∙◌, arith}
 use Rattle.std.proofs.lemmas.Bool.{ltb-false}
 use Rattle.cyc_words.specs.declared.fault.Fault.{Fault}
@@ -25,7 +25,8 @@ from_err f g {A} e = ap (λ (r : Checked A). elim r [ Ok x ↦ f | Err h ↦ h ]
 pub ok_is_no_err : {A : Type 0} (a : A) (f : Fault) → ◌≡◌ {A = Checked A} (Ok a) (Err f) → ⊥
 ok_is_no_err a f e = absurd (cc)
 
--- a result is correct: a success holds, and a fault is one of the rule's
+-- says that a checker's result is correct: a success satisfies the predicate `holds`, and a fault
+-- satisfies the predicate `fails`
 pub data Judges {A : Type 0} (holds : A → Type 0) (fails : Fault → Type 0) : Checked A → Type 0 where
   good : {a : A} → holds a → Judges holds fails (Ok a)
   bad : {f : Fault} → fails f → Judges holds fails (Err f)
@@ -104,7 +105,8 @@ pub data Settles (ds : List Demand) : Option Fault → Type 0 where
   none_broken : AllKept ds → Settles ds None
   broken : {f : Fault} → IsFaultOf ds f → Settles ds (Some f)
 
--- the fold over demands that starts with this known fault
+-- the possible results of a fold over demands that starts with a known fault: the known fault, or a
+-- demand's fault with a lower code
 data From (e : Fault) (ds : List Demand) : Option Fault → Type 0 where
   same : AreNotBelow (number_of e.code) ds → From e ds (Some e)
   lower : {f : Fault} → IsFaultOf ds f → number_of f.code < number_of e.code → From e ds (Some f)

@@ -1,4 +1,4 @@
--- The search over the scopes, from the oldest to the newest.
+-- Lemmas about the search over open scopes, from the oldest scope to the newest.
 use Rattle.std.proofs.Common.{◌≡◌, ℕ, ◌+◌, ◌<◌, Bool, true, false, ◌&&◌, ◌||◌, not, List, [], ◌∷◌, ◌++◌, map, reverse, length, get_or, take, drop, refl, ap, sym, ◌∙◌, subst, arith, ◌↔◌, Option, Some}
 use Rattle.std.specs.Prelude.{IsTrue}
 use Rattle.std.specs.Option.{ForSome}
@@ -16,7 +16,8 @@ use Rattle.cyc_types.specs.Outlives.{RegionContext, OutlivesIn, live_regions, is
 use Rattle.cyc_types.specs.Closure.{above, above_one_of, above_one_opened, leads, is_outliving, is_above_known, HasNoUnique}
 use Rattle.cyc_types.proofs.ClosureLemmas.{newest-from, outliving-sound, outliving-complete}
 
--- the live regions are those live before and the regions of the scopes
+-- a region has a path to a live region exactly if it has a path to the region of an open scope or
+-- to a region live before any scope
 pub live-split : (w : List (Region × Region)) (live : List Region) (scopes : List Scope) (a : Region) →
     above_one_of w (live_regions live (reverse scopes)) a ≡ (above_one_opened w scopes a || above_one_of w live a)
 live-split w live scopes a =
@@ -25,13 +26,14 @@ live-split w live scopes a =
     (any-map (λ r. not (region_eq r Unique) && above w a r) (λ (s : Scope). s.region) (reverse scopes)
     ∙ any-reverse (λ (s : Scope). not (region_eq s.region Unique) && above w a s.region) scopes)
 
--- one more scope, in the order from newest to oldest
+-- in the order from newest to oldest, the first i + 1 scopes are the scope at index i followed by
+-- the first i scopes
 pub reverse-take_more : (scopes : List Scope) (i : ℕ) (d : Scope) → i < length scopes →
     reverse (take (i + 1) scopes) ≡ get_or scopes i d ∷ reverse (take i scopes)
 reverse-take_more scopes i d h = ap reverse (take_more scopes i d h) ∙ reverse-append (take i scopes) (get_or scopes i d ∷ [])
 
 module _ (w : List (Region × Region)) (live : List Region) where
-  -- opening later scopes keeps all paths
+  -- opening further scopes keeps every path between regions
   leads-grows : (newer opened : List Scope) (a b : Region) → leads w live opened a b ≡ true → leads w live (newer ++ opened) a b ≡ true
   leads-grows [] opened a b h = h
   leads-grows (s ∷ ss) opened a b h = or_left (leads w live (ss ++ opened) a b) _ (leads-grows ss opened a b h)
@@ -42,7 +44,8 @@ module _ (w : List (Region × Region)) (live : List Region) where
       subst (λ z. leads w live z a b ≡ true) (sym (reverse-append (take n scopes) (drop n scopes)) ∙ ap reverse (take-append-drop n scopes))
       (leads-grows (reverse (drop n scopes)) (reverse (take n scopes)) a b h)
 
-  -- a path that leads over the scope at index i
+  -- a path leads from a to b over the scope at index i if a reaches a region live before that
+  -- scope, and the scope's region reaches b
   pub leads-found : (scopes : List Scope) (i : ℕ) (d : Scope) (a b : Region) → i < length scopes →
       is_outlived_by_live (get_or scopes i d).kind ≡ true →
       above_one_of w (live_regions live (reverse (take i scopes))) a ≡ true →
@@ -53,7 +56,7 @@ module _ (w : List (Region × Region)) (live : List Region) where
       (subst (λ z. leads w live z a b ≡ true) (sym (reverse-take_more scopes i d h))
       (newest-from w live (get_or scopes i d) (reverse (take i scopes)) a b k u r))
 
-  -- if no path leads over the scope at index i to b, the scope can be skipped
+  -- if no path leads over the scope at index i to b, the search for paths to b can skip that scope
   pub leads-passed : (scopes : List Scope) (i : ℕ) (d : Scope) (x b : Region) → i < length scopes →
       (is_outlived_by_live (get_or scopes i d).kind && leads w live (reverse (take i scopes)) (get_or scopes i d).region b) ≡ false →
       leads w live (reverse (take (i + 1) scopes)) x b ≡ leads w live (reverse (take i scopes)) x b
@@ -68,7 +71,8 @@ module _ (w : List (Region × Region)) (live : List Region) where
       passed false true false r e = refl
       passed false false u r e = refl
 
-  -- if paths lead over the scope at index i to b, all regions live at that scope lead to b
+  -- if a path leads over the scope at index i to b, every region that was live before this scope
+  -- has a path to b
   pub leads-taken : (scopes : List Scope) (i : ℕ) (d : Scope) (known : Bool) (x b : Region) → i < length scopes →
       is_outlived_by_live (get_or scopes i d).kind ≡ true →
       leads w live (reverse (take i scopes)) (get_or scopes i d).region b ≡ true →
@@ -97,7 +101,8 @@ module _ (w : List (Region × Region)) (live : List Region) where
       taken p false u r q known e k s within = cc
       taken p true u false q known e k s within = cc
 
-  -- a region live at the opening of a scope is live at the opening of the next
+  -- a region with a path to the regions live before one scope also has a path to the regions live
+  -- before the next scope
   pub live-more : (scopes : List Scope) (i : ℕ) (d : Scope) (x : Region) → i < length scopes →
       above_one_of w (live_regions live (reverse (take i scopes))) x ≡ true →
       above_one_of w (live_regions live (reverse (take (i + 1) scopes))) x ≡ true
@@ -106,7 +111,8 @@ module _ (w : List (Region × Region)) (live : List Region) where
       (or_right (not (region_eq (get_or scopes i d).region Unique) && above w x (get_or scopes i d).region)
       (above_one_of w (live_regions live (reverse (take i scopes))) x) u)
 
--- The search has visited the oldest i scopes: it is known which regions lead to b over them, and a does not.
+-- Invariant of the search: the oldest i scopes have been visited, the regions with a path to b over these
+-- scopes are known, and region a has no such path.
 pub record IsSearched (w : List (Region × Region)) (live : List Region) (scopes : List Scope) (i : ℕ) (known : Option ℕ) (a b : Region) : Type 0 where
   pub same : (x : Region) → leads w live (reverse (take i scopes)) x b ≡ (above w x b || is_above_known w live scopes known x)
   pub within : (x : Region) → is_above_known w live scopes known x ≡ true →
@@ -116,7 +122,7 @@ pub record IsSearched (w : List (Region × Region)) (live : List Region) (scopes
 
 module _ (w : List (Region × Region)) (live : List Region) (scopes : List Scope) (i : ℕ) (known : Option ℕ) (a b : Region)
     (before : IsSearched w live scopes i known a b) (d : Scope) (h : i < length scopes) where
-  -- all regions live at the next scope lead to b
+  -- the search invariant holds after the next scope if a path leads over that scope to b
   pub searched-taken : is_outlived_by_live (get_or scopes i d).kind ≡ true →
       (above w (get_or scopes i d).region b || is_above_known w live scopes known (get_or scopes i d).region) ≡ true →
       above_one_of w (live_regions live (reverse (take i scopes))) a ≡ false →
@@ -129,7 +135,7 @@ module _ (w : List (Region × Region)) (live : List Region) (scopes : List Scope
     bound = λ x e. let q : i ≡ x = cc in omega (arith, q, h);
   }
 
-  -- no path leads over the next scope
+  -- the search invariant holds after the next scope if no path leads over that scope to b
   pub searched-passed :
       (is_outlived_by_live (get_or scopes i d).kind
       && (above w (get_or scopes i d).region b || is_above_known w live scopes known (get_or scopes i d).region)) ≡ false →
@@ -142,14 +148,16 @@ module _ (w : List (Region × Region)) (live : List Region) (scopes : List Scope
     bound = before.bound;
   }
 
--- the boolean test decides the outlives relation
+-- if the context mentions no unique region, the boolean test `is_outliving` decides the outlives
+-- relation
 pub outliving_iff : (c : RegionContext) (a b : Region) (r : Bool) → HasNoUnique c → r ≡ is_outliving c a b → IsTrue r ↔ OutlivesIn c a b
 outliving_iff c a b r apart s = (
   λ h. outliving-sound c apart.written apart.opened a b (sym s ∙ h),
   λ h. s ∙ outliving-complete c apart.written apart.opened a b h,
 )
 
--- membership in the live regions, as the code searches for it
+-- a region is live exactly if it is in the list of regions live at the start or is the region of an
+-- open scope
 pub live_among : (r : Region) (live : List Region) (scopes : List Scope) →
     is_region_among r (live_regions live (reverse scopes)) ≡ (is_region_among r live || list_any (λ (s : Scope). region_eq s.region r) scopes)
 live_among r live scopes =

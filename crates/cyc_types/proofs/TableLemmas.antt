@@ -1,4 +1,5 @@
--- The table of constraints: invariants of its loops, and that it is closed at their end.
+-- Lemmas about the table of outlives constraints: its loop invariants, and that the table is
+-- transitively closed after the loops.
 use Rattle.std.proofs.Common.{◌≡◌, inl, inr, ℕ, zero, suc, ◌+◌, ◌<◌, true, false, ◌&&◌, ◌||◌, List, [], ◌∷◌, ◌++◌, length, get_or, set, take, refl, ap, sym, ◌∙◌, subst, arith, add-one}
 use Rattle.std.proofs.lemmas.Bool.{or_left, or_right, true≢false, false_from_ne_true, cases_Bool}
 use Rattle.std.proofs.lemmas.List.{take_more, map-append}
@@ -11,7 +12,7 @@ use Rattle.cyc_types.proofs.RegionLemmas.{region_eq-refl, region_eq-true}
 
 -- ---- the entry of a region
 
--- equal regions can replace each other in a test
+-- the equality test of two equal regions returns true
 pub eq_true_at : (a b : Region) → a ≡ b → region_eq a b ≡ true
 eq_true_at a b e = subst (λ z. region_eq a z ≡ true) e (region_eq-refl a)
 
@@ -48,7 +49,8 @@ open-leads (c ∷ cs) h a b =
 same_pair : (p q : Region × Region) → p.0 ≡ q.0 → p.1 ≡ q.1 → p ≡ q
 same_pair (a, b) (x, y) l m = cc
 
--- one more entry, not yet closed, for the next constraint
+-- after the loop adds an entry for the next constraint, the table lists one more pair; the new
+-- entry has not been closed yet
 pub push_open : (cs : List Constraint) (w : List (Region × Region)) (i : ℕ) (d : Region × Region) (c : Constraint) (new : List Constraint) →
     i < length w → written_in cs ≡ take i w → AreOpen cs → new ≡ cs ++ c ∷ [] →
     c.longer ≡ (get_or w i d).0 → c.shorter ≡ (get_or w i d).1 → c.outlived ≡ [] →
@@ -67,7 +69,7 @@ pub record EntryStep (via : Region) (below : List Region) (old new : Constraint)
   pub shorter : new.shorter ≡ old.shorter
   pub leads : (b : Region) → entry_leads new b ≡ (entry_leads old b || (entry_leads old via && is_region_among b below))
 
--- the first n entries have been extended
+-- says that the first n entries of the constraint table have been extended
 abbrev pub SteppedTo : Region → List Region → ℕ → List Constraint → List Constraint → Type 0
 SteppedTo via below zero old new = new ≡ old
 SteppedTo via below (suc n) [] new = new ≡ []
@@ -102,7 +104,7 @@ SteppedTo-written via below (suc n) (c ∷ cs) (k ∷ ks) s =
     let r = SteppedTo-written via below n cs ks s.1 in
     cc
 
--- a region without an entry leads to no other region
+-- a region without an entry in the constraint table outlives only itself according to the table
 no_entry : (cs : List Constraint) (a b : Region) → has_entry cs a ≡ false → table_leads cs a b ≡ region_eq a b
 no_entry [] a b h = refl
 no_entry (c ∷ cs) a b h = elim (cases_Bool (region_eq c.longer a)) [
@@ -110,7 +112,7 @@ no_entry (c ∷ cs) a b h = elim (cases_Bool (region_eq c.longer a)) [
   | inr n ↦ rw n (no_entry cs a b (let g : (region_eq c.longer a || has_entry cs a) ≡ false = h in rw n at g))
 ]
 
--- extending entries does not change which regions have entries
+-- extending the entries of the constraint table does not change which regions have entries
 has_entry-stepped : (via : Region) (below : List Region) (old new : List Constraint) (a : Region) →
     SteppedTo via below (length old) old new → has_entry new a ≡ has_entry old a
 has_entry-stepped via below [] new a s = ap (λ z. has_entry z a) s
@@ -120,7 +122,7 @@ has_entry-stepped via below (c ∷ cs) (k ∷ ks) a s =
     let r = has_entry-stepped via below cs ks a s.1 in
     rw (l, r)
 
--- the entry of a region, after it was extended
+-- gives the entry of a region in the constraint table after the entry has been extended
 stepped-entry : (via : Region) (below : List Region) (old new : List Constraint) (a b : Region) →
     SteppedTo via below (length old) old new → has_entry old a ≡ true →
     table_leads new a b ≡ (table_leads old a b || (table_leads old a via && is_region_among b below))

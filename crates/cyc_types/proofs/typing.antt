@@ -1,4 +1,4 @@
--- The typing rules of the whole language derive well-typed trees.
+-- The typing rules of the whole language derive only well-typed trees.
 pub mod ListLemmas
 pub mod TestLemmas
 pub mod ExpressionLemmas

@@ -1,6 +1,6 @@
--- DEMANDS ON THE NODES OF TYPED TREES, and that all nodes of a tree satisfy them. A record of demands states a condition for each kind of
--- node that any record restricts. All other nodes satisfy the demands if their parts do. Each form of the language has one line here,
--- shared by all records of demands. The form of demands on nodes is this project's own choice.
+-- A record of demands states a condition for each kind of node of a typed tree that any such record restricts. Nodes of all other kinds
+-- satisfy the demands if their parts satisfy them. Each form of the language has one line in this file, shared by all records of demands.
+-- The choice of demands as records is this project's own.
 use Rattle.std.specs.Prelude.{ℕ, List, [], ◌∷◌, Option, Some, None}
 use Rattle.cyc_types.specs.declared.typed.PointerOperator.{PointerOperator}
 use Rattle.cyc_types.specs.TypedTrees.{Expression, Number, Load, AddressOfCell, NumberOfElements, FreeUnique, FreeKey, Call, Unary, Binary, Assign, Store, New, Dereference, Target, Member, Element, Placement, OnHeap, AsUnique}
@@ -8,13 +8,13 @@ use Rattle.cyc_types.specs.TypedTrees.{ByHandle, Initial, Plain, Fields, Array, 
 use Rattle.cyc_types.specs.TypedTrees.{VariableSide, CellSide, Statement, Block, Evaluate, Swap, If, While, Return, Throw, Try, Items, NoItems, MoreItems, Execute, Declare, Clauses, NoClauses, Default, Case, Function}
 
 pub record Demands : Type 1 where
-  -- the demand on a constant
+  -- the condition on the value of a constant
   pub number : ℕ → Type 0
-  -- the demand on the values of a new struct's fields
+  -- the condition on the field values of a new struct
   pub fields : Arguments → Type 0
-  -- the demand on a pointer operator and the operations after it
+  -- the condition on a pointer operator and on the operations that follow it
   pub pointer : PointerOperator → Operations → Type 0
-  -- the demand on the number of an exception that is thrown or caught
+  -- the condition on the number of an exception that is thrown or caught
   pub exception : ℕ → Type 0
 
 module _ (d : Demands) where
@@ -41,7 +41,7 @@ module _ (d : Demands) where
     CellMeets (Member k a s f t) = Meets a
     CellMeets (Element a i t) = Meets a × Meets i
 
-    -- the handle of `rnew` satisfies the demands
+    -- says that the handle of `rnew` satisfies the demands
     pub PlacementMeets : Placement → Type 0
     PlacementMeets OnHeap = Unit {0}
     PlacementMeets AsUnique = Unit {0}
@@ -70,12 +70,12 @@ module _ (d : Demands) where
   SideMeets (VariableSide l t) = Unit {0}
   SideMeets (CellSide x) = CellMeets x
 
-  -- an optional value satisfies the demands
+  -- says that an optional value satisfies the demands; a missing value does
   abbrev pub ValueMeets : Option Converted → Type 0
   ValueMeets None = Unit {0}
   ValueMeets (Some c) = ConvertedMeets c
 
-  -- the int of a thrown exception, if it has one, satisfies the demands
+  -- says that the int of a thrown exception satisfies the demands; an exception without an int does
   abbrev pub ThrownMeets : Option Expression → Type 0
   ThrownMeets None = Unit {0}
   ThrownMeets (Some a) = Meets a
@@ -105,7 +105,7 @@ module _ (d : Demands) where
     ClausesMeet (Default r js) = ItemsMeet js
     ClausesMeet (Case tag x r js cs) = d.exception tag × ItemsMeet js × ClausesMeet cs
 
-  -- the bodies of all functions satisfy the demands
+  -- says that the bodies of all functions satisfy the demands
   abbrev pub FunctionsMeet : List Function → Type 0
   FunctionsMeet [] = Unit {0}
   FunctionsMeet (h ∷ hs) = ItemsMeet h.body × FunctionsMeet hs

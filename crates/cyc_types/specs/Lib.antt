@@ -1,4 +1,4 @@
--- definitions that the contracts of the checker, of the flow check and of later passes use
+-- definitions for the contracts of the type checker, the flow checker and later passes
 pub mod Types
 pub mod TypeView
 pub mod TypedTrees
@@ -12,7 +12,7 @@ pub mod Demands
 pub mod Texts
 pub mod Weight
 pub mod Outlives
--- contracts inside these crates: the rules as functions, and the table of constraints
+-- contracts of internal functions: the rules as functions, and the table of constraints
 pub mod Closure
 -- Contracts between this crate's functions, and statements of its proofs. No public contract of the product depends on these internal
 -- definitions.

@@ -1,4 +1,4 @@
--- The ranges of the numbers that a typed tree may contain, as later passes require them. The choice of ranges is this project's own choice.
+-- The ranges of the numbers in a typed tree that later passes require. The choice of ranges is this project's own.
 use Rattle.std.specs.Prelude.{◌≡◌, ℕ, suc, ◌+◌, ◌<◌, List, [], ◌∷◌, Option, Some, map, length, slice_get}
 use Rattle.cyc_types.specs.declared.typed.Callee.{Callee}
 use Rattle.cyc_types.specs.declared.typed.Callee.TheVariants as callees
@@ -10,16 +10,16 @@ use Rattle.cyc_types.specs.typing.WellTyped.{signature_of}
 abbrev pub signatures_of : List Function → List Signature
 signatures_of hs = map signature_of hs
 
--- the numbers of declared entities that a tree may refer to
+-- the counts of declared entities, which bound the numbers in a typed tree
 pub record Numbering : Type 0 where
   pub globals : ℕ
   pub functions : List Signature
-  -- the number of locals of the function
+  -- the number of locals of the function being checked
   pub locals : ℕ
   pub regions : ℕ
   pub result : Option Ty
 
--- the numbering gives the callee this signature
+-- says that a callee has the signature, according to a numbering of declared entities
 abbrev pub IsSignature : Numbering → Callee → Signature → Type 0
 IsSignature b callees.Putchar s = s ≡ signature_of_ints (Int ∷ [])
 IsSignature b callees.Getchar s = s ≡ signature_of_ints []

@@ -11,43 +11,46 @@ use Rattle.cyc_types.specs.Types.{region_eq}
 
 -- The data from which the outlives relation is computed.
 pub record RegionContext : Type 0 where
-  -- the constraints of the function, pairs of which the first region outlives the second
+  -- the constraints of the function: pairs of regions, of which the first outlives the second
   pub written : List (Region × Region)
-  -- the regions that are live before any scope is opened
+  -- the regions that are live at the function's start, before any scope is opened
   pub live : List Region
-  -- the open scopes, newest first
+  -- the scopes that are open, newest first
   pub opened : List Scope
 
--- the live regions while these scopes are open
+-- the regions that are live while the given scopes are open
 abbrev pub live_regions : List Region → List Scope → List Region
 live_regions live opened = map (λ s. s.region) opened ++ live
 
--- True if the regions live at the opening of a scope of this kind outlive its region. Opened dynamic regions and the regions of alias
--- blocks are older than their scopes, so false for them.
+-- Returns true if the regions live when a scope of this kind opens outlive the scope's region. Returns false for opened dynamic
+-- regions and for alias blocks, because their regions are older than the scopes.
 abbrev pub is_outlived_by_live : Kind → Bool
 is_outlived_by_live Block = true
 is_outlived_by_live Lexical = true
 is_outlived_by_live Dynamic = false
 is_outlived_by_live Alias = false
 
--- b is the region of an open block or lexical scope, and a was live when that scope opened
+-- says that b is the region of an open block or lexical scope, and that a was live when that scope
+-- opened
 abbrev pub IsLiveAtOpening : List Region → List Scope → Region → Region → Type 0
 IsLiveAtOpening live [] a b = ⊥
 IsLiveAtOpening live (s ∷ earlier) a b =
     ((is_outlived_by_live s.kind ≡ true) × (b ≡ s.region) × (a ≢ Unique) × Contains (live_regions live earlier) a)
     ⊎ IsLiveAtOpening live earlier a b
 
--- the pairs that generate the relation
+-- says that a pair of regions is a generator of the outlives relation: a constraint, a scope's
+-- pair, or the heap over any region
 abbrev pub IsGiven : RegionContext → Region → Region → Type 0
 IsGiven c a b =
     ((a ≡ Heap) × (b ≢ Unique)) ⊎ (Contains c.written (a, b) ⊎ IsLiveAtOpening c.live c.opened a b)
 
--- THE OUTLIVES RELATION: the least reflexive and transitive relation that contains these pairs
+-- THE OUTLIVES RELATION: the least reflexive and transitive relation that contains the pairs of
+-- `IsGiven`
 pub data OutlivesIn (c : RegionContext) : Region → Region → Type 0 where
   itself : (a : Region) → OutlivesIn c a a
   given : (a b : Region) → IsGiven c a b → OutlivesIn c a b
   through : (a b d : Region) → OutlivesIn c a b → OutlivesIn c b d → OutlivesIn c a d
 
--- true if no constraint mentions the unique region
+-- returns true if no constraint mentions the unique region
 abbrev pub names_no_unique : List (Region × Region) → Bool
 names_no_unique written = list_all (λ p. not (region_eq p.0 Unique) && not (region_eq p.1 Unique)) written

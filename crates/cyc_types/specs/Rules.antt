@@ -1,7 +1,7 @@
--- A RULE AS A VALUE. A rule has three readings: what it derives, with which fault it rejects, and what a checker computes. The three agree
--- for every rule (`proofs/RuleLaws`). A construct has demands of its own, and parts. The parts of a construct are checked first, in order.
--- Among the broken demands of a construct, the one with the lowest code is reported, and the first if several have that code. (The order of
--- evaluation is this project's own choice.)
+-- A typing or flow rule is a value with three readings: the results it derives, the faults it rejects with, and the result of a checker.
+-- The three readings agree for every rule (`proofs/RuleLaws`). The rule of a construct has demands of its own and parts. The parts of a
+-- construct are checked first, in order. If a construct breaks several demands, the one with the lowest code is reported. Among several
+-- broken demands with the lowest code, the first is reported. (The order of evaluation is this project's own choice.)
 use Rattle.std.specs.Prelude.{◌≡◌, ◌⊎◌, ℕ, ◌<◌, ◌≤◌, Bool, true, false, nat_lt, if◌then◌else◌, List, [], ◌∷◌, ◌++◌, Option, Some, None, Result, Ok, Err}
 use Rattle.cyc_words.specs.declared.fault.Code.{Code}
 use Rattle.cyc_words.specs.declared.fault.Fault.{Fault}
@@ -20,7 +20,7 @@ fault_at c p = record { code = c; line = p.line; column = p.column }
 
 -- ---- demands
 
--- a demand of a construct: its code, its place, and whether it is satisfied
+-- a demand of a construct: the code of its fault, its source position, and whether it is satisfied
 pub record Demand : Type 0 where
   pub code : Code
   pub place : Place
@@ -36,28 +36,29 @@ abbrev pub AllKept : List Demand → Type 0
 AllKept [] = Unit {0}
 AllKept (d ∷ ds) = (d.kept ≡ true) × AllKept ds
 
--- each demand is satisfied or has a higher code than this
+-- says that each demand in a list is satisfied or has a fault code higher than n
 abbrev pub AreAbove : ℕ → List Demand → Type 0
 AreAbove n [] = Unit {0}
 AreAbove n (d ∷ ds) = ((d.kept ≡ true) ⊎ (n < number_of d.code)) × AreAbove n ds
 
--- each demand is satisfied or has at least this code
+-- says that each demand in a list is satisfied or has a fault code of at least n
 abbrev pub AreNotBelow : ℕ → List Demand → Type 0
 AreNotBelow n [] = Unit {0}
 AreNotBelow n (d ∷ ds) = ((d.kept ≡ true) ⊎ (n ≤ number_of d.code)) × AreNotBelow n ds
 
--- the fault is that of the broken demand with the lowest code, and of the first one if several have it
+-- says that a fault is that of the broken demand with the lowest code; if several have that code, the
+-- first one
 abbrev pub IsFaultOf : List Demand → Fault → Type 0
 IsFaultOf ds f =
     (before : List Demand) × (d : Demand) × (after : List Demand) × (ds ≡ before ++ (d ∷ after)) × (d.kept ≡ false)
     × AreAbove (number_of d.code) before × AreNotBelow (number_of d.code) after × (f ≡ fault_of d)
 
--- the first of two faults, unless the second has a lower code
+-- returns the first of two faults, unless the second has a lower code
 abbrev pub lesser : Option Fault → Fault → Option Fault
 lesser None f = Some f
 lesser (Some e) f = if nat_lt (number_of f.code) (number_of e.code) then Some f else Some e
 
--- the fault after one more demand, given the fault known before it
+-- returns the fault known after checking one more demand, given the fault known before
 abbrev pub noted : Option Fault → Demand → Option Fault
 noted known d = if d.kept then known else lesser known (fault_of d)
 
@@ -68,28 +69,28 @@ settled known (d ∷ ds) = settled (noted known d) ds
 -- ---- rules
 
 pub data Rule : Type 0 → Type 1 where
-  -- nothing is derived, and this fault is reported
+  -- a rule that derives no value and reports the given fault
   Refused : {A : Type 0} → Fault → Rule A
-  -- this value is derived if all demands are satisfied
+  -- a rule that derives the given value if all of its demands are satisfied
   Own : {A : Type 0} → List Demand → A → Rule A
-  -- a part, followed by a rule that depends on the part's result
+  -- a rule that checks a part and then continues with a rule that depends on the part's result
   Part : {A B : Type 0} → Rule B → (B → Rule A) → Rule A
 
--- the rule that derives this value without any demand
+-- a rule that derives the given value without any demand
 abbrev pub gives : {A : Type 0} → A → Rule A
 gives a = Own [] a
 
--- the rule that only checks demands, and derives no information
+-- a rule that only checks demands, and derives the unit value
 abbrev pub demands : List Demand → Rule (Unit {0})
 demands ds = Own ds tt
 
--- the typing rule derives this value
+-- says that a rule derives a value
 abbrev pub Derives : {A : Type 0} → Rule A → A → Type 0
 Derives (Refused f) a = ⊥
 Derives (Own ds b) a = AllKept ds × (a ≡ b)
 Derives (Part {B = B} r next) a = (b : B) × Derives r b × Derives (next b) a
 
--- the rule rejects with this fault
+-- says that a rule rejects with a fault
 abbrev pub Refuses : {A : Type 0} → Rule A → Fault → Type 0
 Refuses (Refused g) f = f ≡ g
 Refuses (Own ds b) f = IsFaultOf ds f
@@ -99,7 +100,7 @@ abbrev pub unless : {A : Type 0} → Option Fault → A → Checked A
 unless None a = Ok a
 unless (Some f) a = Err f
 
--- the result that a checker computes for the rule
+-- returns the result that a checker computes for a rule: the derived value or the reported fault
 abbrev pub run : {A : Type 0} → Rule A → Checked A
 run (Refused f) = Err f
 run (Own ds a) = unless (settled None ds) a

@@ -1,6 +1,7 @@
--- PROPERTIES OF THE TYPED PROGRAMS OF TEXTS beyond those that the typing rules demand. A struct has few fields, since the lists of a text
--- are short. The number of an exception is a word, since a text has few tokens. Pointer arithmetic forms chains of its own, since `+` and
--- `-` bind more closely than comparisons. The choice of these properties of programs is this project's own choice.
+-- Properties of typed programs that come from source texts, beyond the demands of the typing rules. A struct has few fields, because the
+-- lists of a source text are short. The number of an exception is a word, because a source text has few tokens. A chain of pointer
+-- arithmetic contains no comparison, because `+` and `-` bind more tightly than comparisons. The choice of these properties of programs
+-- is this project's own.
 use Rattle.std.specs.Prelude.{◌≡◌, ◌≤◌, Bool, true, false, not, ◌&&◌}
 use Rattle.cyc_words.specs.Word.{IsWord}
 use Rattle.cyc_syntax.specs.Grammar.{max_items}
@@ -12,20 +13,21 @@ use Rattle.cyc_types.specs.Demands.{Demands, FunctionsMeet}
 
 -- ---- chains of operators
 
--- true if the operator compares a pointer with another pointer or with `NULL`
+-- returns true if an operator compares a pointer with another pointer or with `NULL`
 abbrev pub is_comparison : PointerOperator → Bool
 is_comparison pointers.AddFat = false
 is_comparison pointers.SubtractFat = false
 is_comparison o = true
 
--- true if all operations are pointer arithmetic
+-- returns true if all operations of a chain are pointer arithmetic
 abbrev pub are_sums : Operations → Bool
 are_sums NoOperations = true
 are_sums (ThenPointer o a os) = not (is_comparison o) && are_sums os
 are_sums (ThenPointerPeek n o a os) = not (is_comparison o) && are_sums os
 are_sums os = false
 
--- true if pointer arithmetic is followed only by pointer arithmetic
+-- returns true unless an operator is pointer arithmetic and is followed by an operation of another
+-- kind
 abbrev pub stands_alone : PointerOperator → Operations → Bool
 stands_alone pointers.AddFat os = are_sums os
 stands_alone pointers.SubtractFat os = are_sums os
@@ -33,7 +35,8 @@ stands_alone o os = true
 
 -- ---- programs
 
--- the demands that typed programs of texts satisfy: for instance, a struct has from 1 to 64 fields
+-- the demands that typed programs of source texts satisfy; for instance, a struct has from 1 to 64
+-- fields
 abbrev pub text_demands : Demands
 text_demands = record {
   number = λ n. Unit {0};

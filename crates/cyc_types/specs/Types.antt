@@ -9,7 +9,8 @@ use Rattle.cyc_types.specs.declared.region.Region.TheVariants.{Heap, Unique, Var
 
 -- ---- regions: a test for equality, and the substitution of region variables
 
--- the substitution of a region: a variable becomes the region at its number, if there is one
+-- substitutes regions in a region: region variable n becomes the region at index n of the list, if
+-- there is one
 abbrev pub substituted_region : List Region → Region → Region
 substituted_region regions Heap = Heap
 substituted_region regions Unique = Unique
@@ -31,27 +32,29 @@ is_region_among a regions = list_any (λ r. region_eq r a) regions
 
 pub data Ty : Type 0 where
   Int : Ty
-  -- a byte, 0 to 255
+  -- the type of a byte, 0 to 255
   Char : Ty
-  -- a pointer: its mark, its target type, and the region of the target
+  -- a pointer type: its pointer mark, its target type, and the region of its target
   Pointer : PointerKind → Ty → Region → Ty
   Handle : Region → Ty
   Key : Region → Ty
-  -- a struct: its number, and a region for each of its parameters
+  -- a struct type: the struct's number, and a region for each of its region parameters
   Struct : ℕ → List Region → Ty
 
--- the type of an expression: no value, the null pointer (whose type is the expected one), or a value of a type
+-- the type of an expression: no value, a null pointer (whose type comes from the context), or a value of a
+-- type
 pub data ValueType : Type 0 where
   Void : ValueType
   Null : ValueType
   Value : Ty → ValueType
 
--- the type of a call's result; a function may have none
+-- the type of a call, from the result type of its function; a call of a `void` function has no
+-- value
 abbrev pub result_type : Option Ty → ValueType
 result_type None = Void
 result_type (Some t) = Value t
 
--- the type with each region variable replaced by the region at its number in the list
+-- returns the type with each region variable n replaced by the region at index n of the list
 abbrev pub substituted_ty : List Region → Ty → Ty
 substituted_ty regions Int = Int
 substituted_ty regions Char = Char
@@ -65,7 +68,7 @@ words_of_mark Nullable = 1
 words_of_mark NonNull = 1
 words_of_mark Fat = 3
 
--- the number of words of a cell: three for a fat pointer, otherwise one
+-- the number of 32-bit words of a variable of a type: three for a fat pointer, otherwise one
 abbrev pub words_of : Ty → ℕ
 words_of Int = 1
 words_of Char = 1

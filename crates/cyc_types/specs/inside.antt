@@ -1,4 +1,4 @@
--- contracts inside these crates: the rules as functions, and the table of constraints
+-- contracts of internal functions: the rules as functions, and the table of constraints
 pub mod Openings
 pub mod RegionMarks
 pub mod ConstraintPlaces

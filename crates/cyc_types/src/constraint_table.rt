@@ -1,4 +1,5 @@
-//! A table of closed constraints, indexed by region: the constraints that begin with a region are found without a search.
+//! A table of transitively closed constraints, indexed by region. The table finds the constraints whose longer-lived
+//! region is a given region without a search.
 ghost use Rattle.std.specs.Prelude.{◌≡◌, ℕ, ◌<◌, cond, get_or, length, Some, None, OnOk, IfSome, MatchOption};
 ghost use Rattle.cyc_types.specs.declared.region.Region.{Region};
 ghost use Rattle.cyc_types.specs.Types.{region_eq};
@@ -10,16 +11,17 @@ use crate::constraints::Constraint;
 use std::alloc::{AllocError, Global};
 use std::marker::Model;
 
-/// The position of the first constraint of each region.
+/// For each region, the index of the first constraint that begins with the region.
 #[derive(Drop)]
 pub(crate) struct Places {
     heap: Option<usize>,
     unique: Option<usize>,
-    /// Indexed by the number of a region variable.
+    /// The index of the first constraint of each region variable, by the variable's number.
     variables: Vec<Option<usize>>,
 }
 
-/// Constraints in their order. Contracts see it as the list of constraints.
+/// The outlives constraints, in their order, with a table of their positions. Contracts see this
+/// table as the list of constraints.
 #[derive(Drop)]
 pub(crate) struct ConstraintTable {
     constraints: Vec<Constraint>,
@@ -39,7 +41,7 @@ impl Model for ConstraintTable {
 }
 
 impl Places {
-    /// Returns a table in which no region has a position.
+    /// Returns a table in which no region has a constraint position.
     fn new(alloc: Global) -> Places
         ensures { (r : Region) → place_of result r ≡ None }
     {
@@ -75,7 +77,7 @@ impl Places {
     }
 }
 
-/// Grows the table until it has an entry for this variable.
+/// Grows the table until it has an entry for the region variable with this number.
 fn grow(variables: &mut Vec<Option<usize>>, number: usize) -> Result<(), AllocError>
     ensures same { (x : ℕ) → get_or variables.new.items x None ≡ get_or variables.old.items x None }
     ensures long { OnOk result (number < length variables.new.items) }
@@ -93,7 +95,7 @@ fn grow(variables: &mut Vec<Option<usize>>, number: usize) -> Result<(), AllocEr
 impl ConstraintTable {
     ghost use Rattle.std.specs.Prelude.{◌≡◌, IfOk};
 
-    /// Returns the table of these constraints.
+    /// Returns the table that finds these constraints by region.
     pub(crate) fn new(
         alloc: Global,
         constraints: Vec<Constraint>,
@@ -111,7 +113,7 @@ impl ConstraintTable {
     }
 }
 
-/// Returns the entry with all regions that this region outlives, if a constraint begins with it.
+/// Returns the entry with all regions that `region` outlives, if a constraint begins with `region`.
 pub(crate) fn entry_of(constraints: &ConstraintTable, region: Region) -> Option<&Constraint>
     ensures entry { MatchOption result ((b : Region) → table_leads constraints.now region b ≡ region_eq region b)
         (λ c. (b : Region) → table_leads constraints.now region b ≡ entry_leads c.now b) }
@@ -123,7 +125,7 @@ pub(crate) fn entry_of(constraints: &ConstraintTable, region: Region) -> Option<
     }
 }
 
-/// Returns true if the first region outlives the second by the constraints.
+/// Returns true if region `a` outlives region `b` according to the constraints.
 pub(crate) fn table_leads(constraints: &ConstraintTable, a: Region, b: Region) -> bool
     ensures { result ≡ table_leads constraints.now a b }
 {

@@ -1,4 +1,4 @@
-//! The outlives constraints of a function, closed under transitivity once.
+//! The outlives constraints of a function; their transitive closure is computed once.
 ghost use Rattle.std.specs.Prelude.{◌≡◌, ◌||◌, ◌&&◌, [], IfOk, OnOk, MatchOption, IfSome, IsTrue};
 ghost use Rattle.cyc_types.specs.declared.region.Region.{Region};
 ghost use Rattle.cyc_types.specs.Types.{region_eq, is_region_among};
@@ -9,7 +9,8 @@ use crate::region_list::RegionList;
 use smallvec::SmallVec;
 use std::alloc::{AllocError, Global};
 
-/// A constraint as written, with all regions that its longer-lived region outlives by the constraints.
+/// A constraint as written, together with all regions that its longer-lived region outlives according
+/// to the constraints.
 #[derive(Drop)]
 pub struct Constraint {
     pub longer: Region,
@@ -18,7 +19,8 @@ pub struct Constraint {
 }
 
 impl Constraint {
-    /// Returns the constraint before closing: no outlived region is recorded yet.
+    /// Returns a constraint with no outlived regions recorded yet; closing the constraints adds
+    /// them.
     fn new(alloc: Global, longer: Region, shorter: Region) -> Constraint
         ensures longer { result.longer ≡ longer }
         ensures shorter { result.shorter ≡ shorter }
@@ -31,14 +33,14 @@ impl Constraint {
         }
     }
 
-    /// Returns true if the entry records that its longer-lived region outlives this one.
+    /// Returns true if the entry records that its longer-lived region outlives `region`.
     pub(crate) fn leads_to(&self, region: Region) -> bool
         ensures { result ≡ entry_leads self.now region }
     {
         self.longer == region || self.outlived.has(region)
     }
 
-    /// Adds one region to the regions that the longer-lived one outlives.
+    /// Adds a region to the regions that the entry's longer-lived region outlives.
     fn add(&mut self, region: Region) -> Result<(), AllocError>
         ensures longer { OnOk result (self.new.longer ≡ self.old.longer) }
         ensures shorter { OnOk result (self.new.shorter ≡ self.old.shorter) }
@@ -50,7 +52,8 @@ impl Constraint {
         Ok(())
     }
 
-    /// Adds all of `below` to the regions that the longer-lived region outlives, if it outlives `via`.
+    /// Adds all regions of `below` to the regions that the entry's longer-lived region outlives, if it
+    /// outlives `via`.
     fn extend(&mut self, via: Region, below: &[Region]) -> Result<(), AllocError>
         ensures longer { OnOk result (self.new.longer ≡ self.old.longer) }
         ensures shorter { OnOk result (self.new.shorter ≡ self.old.shorter) }
@@ -66,7 +69,7 @@ impl Constraint {
     }
 }
 
-/// Returns the entry with all regions that this region outlives, if a constraint begins with it.
+/// Returns the entry with all regions that `region` outlives, if a constraint begins with `region`.
 fn entry_of(constraints: &[Constraint], region: Region) -> Option<&Constraint>
     ensures entry { MatchOption result ((b : Region) → table_leads constraints.now region b ≡ region_eq region b)
         (λ c. (b : Region) → table_leads constraints.now region b ≡ entry_leads c.now b) }
@@ -80,7 +83,7 @@ fn entry_of(constraints: &[Constraint], region: Region) -> Option<&Constraint>
     None
 }
 
-/// Returns true if the entries record that the first region outlives the second.
+/// Returns true if the entries record that region `longer` outlives region `shorter`.
 fn is_known(constraints: &[Constraint], longer: Region, shorter: Region) -> bool
     ensures { result ≡ table_leads constraints.now longer shorter }
 {
@@ -90,7 +93,7 @@ fn is_known(constraints: &[Constraint], longer: Region, shorter: Region) -> bool
     }
 }
 
-/// Returns the region and all regions that it outlives.
+/// Returns a list of the given region and all regions that it outlives.
 fn all_below(
     alloc: Global,
     constraints: &[Constraint],
@@ -106,7 +109,7 @@ fn all_below(
     Ok(below)
 }
 
-/// Adds all of `below` to each entry that outlives `via`.
+/// Adds all regions of `below` to each entry whose region outlives `via`.
 fn extend_all(
     constraints: &mut [Constraint],
     via: Region,
@@ -123,7 +126,7 @@ fn extend_all(
     Ok(())
 }
 
-/// Returns the constraints, with each region recorded to outlive no other region.
+/// Returns the constraints as written; no entry records an outlived region yet.
 fn unclosed(alloc: Global, written: &[(Region, Region)]) -> Result<Vec<Constraint>, AllocError>
     ensures written { IfOk result (λ constraints. written_in constraints.items ≡ written.now) }
     ensures leads { IfOk result (λ constraints. (a b : Region) → table_leads constraints.items a b ≡ region_eq a b) }
@@ -136,7 +139,8 @@ fn unclosed(alloc: Global, written: &[(Region, Region)]) -> Result<Vec<Constrain
     Ok(constraints)
 }
 
-/// Returns the constraints, closed under transitivity.
+/// Returns the constraints, closed under transitivity: each entry records all regions that its
+/// region outlives.
 pub(crate) fn closed(
     alloc: Global,
     written: &[(Region, Region)],
@@ -147,7 +151,7 @@ pub(crate) fn closed(
     let mut constraints = unclosed(alloc, written)?;
     for i in (0..written.len()).rev() {
         let (longer, shorter) = written[i];
-        // the pair is already implied, so nothing is added
+        // the earlier constraints already imply the pair, so the loop adds no region
         if is_known(&constraints, longer, shorter) {
             continue;
         }

@@ -1,5 +1,5 @@
-//! The types of written types, by total functions: an omitted part has a default, and so does an unknown name. The faults of a written type
-//! are found separately.
+//! Converts types as written in the source to types, by total functions: an omitted part and an unknown name have defaults. The faults of a
+//! written type are found separately.
 ghost use Rattle.std.specs.Prelude.{◌≡◌, ℕ, map, option_map, replicate, unwrap_or, IfOk, OnOk, List};
 ghost use Rattle.cyc_syntax.specs.inside.TreeView.{view_name, view_base, view_pointer, view_type};
 ghost use Rattle.cyc_types.specs.declared.region.Region.TheVariants.{Heap};
@@ -16,7 +16,7 @@ use smallvec::SmallVec;
 use std::alloc::{AllocError, Global};
 use std::rc::Rc;
 
-/// Returns the region of a name; an unknown name denotes the heap.
+/// Returns the region that a name denotes; an unknown name denotes the heap.
 pub fn region_of(names: &RegionNames, name: Ident) -> Region
     ensures { result ≡ region_of names.now (view_name name) }
 {
@@ -26,7 +26,7 @@ pub fn region_of(names: &RegionNames, name: Ident) -> Region
     }
 }
 
-/// Returns the region of a mark, or this default if it is omitted.
+/// Returns the region written after a pointer mark, or `left_out` if no region is written.
 fn region_or(names: &RegionNames, left_out: Region, written: Option<Ident>) -> Region
     ensures { result ≡ region_or names.now left_out (option_map view_name written) }
 {
@@ -36,7 +36,7 @@ fn region_or(names: &RegionNames, left_out: Region, written: Option<Ident>) -> R
     }
 }
 
-/// Returns a list of this many heap regions.
+/// Returns a list with `count` copies of the heap region.
 pub(crate) fn heaps(alloc: Global, count: usize) -> Result<Rc<SmallVec<Region, 4>>, AllocError>
     ensures { IfOk result (λ rs. rs.value.items ≡ replicate count Heap) }
 {
@@ -47,7 +47,7 @@ pub(crate) fn heaps(alloc: Global, count: usize) -> Result<Rc<SmallVec<Region, 4
     Ok(Rc::new(alloc, all)?)
 }
 
-/// Returns the region arguments of a struct with this number of parameters. Omitted region arguments are the heap.
+/// Returns the region arguments of a struct with `count` region parameters. Omitted region arguments are the heap.
 pub fn arguments_or(
     alloc: Global,
     names: &RegionNames,
@@ -66,7 +66,7 @@ pub fn arguments_or(
     Ok(Rc::new(alloc, all)?)
 }
 
-/// Returns the type before its marks.
+/// Returns the type that a written type has before its pointer marks are applied.
 fn base_written(
     alloc: Global,
     structs: &StructNames,
@@ -94,7 +94,8 @@ fn base_written(
     })
 }
 
-/// Returns the default region of a mark with this many marks after it: `outermost` for the last mark, the heap for all other marks.
+/// Returns the default region of a pointer mark with `following` marks after it: `outermost` for the last mark, the heap for all
+/// other marks.
 fn left_out_by(outermost: Region, following: usize) -> Region
     ensures { result ≡ left_out_by outermost following }
 {
@@ -104,7 +105,7 @@ fn left_out_by(outermost: Region, following: usize) -> Region
     Region::Heap
 }
 
-/// Returns the type of a pointer with this mark to a type.
+/// Returns the pointer type with the given mark and target type.
 fn pointer_written(
     alloc: Global,
     names: &RegionNames,
@@ -121,7 +122,8 @@ fn pointer_written(
     })
 }
 
-/// Returns the type with its marks, applied from the innermost on.
+/// Returns the pointer type that applying the marks to the base type gives, from the innermost mark
+/// on.
 fn pointers_written(
     alloc: Global,
     names: &RegionNames,
@@ -146,8 +148,8 @@ fn pointers_written(
     Ok(of_type)
 }
 
-/// Returns the type of a written type, given the known structs and region names. An omitted region is `outermost` at the outermost mark,
-/// and the heap elsewhere.
+/// Returns the type denoted by a written type, from the known structs and region names. An omitted region is `outermost` at the
+/// outermost pointer mark, and the heap elsewhere.
 pub fn type_written(
     alloc: Global,
     structs: &StructNames,

@@ -31,7 +31,7 @@ impl Model for Known {
     ghost invariant = { λ k. k.regions ≡ first_regions k.heap k.unique };
 }
 
-/// Returns the structs of a program in order.
+/// Returns the names and parameter counts of a program's structs, in order.
 fn structs_of(alloc: Global, declarations: &[Declaration]) -> Result<StructNames, AllocError>
     ensures { IfOk result (λ structs. structs ≡ structs_of (map view_declaration declarations.now)) }
 {
@@ -50,7 +50,8 @@ impl Known {
     ghost use Rattle.cyc_types.specs.typing.DeclarationRules.{structs_of, is_among, region_numbers};
     ghost use Rattle.cyc_types.specs.inside.Namings.{first_regions};
 
-    /// Returns the names known in a program of these declarations, given the names of the heap, the unique region and `main`.
+    /// Returns the names known in a program with these declarations, from the names of the heap, the unique region and
+    /// `main`.
     pub fn new(
         alloc: Global,
         heap: usize,
@@ -72,7 +73,7 @@ impl Known {
         })
     }
 
-    /// Returns the declared structs.
+    /// Returns the names of the declared structs.
     pub fn structs(&self) -> &StructNames
         ensures { result.now ≡ self.now.structs }
     {
@@ -86,21 +87,21 @@ impl Known {
         &self.regions
     }
 
-    /// Returns the name `main`.
+    /// Returns the number of the name `main`.
     pub fn main(&self) -> usize
         ensures { result ≡ self.now.main }
     {
         self.main
     }
 
-    /// Returns true if a built-in region has this name.
+    /// Returns true if `name` is the name of a built-in region.
     pub fn has_region(&self, name: usize) -> bool
         ensures { result ≡ is_among name (region_numbers self.now.regions) }
     {
         name == self.heap || name == self.unique
     }
 
-    /// Resets the names to those of the built-in regions.
+    /// Resets a table of region names to the built-in region names.
     #[tactic(auto, using(std::proofs::lemmas::List::drop_all))]
     pub fn reset(&self, names: &mut RegionNames) -> Result<(), AllocError>
         ensures { OnOk result (names.new ≡ self.now.regions) }
@@ -110,7 +111,7 @@ impl Known {
         names.declare(self.heap, Region::Heap)
     }
 
-    /// Resets a set of names to those of the built-in regions.
+    /// Resets a set of names to the built-in region names.
     pub fn reset_set(&self, names: &mut NameSet) -> Result<(), AllocError>
         ensures { OnOk result (names.new ≡ region_numbers self.now.regions) }
     {

@@ -6,9 +6,9 @@ use std::marker::Model;
 /// A set of names. Contracts see it as the list of names added, newest first.
 #[derive(Drop)]
 pub struct NameSet {
-    /// The names, oldest first.
+    /// The names in the set, oldest first.
     names: Vec<usize>,
-    /// For each name, true if it is in the set.
+    /// For each name, true if the name is in the set.
     marks: Vec<bool>,
 }
 
@@ -47,7 +47,7 @@ impl NameSet {
         }
     }
 
-    /// Adds a name, which may already be in the set. An error leaves the set unchanged.
+    /// Adds a name, which may already be in the set. If the addition fails, the set is unchanged.
     pub fn add(&mut self, name: usize) -> Result<(), AllocError>
         ensures { OnOk result (self.new ≡ name ∷ self.old) }
     {
@@ -69,7 +69,7 @@ impl NameSet {
 ghost use Rattle.std.specs.Prelude.{◌≡◌, ℕ, ◌<◌, length, nat_eq, not, ◌||◌, ◌&&◌, false, get_or, OnOk};
 ghost use Rattle.std.specs.List.{list_any};
 
-/// Grows the table until it has an entry for this name.
+/// Grows the table until it has an entry for `name`.
 pub(crate) fn grow(table: &mut Vec<bool>, name: usize) -> Result<(), AllocError>
     ensures same { (x : ℕ) → get_or table.new.items x false ≡ get_or table.old.items x false }
     ensures long { OnOk result (name < length table.new.items) }

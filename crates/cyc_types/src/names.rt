@@ -1,4 +1,4 @@
-//! The region names in scope, with constant-time lookup.
+//! A table of the region names in scope, with constant-time lookup.
 
 use crate::{NameSet, Region};
 use std::alloc::{AllocError, Global};
@@ -12,12 +12,12 @@ struct Binding {
     hidden: Option<Region>,
 }
 
-/// The region names in scope. Contracts see them as a list, newest first.
+/// The region names in scope. Contracts see this table as a list of names, newest first.
 #[derive(Drop)]
 pub struct RegionNames {
-    /// The bindings, oldest first.
+    /// The bindings of names to regions, oldest first.
     bindings: Vec<Binding>,
-    /// For each name, the region that it denotes.
+    /// For each name, the region that the name denotes, if any.
     newest: Vec<Option<Region>>,
 }
 
@@ -38,7 +38,7 @@ impl RegionNames {
     ghost use Rattle.cyc_types.specs.typing.Scopes.{region_among};
     ghost use Rattle.cyc_types.specs.typing.DeclarationRules.{region_numbers};
 
-    /// Returns an empty list of names.
+    /// Returns an empty table of region names.
     pub fn new(alloc: Global) -> RegionNames
         ensures { result ≡ [] }
     {
@@ -55,7 +55,7 @@ impl RegionNames {
         self.bindings.len()
     }
 
-    /// Returns the region of the name, if it is known.
+    /// Returns the region that the name denotes, if the name is declared.
     pub fn find(&self, name: usize) -> Option<Region>
         ensures { result ≡ region_among self.now name }
     {
@@ -65,7 +65,7 @@ impl RegionNames {
         }
     }
 
-    /// Declares a name, which hides an older declaration of that name.
+    /// Declares a name; the declaration hides an older declaration of the same name.
     pub fn declare(&mut self, name: usize, region: Region) -> Result<(), AllocError>
         ensures { OnOk result (self.new ≡ record { name = name; region = region } ∷ self.old) }
     {
@@ -80,7 +80,7 @@ impl RegionNames {
         Ok(())
     }
 
-    /// Removes the newest name.
+    /// Removes the newest name from the table.
     fn undo(&mut self)
         ensures { self.new ≡ drop 1 self.old }
     {
@@ -90,7 +90,7 @@ impl RegionNames {
         self.newest[binding.name] = binding.hidden;
     }
 
-    /// Removes all names but this number of the oldest.
+    /// Removes all names except the `count` oldest.
     #[tactic(auto, using(cyc_words::proofs::Lists::drop_one_more))]
     pub fn close(&mut self, count: usize)
         ensures { self.new ≡ drop (length self.old - count) self.old }
@@ -100,7 +100,7 @@ impl RegionNames {
         }
     }
 
-    /// Adds the names to a set, the oldest first.
+    /// Adds the names to a set, oldest first.
     pub fn add_to(&self, set: &mut NameSet) -> Result<(), AllocError>
         ensures { OnOk result (set.new ≡ region_numbers self.now ++ set.old) }
     {
@@ -112,7 +112,7 @@ ghost use Rattle.std.specs.Prelude.{◌≡◌, ℕ, ◌<◌, ◌++◌, length, g
 ghost use Rattle.cyc_types.specs.typing.DeclarationRules.{region_numbers};
 ghost use Rattle.cyc_types.specs.inside.Names.{names_of};
 
-/// Adds the names of bindings to a set, the oldest first.
+/// Adds the names of bindings to a set, oldest first.
 fn add_all(bindings: &[Binding], set: &mut NameSet) -> Result<(), AllocError>
     ensures { OnOk result (set.new ≡ region_numbers (names_of bindings.now) ++ set.old) }
 {
@@ -122,7 +122,7 @@ fn add_all(bindings: &[Binding], set: &mut NameSet) -> Result<(), AllocError>
     Ok(())
 }
 
-/// Grows the table until it has an entry for this name.
+/// Grows the table until it has an entry for `name`.
 fn grow(table: &mut Vec<Option<Region>>, name: usize) -> Result<(), AllocError>
     ensures same { (x : ℕ) → get_or table.new.items x None ≡ get_or table.old.items x None }
     ensures long { OnOk result (name < length table.new.items) }

@@ -1,4 +1,5 @@
-//! The position of the oldest open scope of each region, by which the outlives relation is decided without a search of the scopes.
+//! The position of the oldest open scope of each region. The positions of oldest scopes decide the outlives relation without a
+//! search of the scopes.
 ghost use Rattle.std.specs.Prelude.{◌≡◌, ◌≤◌, ◌<◌, ◌||◌, ◌&&◌, ◌++◌, ◌+◌, ℕ, List, [], ◌∷◌, reverse, length, get_or, not, false, true, IsTrue, OnOk, IfOk};
 ghost use Rattle.std.specs.List.{list_any};
 ghost use Rattle.cyc_types.specs.declared.region.Region.{Region};
@@ -15,7 +16,8 @@ use crate::region_list::RegionList;
 use crate::scope::{Scope, is_outlived_by_live};
 use std::alloc::AllocError;
 
-/// Returns the index of the oldest scope of the region, if one is open.
+/// Returns the index of the region's oldest open scope. The index is meaningless if the region has
+/// no open scope.
 fn opening_of(openings: &[usize], region: Region) -> usize
     ensures { result ≡ opening_of openings.now region }
 {
@@ -28,7 +30,7 @@ fn opening_of(openings: &[usize], region: Region) -> usize
     }
 }
 
-/// Returns true if the region is live while this many of the oldest scopes are open.
+/// Returns true if the region is live while the `count` oldest scopes are open.
 pub(crate) fn is_live_before(
     live: &RegionList,
     openings: &[usize],
@@ -49,7 +51,8 @@ pub(crate) fn is_live_before(
     false
 }
 
-/// Returns true if one of these regions is live at that point, not counting the unique region.
+/// Returns true if one of `regions` is live while the `count` oldest scopes are open, not counting
+/// the unique region.
 fn is_one_live_before(
     live: &RegionList,
     openings: &[usize],
@@ -68,7 +71,8 @@ fn is_one_live_before(
     false
 }
 
-/// Returns true if the constraints lead from `a` to a region that is live at that point, not counting the unique region.
+/// Returns true if constraints lead from `a` to a region that is live while the `count` oldest scopes are open, not
+/// counting the unique region.
 fn is_above_live_before(
     constraints: &ConstraintTable,
     live: &RegionList,
@@ -90,10 +94,11 @@ fn is_above_live_before(
     }
 }
 
-/// Returns true if the constraints and the open scopes lead from `a` to `b`, provided that all scopes are in order.
+/// Returns true if a path of the constraints and the open scopes leads from `a` to `b`, provided that all scopes
+/// are in order.
 ///
-/// A region that is live when a scope opens leads to the scope's region. A region that is not live when the scope opens leads to the
-/// scope's region only by constraints, since that region is new.
+/// A region that is live when a scope opens outlives the scope's region. A region that is not live when the scope opens outlives the
+/// scope's region only by constraints, since the scope's region is new.
 pub(crate) fn leads_in_order(
     constraints: &ConstraintTable,
     live: &RegionList,
@@ -119,7 +124,7 @@ pub(crate) fn leads_in_order(
     false
 }
 
-/// Grows the table until it has an entry for this variable.
+/// Grows the table until it has an entry for the region variable with this number.
 fn grow(openings: &mut Vec<usize>, number: usize) -> Result<(), AllocError>
     ensures same { (x : ℕ) → get_or openings.new.items x 0 ≡ get_or openings.old.items x 0 }
     ensures long { OnOk result (number < length openings.new.items) }
@@ -134,7 +139,7 @@ fn grow(openings: &mut Vec<usize>, number: usize) -> Result<(), AllocError>
     Ok(())
 }
 
-/// Stores the index of the oldest scope of a region, if the region is a variable.
+/// Stores `place` as the index of a region's oldest scope, if the region is a variable.
 fn note(openings: &mut Vec<usize>, region: Region, place: usize) -> Result<bool, AllocError>
     ensures noted { IfOk result (λ noted. noted ≡ true → opening_of openings.new.items region ≡ place) }
     ensures others { (r : Region) → region_eq region r ≡ false → opening_of openings.new.items r ≡ opening_of openings.old.items r }
@@ -147,7 +152,7 @@ fn note(openings: &mut Vec<usize>, region: Region, place: usize) -> Result<bool,
     Ok(true)
 }
 
-/// Returns true if no constraint begins with the region.
+/// Returns true if no constraint has `region` as its longer-lived region.
 fn is_alone(constraints: &ConstraintTable, region: Region) -> bool
     ensures { IsTrue result → (b : Region) → table_leads constraints.now region b ≡ region_eq region b }
 {
@@ -157,8 +162,8 @@ fn is_alone(constraints: &ConstraintTable, region: Region) -> bool
     }
 }
 
-/// Returns true if the next scope would be in order, given that the oldest `in_order` scopes are in order. Stores the index of the oldest
-/// scope of its region.
+/// Returns true if the next scope will be in order, provided that the oldest `in_order` scopes are in order. Stores the index of the
+/// oldest scope of the next scope's region.
 pub(crate) fn opens_in_order(
     constraints: &ConstraintTable,
     live: &RegionList,

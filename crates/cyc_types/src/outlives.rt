@@ -1,4 +1,5 @@
-//! The outlives relation between regions, given the constraints of a function and the open scopes.
+//! The outlives relation between regions, computed from the constraints of a function and the open
+//! scopes.
 ghost use Rattle.std.specs.Prelude.{◌≡◌, ◌≢◌, ◌↔◌, ◌||◌, ◌-◌, [], ◌∷◌, reverse, drop, IsTrue, IfOk, OnOk, OnErr, length, ◌<◌};
 ghost use Rattle.std.specs.List.{list_any};
 ghost use Rattle.std.specs.Option.{ForSome};
@@ -17,22 +18,23 @@ use crate::scope::{Kind, Scope, is_outlived_by_live};
 use std::alloc::{AllocError, Global};
 use std::marker::Model;
 
-/// The outlives relation of a function at one point of its body. The outlives relation consists of the written constraints, the regions
+/// The outlives relation of a function at one point of its body. The relation is computed from the written constraints, the regions
 /// that are live before any scope opens, and the open scopes.
 ///
-/// The heap outlives every region except the unique one. A region that is live when a block or a lexical scope opens outlives the new
-/// region. Opening a dynamic or an alias region adds nothing. The unique region is related to no other region. Queries of the outlives
-/// relation do not allocate.
+/// The heap outlives every region except the unique region. A region that is live when a block or a lexical scope opens outlives the
+/// new scope's region. Opening a dynamic or an alias region adds no pair to the outlives relation. The unique region is related to no
+/// other region. Queries of the outlives relation do not allocate.
 #[derive(Drop)]
 pub struct Outlives {
     constraints: ConstraintTable,
     live: RegionList,
-    /// The open scopes, oldest first.
+    /// The scopes that are open, oldest first.
     scopes: Vec<Scope>,
-    /// For each region variable of an open scope, the index of its oldest scope. Entries of variables without an open scope are
-    /// meaningless.
+    /// For each region variable with an open scope, the index of the oldest such scope. Entries of region variables without an
+    /// open scope are meaningless.
     openings: Vec<usize>,
-    /// The number of oldest scopes that are in order. For these, `openings` decides which regions are live and which outlive which.
+    /// The number of oldest scopes that are in order. For scopes in order, `openings` decides which regions are live and which
+    /// regions outlive each other.
     in_order: usize,
 }
 
@@ -49,8 +51,8 @@ impl Model for Outlives {
 }
 
 impl Outlives {
-    /// Returns the relation without open scopes. The first region of each pair of `written` outlives the second; `live` lists the regions
-    /// that are live at the start.
+    /// Returns the outlives relation without open scopes. The first region of each pair of `written` outlives the second; `live` lists
+    /// the regions that are live at the start.
     pub fn new(
         alloc: Global,
         written: &[(Region, Region)],
@@ -69,16 +71,17 @@ impl Outlives {
         })
     }
 
-    /// Returns true if `a` outlives `b`.
+    /// Returns true if region `a` outlives region `b`.
     pub fn outlives(&self, a: Region, b: Region) -> bool
         ensures tested { result ≡ is_outliving self.now a b }
-        // If neither the constraints nor the scopes mention the unique region, this is the outlives relation.
+        // If neither the constraints nor the scopes mention the unique region, the result decides the
+        // outlives relation.
         ensures related { HasNoUnique self.now → (IsTrue result ↔ OutlivesIn self.now a b) }
     {
         self.is_outliving(a, b)
     }
 
-    /// Returns true if the region is live.
+    /// Returns true if the region is live at the current point.
     #[tactic(auto, using(crate::proofs::SearchLemmas::live_among))]
     pub fn is_live(&self, region: Region) -> bool
         ensures { result ≡ is_region_among region (live_regions self.now.live self.now.opened) }
@@ -102,8 +105,8 @@ impl Outlives {
         self.scopes.len()
     }
 
-    /// Opens a scope. The scope's region is live until the scope is closed. The region may occur in constraints or already be live, as the
-    /// region of a key may.
+    /// Opens a scope. The scope's region is live until the scope is closed. The scope's region may occur in constraints or already be
+    /// live, as the region of a key may.
     pub fn open_scope(&mut self, region: Region, kind: Kind) -> Result<(), AllocError>
         ensures opened { OnOk result (self.new ≡ record self.old { opened = record { region = region; kind = kind } ∷ self.old.opened }) }
         ensures unchanged { OnErr result (self.new ≡ self.old) }
@@ -133,7 +136,7 @@ impl Outlives {
         self.in_order = self.in_order.min(self.scopes.len());
     }
 
-    /// Closes all open scopes but this number of the oldest.
+    /// Closes all open scopes except the `count` oldest.
     #[tactic(auto, using(cyc_words::proofs::Lists::reverse_take))]
     pub fn close(&mut self, count: usize)
         ensures { self.new ≡ record self.old { opened = drop (length self.old.opened - count) self.old.opened } }
@@ -142,7 +145,7 @@ impl Outlives {
         self.in_order = self.in_order.min(self.scopes.len());
     }
 
-    /// Returns true if `a` outlives `b`: by the constraints and the scopes, or because it outlives the heap.
+    /// Returns true if `a` outlives `b` by the constraints and the scopes, or if `a` outlives the heap.
     fn is_outliving(&self, a: Region, b: Region) -> bool
         ensures { result ≡ is_outliving self.now a b }
     {
@@ -152,7 +155,8 @@ impl Outlives {
         b != Region::Unique && (self.leads(a, b) || self.leads(a, Region::Heap))
     }
 
-    /// Returns true if the constraints and the open scopes lead from `a` to `b`.
+    /// Returns true if a path of the constraints and the open scopes leads from region `a` to
+    /// region `b`.
     fn leads(&self, a: Region, b: Region) -> bool
         ensures { result ≡ leads self.now.written self.now.live self.now.opened a b }
     {
@@ -170,7 +174,7 @@ impl Outlives {
     }
 }
 
-/// Returns true if one of these scopes has this region.
+/// Returns true if one of the scopes has the given region.
 fn is_opened(scopes: &[Scope], region: Region) -> bool
     ensures { result ≡ list_any (λ s. region_eq s.region region) scopes.now }
 {
@@ -182,7 +186,7 @@ fn is_opened(scopes: &[Scope], region: Region) -> bool
     false
 }
 
-/// Returns true if the constraints lead from `a` to one of these regions, not counting the unique region.
+/// Returns true if constraints lead from `a` to a region in the list, not counting the unique region.
 fn is_above_one_of(constraints: &ConstraintTable, regions: &[Region], a: Region) -> bool
     requires { IsClosed constraints.now }
     ensures { result ≡ above_one_of (written_in constraints.now) regions.now a }
@@ -195,7 +199,7 @@ fn is_above_one_of(constraints: &ConstraintTable, regions: &[Region], a: Region)
     false
 }
 
-/// Returns true if the constraints lead from `a` to the region of one of these scopes, not counting the unique region.
+/// Returns true if constraints lead from `a` to the region of a scope in the list, not counting the unique region.
 fn is_above_one_opened(constraints: &ConstraintTable, scopes: &[Scope], a: Region) -> bool
     requires { IsClosed constraints.now }
     ensures { result ≡ above_one_opened (written_in constraints.now) scopes.now a }
@@ -208,7 +212,7 @@ fn is_above_one_opened(constraints: &ConstraintTable, scopes: &[Scope], a: Regio
     false
 }
 
-/// Returns true if the constraints lead from `a` to a region that is live while these scopes are open.
+/// Returns true if constraints lead from `a` to a region that is live while the given scopes are open.
 fn is_above_live(
     constraints: &ConstraintTable,
     live: &[Region],
@@ -221,10 +225,11 @@ fn is_above_live(
     is_above_one_of(constraints, live, a) || is_above_one_opened(constraints, scopes, a)
 }
 
-/// Returns true if the constraints and the open scopes lead from `a` to `b`.
+/// Returns true if a path of the constraints and the open scopes leads from region `a` to region
+/// `b`.
 ///
-/// The scopes are visited from the oldest to the newest. After some scope whose live regions all outlive `b`, a later scope matters only if
-/// its own region leads to `b`. If a later scope's own region leads to `b`, all regions live at that scope outlive `b` too.
+/// The scopes are visited from the oldest to the newest. Once all regions live at some scope outlive `b`, a later scope matters only if the
+/// later scope's own region outlives `b`. If a later scope's own region outlives `b`, all regions live at that later scope outlive `b` too.
 fn leads(
     constraints: &ConstraintTable,
     live: &[Region],
@@ -253,8 +258,8 @@ fn leads(
     false
 }
 
-/// Returns true if `a` leads to `b`. All regions live at the opening of the scope `known` are given to lead to `b`; otherwise only the
-/// constraints count.
+/// Returns true if `a` outlives `b` by the constraints or through a region live at the opening of the scope `known`. If `known` is
+/// `None`, only the constraints count.
 fn is_known(
     constraints: &ConstraintTable,
     live: &[Region],

@@ -1,4 +1,5 @@
-//! The types of parameters. The types of parameters declare the region names that occur in them; each omitted region is a new region.
+//! The types of a function's parameters. The types of parameters declare the region names that occur in them; each omitted region is
+//! a new region.
 ghost use Rattle.std.specs.Prelude.{◌≡◌, suc, map, option_map, IfOk, OnOk};
 ghost use Rattle.cyc_syntax.specs.inside.TreeView.{view_name, view_base, view_pointer, view_type, view_member};
 ghost use Rattle.cyc_types.specs.declared.region.Region.TheVariants.{Variable};
@@ -17,7 +18,7 @@ use smallvec::SmallVec;
 use std::alloc::{AllocError, Global};
 use std::rc::Rc;
 
-/// Returns the next region, which is new.
+/// Returns the next region variable, which is new, and increments the number of the next region.
 fn next_region(next: &mut usize) -> Result<Region, AllocError>
     ensures region { IfOk result (λ r. r ≡ Variable next.old) }
     ensures next { OnOk result (next.new ≡ suc next.old) }
@@ -30,7 +31,7 @@ fn next_region(next: &mut usize) -> Result<Region, AllocError>
     Ok(Region::Variable(number))
 }
 
-/// Returns the region of a name; an unknown name gets the next region.
+/// Returns the region of a name; an unknown name is declared and gets the next region.
 fn region_for(names: &mut RegionNames, next: &mut usize, name: Ident) -> Result<Region, AllocError>
     ensures region { IfOk result (λ r. r ≡ region_for (naming names.old next.old) (view_name name)) }
     ensures naming { OnOk result (naming names.new next.new ≡ after_region (naming names.old next.old) (view_name name)) }
@@ -43,7 +44,7 @@ fn region_for(names: &mut RegionNames, next: &mut usize, name: Ident) -> Result<
     Ok(region)
 }
 
-/// Returns the region of a mark; an omitted region is the next one.
+/// Returns the region of a pointer mark; if the mark omits its region, the next region is returned.
 fn mark_for(
     names: &mut RegionNames,
     next: &mut usize,
@@ -58,7 +59,7 @@ fn mark_for(
     }
 }
 
-/// Returns the region arguments of a struct with this number of parameters. Omitted region arguments are the heap.
+/// Returns the region arguments of a struct with `count` region parameters. Omitted region arguments are the heap.
 fn arguments_for(
     alloc: Global,
     names: &mut RegionNames,
@@ -79,7 +80,7 @@ fn arguments_for(
     Ok(Rc::new(alloc, all)?)
 }
 
-/// Returns the type before its marks.
+/// Returns the type that a written parameter type has before its pointer marks are applied.
 fn base_for(
     alloc: Global,
     structs: &StructNames,
@@ -109,7 +110,7 @@ fn base_for(
     })
 }
 
-/// Returns the type of a pointer with this mark to a type.
+/// Returns the pointer type with the given mark and target type.
 fn pointer_for(
     alloc: Global,
     names: &mut RegionNames,
@@ -128,7 +129,8 @@ fn pointer_for(
     })
 }
 
-/// Returns the type with its marks, applied from the innermost on.
+/// Returns the pointer type that applying the marks to the base type gives, from the innermost mark
+/// on.
 fn pointers_for(
     alloc: Global,
     names: &mut RegionNames,
@@ -146,7 +148,8 @@ fn pointers_for(
     Ok(of_type)
 }
 
-/// Returns the type of a parameter, given the known structs and region names.
+/// Returns the type of a parameter, from the known structs and region names. Region names that the
+/// type declares are added.
 fn type_for(
     alloc: Global,
     structs: &StructNames,
@@ -161,7 +164,7 @@ fn type_for(
     pointers_for(alloc, names, next, base, &written.marks)
 }
 
-/// Returns the types of parameters, given the known structs and region names and the number of the next region. After the call, the region
+/// Returns the types of parameters, from the known structs, the region names and the number of the next region. After the call, the region
 /// names that the parameters declare are known.
 pub fn types_for(
     alloc: Global,

@@ -1,7 +1,7 @@
-//! Regions, as they occur in types.
+//! The regions that occur in types.
 
-/// A region: the heap, the unique region, or a region variable. A variable is numbered within its function (within its struct, in the type
-/// of a field). Variables that are declared, omitted, or created by the function, a block or a label share one numbering.
+/// A region: the heap, the unique region, or a region variable. A region variable is numbered within its function (within its struct, in
+/// the type of a field). Region variables share one numbering, whether declared, omitted, or created by the function, a block or a label.
 #[derive(Clone, Copy, Debug, PartialEq, Eq, Default)]
 pub enum Region {
     /// `` `H ``
@@ -16,7 +16,8 @@ impl Region {
     ghost use Rattle.std.specs.Prelude.{◌≡◌};
     ghost use Rattle.cyc_types.specs.Types.{substituted_region};
 
-    /// Returns the region at this variable's number in `map`. A variable past the end of `map` stays, as do the heap and the unique region.
+    /// Replaces a region variable by the region at its number in `map`. A region variable past the end of `map` stays, as do the heap and
+    /// the unique region.
     pub fn substituted(self, map: &[Region]) -> Region
         ensures { result ≡ substituted_region map.now self }
     {

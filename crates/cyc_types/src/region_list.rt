@@ -5,13 +5,13 @@ use crate::name_set::{grow, mark};
 use std::alloc::{AllocError, Global};
 use std::marker::Model;
 
-/// A list of regions. Contracts see them in their order.
+/// A list of regions. Contracts see this list as the regions in order.
 #[derive(Drop)]
 pub struct RegionList {
     regions: Vec<Region>,
     has_heap: bool,
     has_unique: bool,
-    /// For each region variable, true if it is in the list.
+    /// For each region variable, true if the region variable is in the list.
     marks: Vec<bool>,
 }
 
@@ -43,7 +43,7 @@ impl RegionList {
         }
     }
 
-    /// Returns the list of these regions, with its marks.
+    /// Returns the list of the given regions, with a flag for each region in it.
     pub(crate) fn from_slice(alloc: Global, regions: &[Region]) -> Result<RegionList, AllocError>
         ensures { IfOk result (λ list. list ≡ regions.now) }
     {
@@ -74,7 +74,7 @@ impl RegionList {
         }
     }
 
-    /// Adds a region at the end.
+    /// Adds a region at the end of the list.
     pub(crate) fn push(&mut self, region: Region) -> Result<(), AllocError>
         ensures { OnOk result (self.new ≡ self.old ++ region ∷ []) }
     {

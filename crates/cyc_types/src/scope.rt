@@ -4,16 +4,16 @@ ghost use Rattle.cyc_types.specs.Outlives.{is_outlived_by_live};
 
 use crate::Region;
 
-/// The construct that opens a region for the rest of a block.
+/// The kind of construct that opens a region for the rest of a block.
 #[derive(Clone, Copy, Debug, PartialEq, Eq)]
 pub enum Kind {
-    /// A block, whose region contains its variables.
+    /// A block; its region contains the block's variables.
     Block,
-    /// A `region` item that creates its region.
+    /// A `region` item that creates the region it opens.
     Lexical,
-    /// A `region` item that opens the region of a key.
+    /// A `region` item that opens the region of a dynamic region's key.
     Dynamic,
-    /// A `let alias` item.
+    /// A `let alias` item, which opens the alias region.
     Alias,
 }
 
@@ -24,7 +24,8 @@ pub struct Scope {
     pub kind: Kind,
 }
 
-/// Returns true if the regions that are live when such a scope opens outlive its region.
+/// Returns true if the regions that are live when a scope of this kind opens outlive the scope's
+/// region.
 pub(crate) fn is_outlived_by_live(kind: Kind) -> bool
     ensures { result ≡ is_outlived_by_live kind }
 {

@@ -8,17 +8,18 @@ use crate::{Region, Ty};
 use smallvec::SmallVec;
 use std::alloc::{AllocError, Global};
 
-/// The type of a function with its demands on callers. A signature's region variables are numbered from 1.
+/// The type of a function together with its demands on callers. A signature's region variables are
+/// numbered from 1.
 #[derive(Drop)]
 pub struct Signature {
-    /// The number of regions that the parameters name or omit.
+    /// The number of regions that the function's parameters name or omit.
     pub variables: usize,
     pub parameters: Vec<Ty>,
-    /// The result type; a `void` function has none.
+    /// The result type of the function; `None` for `void`.
     pub result: Option<Ty>,
-    /// The regions that must be live at a call.
+    /// The regions that must be live at a call of the function.
     pub effect: SmallVec<Region, 4>,
-    /// Pairs of regions of which the first outlives the second.
+    /// Pairs of regions, of which the first must outlive the second at a call.
     pub constraints: SmallVec<(Region, Region), 4>,
 }
 
@@ -27,7 +28,8 @@ impl Signature {
     ghost use Rattle.cyc_types.specs.typing.Expressions.{instantiated};
     ghost use Rattle.cyc_types.specs.inside.SignatureView.{view_signature};
 
-    /// Returns the signature at a call: each region variable becomes the region at its number in `instance`.
+    /// Returns the signature at a call: each region variable is replaced by the region at its number in
+    /// `instance`.
     pub fn instantiated(&self, alloc: Global, instance: &[Region]) -> Result<Signature, AllocError>
         ensures { IfOk result (λ s. view_signature s ≡ instantiated instance.now (view_signature self.now)) }
     {

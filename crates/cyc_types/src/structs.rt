@@ -1,27 +1,28 @@
-//! The structs of a program, found by name in constant time.
+//! The structs of a program; a struct is found by its name in constant time.
 
 use std::alloc::{AllocError, Global};
 use std::marker::Model;
 
-/// A struct: its name, its number, and the number of its region parameters.
+/// A struct found by its name: the struct's number, and the number of its region parameters.
 #[derive(Clone, Copy)]
 pub struct Known {
     pub number: usize,
     pub parameters: usize,
 }
 
-/// A declared struct, with its name.
+/// A declared struct: its name and the number of its region parameters.
 #[derive(Clone, Copy)]
 struct Entry {
     name: usize,
     parameters: usize,
 }
 
-/// The structs in order, numbered by their positions. If a name is declared twice, the first declaration counts.
+/// The declared structs in order, numbered by their positions. If a name is declared twice, the first
+/// declaration counts.
 #[derive(Drop)]
 pub struct StructNames {
     entries: Vec<Entry>,
-    /// For each name, its first struct.
+    /// For each name, the first struct with that name, if any.
     by_name: Vec<Option<Known>>,
 }
 
@@ -58,7 +59,7 @@ impl StructNames {
         self.entries.len()
     }
 
-    /// Returns the struct of this name, if any.
+    /// Returns the first struct with the given name, if any.
     fn find(&self, name: usize) -> Option<Known>
         ensures { result ≡ known_from 0 self.now name }
     {
@@ -68,7 +69,8 @@ impl StructNames {
         }
     }
 
-    /// Returns the number of the struct of this name, or the number of structs if there is none.
+    /// Returns the number of the first struct with the given name, or the number of all structs if
+    /// no struct has the name.
     #[tactic(auto, using(crate::proofs::StructLemmas::number_found, crate::proofs::StructLemmas::number_lost))]
     pub fn number(&self, name: usize) -> usize
         ensures { result ≡ struct_number self.now name }
@@ -79,7 +81,8 @@ impl StructNames {
         }
     }
 
-    /// Returns the number of region parameters of the struct of this name.
+    /// Returns the number of region parameters of the struct with the given name, if the struct
+    /// exists.
     #[tactic(auto, using(crate::proofs::StructLemmas::parameters_found, crate::proofs::StructLemmas::parameters_lost))]
     pub fn parameters(&self, name: usize) -> Option<usize>
         ensures { result ≡ parameters_among self.now name }
@@ -90,7 +93,8 @@ impl StructNames {
         }
     }
 
-    /// Declares a struct with this many region parameters. An earlier struct of that name is still the one found.
+    /// Declares a struct with the given number of region parameters. A lookup still finds an earlier struct with
+    /// the same name.
     pub fn declare(&mut self, name: usize, parameters: usize) -> Result<(), AllocError>
         ensures { OnOk result (self.new ≡ self.old ++ record { name = name; parameters = parameters } ∷ []) }
     {
@@ -108,7 +112,7 @@ impl StructNames {
 
 ghost use Rattle.std.specs.Prelude.{◌≡◌, ℕ, ◌<◌, length, get_or, None, OnOk};
 
-/// Grows the table until it has an entry for this name.
+/// Grows the table until it has an entry for `name`.
 fn grow(table: &mut Vec<Option<Known>>, name: usize) -> Result<(), AllocError>
     ensures same { (x : ℕ) → get_or table.new.items x None ≡ get_or table.old.items x None }
     ensures long { OnOk result (name < length table.new.items) }

@@ -6,12 +6,12 @@ use smallvec::SmallVec;
 use std::alloc::{AllocError, Global};
 use std::rc::Rc;
 
-/// A type in which each region is explicit: a formed type of the subset, or a struct as the target of a pointer. Copies of a type share its
-/// parts, so copying does not allocate.
+/// A type in which each region is explicit. A value of this type is a well-formed type of the subset, or a struct type as the target of a
+/// pointer. A copy of a type shares the original's parts, so copying does not allocate.
 #[derive(Drop)]
 pub enum Ty {
     Int,
-    /// A byte, 0 to 255.
+    /// The type of a byte, 0 to 255.
     Char,
     Pointer {
         kind: PointerKind,
@@ -26,7 +26,7 @@ pub enum Ty {
     Key {
         region: Region,
     },
-    /// The struct of this number, with one region argument for each of its region parameters.
+    /// The struct with this number, with one region argument for each of its region parameters.
     Struct {
         number: usize,
         regions: Rc<SmallVec<Region, 4>>,
@@ -38,7 +38,8 @@ impl Ty {
     ghost use Rattle.cyc_types.specs.Types.{substituted_ty, words_of};
     ghost use Rattle.cyc_types.specs.TypeView.{view_ty};
 
-    /// Returns true if the types are equal in all parts: marks, regions and structs, at each level.
+    /// Returns true if two types are equal in all parts: pointer marks, regions and structs, at
+    /// each level.
     pub fn equals(&self, other: &Ty) -> bool
         ensures { IsTrue result ↔ (view_ty self.now ≡ view_ty other.now) }
     {
@@ -79,7 +80,7 @@ impl Ty {
         }
     }
 
-    /// Returns a copy of the type that shares its parts.
+    /// Returns a copy of the type that shares the original's parts.
     pub fn share(&self) -> Result<Ty, AllocError>
         ensures { IfOk result (λ ty. view_ty ty ≡ view_ty self.now) }
     {
@@ -104,7 +105,8 @@ impl Ty {
         })
     }
 
-    /// Returns the type with each region variable replaced by the region at its number in `map`; a variable past the end of `map` stays.
+    /// Returns the type with each region variable replaced by the region at its number in `map`; a region variable past the end of `map`
+    /// stays.
     pub fn substituted(&self, alloc: Global, map: &[Region]) -> Result<Ty, AllocError>
         ensures { IfOk result (λ ty. view_ty ty ≡ substituted_ty map.now (view_ty self.now)) }
     {
@@ -136,7 +138,8 @@ impl Ty {
         })
     }
 
-    /// Returns the number of words of a cell of this type: three for a fat pointer, otherwise one.
+    /// Returns the number of words of a variable of this type: three for a fat pointer, otherwise
+    /// one.
     pub fn words(&self) -> u32
         ensures { result ≡ words_of (view_ty self.now) }
     {
@@ -153,7 +156,7 @@ impl Ty {
 ghost use Rattle.std.specs.Prelude.{◌≡◌, IfOk, map};
 ghost use Rattle.cyc_types.specs.Types.{substituted_region};
 
-/// Returns the list with each region substituted.
+/// Returns the list of regions with replacements substituted for its region variables.
 fn all_substituted(
     alloc: Global,
     regions: &[Region],

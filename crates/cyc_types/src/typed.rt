@@ -1,25 +1,27 @@
-//! The typed tree: the checker builds it from an abstract syntax tree, and every later pass reads it.
+//! The typed tree. The type checker builds the typed tree from an abstract syntax tree, and every
+//! later pass reads it.
 //!
-//! Each name is resolved to a number. A local has its number in its function: parameters first, then declarations in order. A struct, an
-//! exception, a global and a function have their numbers in the program. The nodes distinguish the uses of a variable's value and the kinds
-//! of an operator's operands. Each conversion is explicit, and parentheses are removed. The meaning of a typed tree needs neither an
-//! environment of names nor the types of operands. Chains of operators are lists, so a tree is no deeper than its syntax tree. Rare and
-//! large parts are in boxes, so that a node is small.
+//! In a typed tree, each name is resolved to a number. A local has its number in its function: parameters first, then declarations in
+//! order. A struct, an exception, a global and a function have their numbers in the program. The nodes of a typed tree distinguish the uses
+//! of a variable's value and the kinds of an operator's operands. Each conversion is explicit, and parentheses are removed. The meaning of
+//! a typed tree needs neither an environment of names nor the types of operands. Chains of operators are lists, so a typed tree is no
+//! deeper than its syntax tree. Rare and large parts of nodes are in boxes, so that a node is small.
 //!
-//! A node stores a place of the text if a later pass may report a fault there, or if its code can end a run.
+//! A node of a typed tree stores a source position if a later pass may report a fault there, or if the
+//! node's code can end the execution.
 
 use crate::{Region, Ty};
 use cyc_syntax::Name;
 use cyc_words::Span;
 use smallvec::SmallVec;
 
-/// The kind of a cell's content, as the source or target of a conversion.
+/// The kind of value in a memory cell, as the source or target of a conversion.
 #[derive(Clone, Copy)]
 pub enum Kind {
     Int,
     /// A byte, 0 to 255.
     Char,
-    /// A thin pointer that may be null.
+    /// A thin pointer that can be null.
     Nullable,
     /// A thin pointer that is never null.
     NonNull,
@@ -28,28 +30,28 @@ pub enum Kind {
     Key,
 }
 
-/// The callee of a call.
+/// The function that a call expression calls.
 #[derive(Clone, Copy)]
 pub enum Callee {
     Putchar,
     Getchar,
-    /// The function of the program with this number.
+    /// The function of the program that has this number.
     Function { number: usize },
 }
 
-/// The unary operators that compute a number.
+/// The unary operators that compute a number from a number.
 #[derive(Clone, Copy)]
 pub enum UnaryOperator {
     Negate,
     Not,
     Complement,
-    /// The value of a char as an int; no token is written for it.
+    /// The conversion of a char to an int, which no token spells.
     Widen,
-    /// `char(..)`: the low byte of an int.
+    /// The conversion `char(..)`: the low byte of an int.
     LowByte,
 }
 
-/// The operators on two ints that evaluate both operands.
+/// The binary operators on two ints that evaluate both operands.
 #[derive(Clone, Copy)]
 pub enum Operator {
     Or,
@@ -70,7 +72,7 @@ pub enum Operator {
     Remainder,
 }
 
-/// The operators that may skip their right operand.
+/// The logical operators, which may skip their right operand.
 #[derive(Clone, Copy)]
 pub enum LogicalOperator {
     /// `&&`
@@ -79,31 +81,32 @@ pub enum LogicalOperator {
     OrElse,
 }
 
-/// The operators whose left operand is a pointer or `NULL`. Each such operator is named by its operation and the kinds of its operands.
+/// The operators whose left operand is a pointer or `NULL`. The name of each such operator states its operation and the kinds of its
+/// operands.
 #[derive(Clone, Copy)]
 pub enum PointerOperator {
-    /// A fat pointer and an int.
+    /// Operators on a fat pointer and an int.
     AddFat,
     SubtractFat,
     /// Two thin pointers.
     EqualThin,
     NotEqualThin,
-    /// A pointer and `NULL`.
+    /// Operators on a pointer and `NULL`.
     ThinIsNull,
     ThinIsNotNull,
     FatIsNull,
     FatIsNotNull,
-    /// `NULL` and a pointer.
+    /// Operators on `NULL` and a pointer.
     NullIs,
     NullIsNot,
 }
 
-/// The type of an expression.
+/// The type of an expression, which may also have no value or be the null pointer.
 #[derive(Drop)]
 pub enum ValueType {
     /// The expression has no value.
     Void,
-    /// The expression is the null pointer, of whatever type is expected.
+    /// The expression is the null pointer, whose type comes from the context.
     Null,
     Value { of_type: Ty },
 }
@@ -111,17 +114,17 @@ pub enum ValueType {
 /// A variable.
 #[derive(Clone, Copy)]
 pub enum Lvalue {
-    /// The local of this number, with the place of its name.
+    /// The local with this number, with the source position of its name.
     Local { span: Span, number: usize },
-    /// The global variable of this number.
+    /// The global variable with this number.
     Global { number: usize },
 }
 
-/// An expression with resolved names, types and moves.
+/// A typed expression: names are resolved, and types and moves are explicit.
 #[cycle(expression)]
 #[derive(Drop)]
 pub enum Expr {
-    /// A number, or a character constant.
+    /// An integer or character constant.
     Number {
         value: u32,
     },
@@ -129,37 +132,40 @@ pub enum Expr {
     NullPointer,
     /// `heap_region`
     HeapRegion,
-    /// The variable of a `for`, numbered by how many `for`s enclose its own; it is not assignable.
+    /// The counter variable of an array `for`, numbered by the number of enclosing `for`s; a
+    /// counter is not assignable.
     Counter {
         level: usize,
     },
-    /// Reads a variable, which keeps its value.
+    /// Reads a variable and leaves its value in place.
     Copy {
         source: Lvalue,
         of_type: Ty,
     },
-    /// Reads a local that is a unique pointer or a key, which leaves the local empty.
+    /// Reads a local that is a unique pointer or a key; the read leaves the local empty.
     Move {
         span: Span,
         number: usize,
         of_type: Ty,
     },
-    /// Reads a unique pointer in a local only to dereference or compare it; the local keeps its value.
+    /// Reads a unique pointer in a local only to dereference or compare it; the local keeps the
+    /// pointer.
     Peek {
         span: Span,
         number: usize,
         of_type: Ty,
     },
-    /// Reads the cell that a pointer leads to.
+    /// Reads a memory cell through a pointer.
     Load {
         source: Box<Dereference>,
     },
-    /// The address of a variable, with the type of the pointer.
+    /// The address of a variable, with the type of the resulting pointer.
     AddressOf {
         place: Lvalue,
         of_type: Ty,
     },
-    /// The address of a cell that a pointer leads to, with the type of the pointer.
+    /// The address of a memory cell reached through a pointer, with the type of the resulting
+    /// pointer.
     AddressOfCell {
         place: Box<Dereference>,
         of_type: Ty,
@@ -176,7 +182,8 @@ pub enum Expr {
     FreeKey {
         key: Box<Expr>,
     },
-    /// A call, with the place of the name, and the type of its result if it has one.
+    /// A call, with the source position of the function's name, and the type of the result if the
+    /// function has one.
     Call {
         span: Span,
         callee: Callee,
@@ -187,25 +194,28 @@ pub enum Expr {
         operator: UnaryOperator,
         operand: Box<Expr>,
     },
-    /// Operands joined by at least one operator, which associate to the left, with the type of each intermediate result.
+    /// A chain of operands joined by at least one operator; the operators associate to the left. The node stores the
+    /// type of each intermediate result.
     Binary {
         first: Box<Expr>,
         rest: Vec<Operation>,
         of_type: Ty,
     },
-    /// The assignment of a variable, with the type of its value. An assignment of a unique pointer or a key has no value.
+    /// The assignment to a variable, with the type of the assignment's value. An assignment of a unique pointer or a key
+    /// has no value.
     Assign {
         target: Lvalue,
         value: Box<Converted>,
         result: ValueType,
     },
-    /// The assignment of a cell that a pointer leads to.
+    /// The assignment to a memory cell reached through a pointer.
     Store {
         target: Box<Dereference>,
         value: Box<Converted>,
         result: ValueType,
     },
-    /// `new` and `rnew`, at this place: a new object, with the type of the pointer to it.
+    /// `new` or `rnew`: allocates a new object; the node stores the source position and the type of
+    /// the pointer to the object.
     New {
         span: Span,
         placement: Placement,
@@ -214,18 +224,19 @@ pub enum Expr {
     },
 }
 
-/// A place that a pointer leads to, with the type of its content.
+/// A memory cell reached through a pointer, with the type of its content.
 #[cycle(expression)]
 #[derive(Drop)]
 pub enum Dereference {
-    /// `*e`, for a pointer of this kind, with the place of e.
+    /// `*e`, where e is a pointer of the given kind; the position is that of e.
     Target {
         span: Span,
         kind: Kind,
         pointer: Expr,
         of_type: Ty,
     },
-    /// `e->f`, with the number of the struct and the number of its field, and the place of f.
+    /// `e->f`, with the number of the struct, the number of the field, and the source position of
+    /// f.
     Member {
         span: Span,
         kind: Kind,
@@ -234,7 +245,7 @@ pub enum Dereference {
         field: usize,
         of_type: Ty,
     },
-    /// `e[i]`, with the place of i.
+    /// `e[i]`, with the source position of i.
     Element {
         span: Span,
         pointer: Expr,
@@ -251,7 +262,7 @@ pub enum Placement {
     OnHeap,
     /// `rnew(unique_region)`
     AsUnique,
-    /// `rnew(e)`, by the handle of a region.
+    /// The region of a handle, chosen by `rnew(e)`.
     ByHandle { handle: Box<Expr> },
 }
 
@@ -259,16 +270,17 @@ pub enum Placement {
 #[cycle(expression)]
 #[derive(Drop)]
 pub enum Initial {
-    /// The operands are values of this kind.
+    /// An initial content that is a value of the given kind.
     Plain {
         kind: Kind,
         value: Expr,
     },
-    /// The fields of a struct, in order.
+    /// An initial content that consists of the fields of a struct, in order.
     Fields {
         values: Vec<Converted>,
     },
-    /// `{for i < length : element}`: the variable is the counter of this level, the elements have this kind, and `for` is at this place.
+    /// `{for i < length : element}`: the variable is the counter of the given level, the elements have the given kind, and the position
+    /// is that of `for`.
     Array {
         span: Span,
         level: usize,
@@ -278,7 +290,8 @@ pub enum Initial {
     },
 }
 
-/// An expression whose value is converted after its evaluation, possibly to its own kind.
+/// An expression whose value is converted after its evaluation; the target kind may equal the
+/// source kind.
 #[cycle(expression)]
 #[derive(Drop)]
 pub struct Converted {
@@ -291,23 +304,25 @@ pub struct Converted {
 #[cycle(expression)]
 #[derive(Drop)]
 pub enum Operation {
-    /// An operator that computes with two ints. The place is that of the operand.
+    /// An operator that computes with two ints. The source position is that of the right operand.
     Compute {
         span: Span,
         operator: Operator,
         operand: Expr,
     },
-    /// If the value so far decides the result, the operand is not evaluated.
+    /// `&&` or `||`: if the left operand's value decides the result, the right operand is not
+    /// evaluated.
     Test {
         operator: LogicalOperator,
         operand: Expr,
     },
-    /// An operator whose left operand is a pointer or `NULL`.
+    /// An operator of a chain whose left operand is a pointer or `NULL`.
     Pointer {
         operator: PointerOperator,
         operand: Expr,
     },
-    /// An operator whose left operand is a peek of this local, which must not change while the right operand is evaluated.
+    /// An operator whose left operand is a peek of a local; the local must not change while the right operand is
+    /// evaluated.
     PointerPeek {
         number: usize,
         operator: PointerOperator,
@@ -315,24 +330,25 @@ pub enum Operation {
     },
 }
 
-/// One side of a swap: a variable with its type, or a cell that a pointer leads to.
+/// One side of a swap: a variable with its type, or a memory cell reached through a pointer.
 #[derive(Drop)]
 pub enum Side {
     Variable { place: Lvalue, of_type: Ty },
     Cell { place: Box<Dereference> },
 }
 
-/// A statement with resolved names and types.
+/// A typed statement: names are resolved and types are explicit.
 #[cycle(statement)]
 #[derive(Drop)]
 pub enum Stmt {
-    /// A block, with or without a label, with the number of its region in its function.
+    /// A block, with the number of its region in the function; a label is not stored.
     Block {
         region: usize,
         items: Vec<Item>,
     },
     Empty,
-    /// An expression statement, with the place of its first token; a swap has such a place too.
+    /// An expression statement, with the source position of its first token; a swap also stores the
+    /// position of its first token.
     Evaluate {
         span: Span,
         value: Expr,
@@ -342,33 +358,36 @@ pub enum Stmt {
         left: Side,
         right: Side,
     },
-    /// A conditional, with the place of `if`. If no `else` is written, the other statement is empty.
+    /// An `if` statement, with the source position of `if`. If no `else` is written, the `otherwise`
+    /// statement is empty.
     If {
         span: Span,
         condition: Expr,
         then: Box<Stmt>,
         otherwise: Box<Stmt>,
     },
-    /// A loop, with the place of `while`.
+    /// A `while` loop, with the source position of `while`.
     While {
         span: Span,
         condition: Expr,
         body: Box<Stmt>,
     },
-    /// A return, with the place of `return`.
+    /// A `return` statement, with the source position of `return`.
     Return {
         span: Span,
         value: Option<Converted>,
     },
     Break,
     Continue,
-    /// Throws the exception of this number, with its int if it has one. The place is that of `throw`.
+    /// Throws the exception with this number, and an int if the exception has one. The source
+    /// position is that of `throw`.
     Throw {
         span: Span,
         tag: usize,
         value: Option<Expr>,
     },
-    /// The clauses of a catch, followed by the default clause, if there is one. The place is that of `try`.
+    /// A `try` statement with the clauses of its `catch` and the default clause, if there is one. The
+    /// source position is that of `try`.
     Try {
         span: Span,
         body: Box<Stmt>,
@@ -377,7 +396,7 @@ pub enum Stmt {
     },
 }
 
-/// The items of a clause, with the number of their region in the function.
+/// The items of a `catch` clause, with the number of their region in the function.
 #[cycle(statement)]
 #[derive(Drop)]
 pub struct Body {
@@ -385,7 +404,8 @@ pub struct Body {
     pub items: Vec<Item>,
 }
 
-/// A clause for the exception of this number, with the local that receives its int, if any.
+/// A `catch` clause for the exception with this number, with the local that receives the
+/// exception's int, if any.
 #[cycle(statement)]
 #[derive(Drop)]
 pub struct Clause {
@@ -402,28 +422,30 @@ pub enum Item {
     Execute {
         statement: Stmt,
     },
-    /// The declaration of the local of this number, with the place of its name.
+    /// The declaration of the local with this number, with the source position of its name.
     Local {
         span: Span,
         number: usize,
         of_type: Ty,
         value: Option<Converted>,
     },
-    /// A lexical region to the end of the block, by its number in its function, with the place of its name. The local of this number is its
-    /// handle.
+    /// Declares a lexical region to the end of the block, by its number in its function, with the source position of its name. The local
+    /// `number` is the region's handle.
     Region {
         span: Span,
         region: usize,
         number: usize,
     },
-    /// The region of a key, opened to the end of the block, with the place of the key's name. The local of this number is its handle.
+    /// Opens the region of a key to the end of the block; the position is that of the key's name. The local `number` is the region's
+    /// handle.
     Open {
         region: usize,
         number: usize,
         span: Span,
         key: usize,
     },
-    /// A local that shares the unique object of another local to the end of the block, with the place of the other's name.
+    /// Declares a local that shares another local's unique object to the end of the block; the position is that of the
+    /// other local's name.
     Alias {
         region: usize,
         number: usize,
@@ -431,7 +453,8 @@ pub enum Item {
         span: Span,
         source: usize,
     },
-    /// A dynamic region, with the place of its name, and the local that is its key.
+    /// Declares a dynamic region, with the source position of its name, and the local that holds
+    /// its key.
     DynamicRegion {
         span: Span,
         region: usize,
@@ -439,7 +462,7 @@ pub enum Item {
     },
 }
 
-/// The initial value of a global.
+/// The initial value of a global: a word or the null pointer.
 #[derive(Clone, Copy)]
 pub enum Constant {
     Word { value: u32 },
@@ -454,50 +477,52 @@ pub struct Global {
     pub value: Constant,
 }
 
-/// A struct: its region parameters and its fields.
+/// A struct: the number of its region parameters, and the types of its fields.
 #[derive(Drop)]
 pub struct StructType {
-    /// The number of its region parameters.
+    /// The number of region parameters of the struct.
     pub parameters: usize,
-    /// The types of its fields, in order. A region parameter is the region variable of its number.
+    /// The types of the struct's fields, in order. In these types, region parameter n is region
+    /// variable n.
     pub fields: Vec<Ty>,
 }
 
 /// A function with its body. A function's locals are numbered from 0: first its parameters, then the declarations of its body, in order. A
-/// function's regions are numbered as its locals are: first the function's own region, then those that its parameters name, then those that
-/// its body declares.
+/// function's regions are numbered in this order: the function's own region, the regions that its parameters name, the regions that its
+/// body declares.
 #[derive(Drop)]
 pub struct Function {
     pub name: Name,
     pub span: Span,
     pub parameters: Vec<Ty>,
-    /// The result type; a `void` function has none.
+    /// The result type of the function; `None` for `void`.
     pub result: Option<Ty>,
-    /// The number of regions that the parameters name.
+    /// The number of regions that the function's parameters name.
     pub variables: usize,
-    /// The regions that must be live at a call.
+    /// The regions that must be live at a call of the function.
     pub effect: SmallVec<Region, 4>,
-    /// Pairs of regions of which the first outlives the second.
+    /// Pairs of regions, of which the first must outlive the second at a call.
     pub constraints: SmallVec<(Region, Region), 4>,
-    /// The types of the locals that the body declares.
+    /// The types of the locals that the function's body declares.
     pub locals: Vec<Ty>,
     /// The number of the function's own region, which contains its parameters and the outermost variables of its body.
     pub region: usize,
-    /// The number of regions of the function.
+    /// The total number of regions of the function.
     pub regions: usize,
     pub body: Vec<Item>,
-    /// The place of the function's last brace.
+    /// The source position of the function's closing brace.
     pub end: Span,
 }
 
-/// A program in which all names are resolved and all types agree. Structs, globals and functions are numbered by their positions.
+/// A typed program, in which all names are resolved and all types agree. Structs, globals and functions are numbered by their
+/// positions.
 #[derive(Drop)]
 pub struct TypedTree {
     pub structs: Vec<StructType>,
-    /// For each declared exception, true if it has an int.
+    /// For each exception that the program declares, true if the exception carries an int.
     pub exceptions: Vec<bool>,
     pub globals: Vec<Global>,
     pub functions: Vec<Function>,
-    /// The number of the function `main`.
+    /// The number of the function named `main`.
     pub main: usize,
 }

@@ -1,4 +1,4 @@
--- the views of the arguments and results of the forms
+-- the mathematical views of the arguments and results of the functions for the expression forms
 pub mod Forms
 -- comparisons for equality
 pub mod Comparisons

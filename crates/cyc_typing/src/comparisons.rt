@@ -18,13 +18,14 @@ use cyc_types::Ty;
 use cyc_types::typed::{Operator, PointerOperator};
 use cyc_words::{Code, Span};
 
-/// The meaning of a comparison for equality.
+/// The meaning of a comparison for equality: it compares ints or pointers.
 #[derive(Clone, Copy)]
 pub(crate) enum Comparison {
     OfInts {
         operator: Operator,
     },
-    /// If the left operand peeks at a local, that local is not changed meanwhile.
+    /// A comparison of pointers. If the left operand peeks at a local, the local must not change
+    /// while the right operand is evaluated.
     OfPointers {
         peeked: Option<usize>,
         operator: PointerOperator,
@@ -50,7 +51,7 @@ fn is_comparable(value: Given<'_>) -> bool
     }
 }
 
-/// Returns true if values of these types may be compared: two ints, or two thin pointers with equal targets.
+/// Returns true if values of two types may be compared: two ints, or two thin pointers with equal targets.
 fn are_types_compared(left: &Ty, right: &Ty) -> bool
     ensures { result ≡ are_compared (types.Value (view_ty left.now)) (types.Value (view_ty right.now)) }
 {
@@ -68,7 +69,7 @@ fn are_types_compared(left: &Ty, right: &Ty) -> bool
     }
 }
 
-/// Returns true if operands of these types may be compared: two ints, two thin pointers with equal targets, or a pointer and `NULL`.
+/// Returns true if two operands may be compared: two ints, two thin pointers with equal targets, or a pointer and `NULL`.
 fn are_compared(left: Given<'_>, right: Given<'_>) -> bool
     ensures { result ≡ are_compared (view_given left.entry) (view_given right.entry) }
 {
@@ -87,7 +88,7 @@ fn are_compared(left: Given<'_>, right: Given<'_>) -> bool
     }
 }
 
-/// Returns true if the region of a pointer is live, for a comparison with another pointer.
+/// Returns false if two pointers are compared and the region of the left one is not live.
 fn is_type_compared_live(scope: &Scope<'_>, of_type: &Ty, other: &Ty) -> bool
     ensures { result ≡ is_compared_live scope.now (types.Value (view_ty of_type.now)) (types.Value (view_ty other.now)) }
 {
@@ -108,7 +109,8 @@ fn is_compared_live(scope: &Scope<'_>, value: Given<'_>, other: Given<'_>) -> bo
     }
 }
 
-/// Checks that values at these places can be compared for equality.
+/// Checks that two values can be compared for equality; the source positions are those of the
+/// values.
 pub(crate) fn equality_wanted(
     scope: &Scope<'_>,
     left: Given<'_>,
@@ -178,7 +180,7 @@ fn of_ints(negated: bool) -> Comparison
     Comparison::OfInts { operator }
 }
 
-/// Returns the comparison of a value of a type, which may be a peek.
+/// Returns the comparison whose left operand is a value of the type `left`, possibly a peek.
 fn type_comparison(peeked: Option<usize>, negated: bool, left: &Ty, right: Given<'_>) -> Comparison
     ensures { (a : nodes.Expression) → then_comparison result a ≡ then_compared peeked negated (types.Value (view_ty left.now)) (view_given right.entry) a }
 {

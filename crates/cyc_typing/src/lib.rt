@@ -1,4 +1,5 @@
-//! The demands of each other form of an expression, and the resulting node, after its parts are checked.
+//! The demands of each form of expression, and the typed node that results after the form's parts are
+//! checked.
 #![tactic(auto)]
 
 pub use objects::{Placed, array_made, as_unique, by_handle, created, on_heap, plain_made};

@@ -1,4 +1,4 @@
-//! New objects: the region in which they are allocated, and their content.
+//! Checks new objects: the region in which an object is allocated, and the object's content.
 ghost use Rattle.std.specs.Prelude.{◌≡◌, Ok, IfOk};
 ghost use Rattle.cyc_syntax.specs.inside.TreeView.{place_of_span};
 ghost use Rattle.cyc_types.specs.TypeView.{view_ty};
@@ -22,7 +22,8 @@ use cyc_words::{Code, Span};
 use std::alloc::{AllocError, Global};
 use std::rc::Rc;
 
-/// The region in which an object is allocated, the expression for it, and its demands.
+/// The region in which an object is allocated, the typed placement node, and the demands on the
+/// placement.
 #[derive(Drop)]
 pub struct Placed {
     pub settled: Settled,
@@ -30,7 +31,7 @@ pub struct Placed {
     pub region: Region,
 }
 
-/// Returns the place of the object of `new`: on the heap, without further demands.
+/// Returns the placement of an object made by `new`: on the heap, without further demands.
 #[inline(never)]
 pub fn on_heap(alloc: Global) -> Result<Box<Placed>, Stop>
     ensures { GivesOne IsPlaced result (Ok on_heap) }
@@ -46,7 +47,7 @@ pub fn on_heap(alloc: Global) -> Result<Box<Placed>, Stop>
     )?)
 }
 
-/// Returns the place of the object of `rnew(unique_region)`.
+/// Returns the placement of an object made by `rnew(unique_region)`.
 #[inline(never)]
 pub fn as_unique(alloc: Global) -> Result<Box<Placed>, Stop>
     ensures { GivesOne IsPlaced result (Ok as_unique) }
@@ -62,7 +63,8 @@ pub fn as_unique(alloc: Global) -> Result<Box<Placed>, Stop>
     )?)
 }
 
-/// Returns the region of the handle at this place.
+/// Returns the placement of an object in the region of a handle; `span` is the handle's source
+/// position.
 #[inline(never)]
 pub fn by_handle(
     scope: &Scope<'_>,
@@ -86,7 +88,7 @@ pub fn by_handle(
     )?)
 }
 
-/// Settles that the value at this place can be the content of a cell.
+/// Demands that a value can be the content of a memory cell; `span` is the value's source position.
 fn element_wanted(so_far: &mut Settled, value: Given<'_>, span: Span)
     ensures { so_far.new.known ≡ settled so_far.old.known (element_demanded (view_given value.entry) (place_of_span span)) }
 {
@@ -102,7 +104,8 @@ fn plain(alloc: Global, kind: Kind, value: Box<typed::Expr>) -> Result<Box<Initi
     boxed_initial(alloc, Initial::Plain { kind, value })
 }
 
-/// Returns an object with the value at this place as its content.
+/// Returns the initial content of an object that consists of one value; `span` is the value's
+/// source position.
 #[inline(never)]
 pub fn plain_made(alloc: Global, span: Span, value: Box<typed::Expr>) -> Result<Box<Made>, Stop>
     ensures { GivesOne IsMade result (Ok (plain_made (place_of_span span) (view_boxed value))) }
@@ -149,8 +152,8 @@ fn array(
     )
 }
 
-/// Returns an array of this length, with an element for each value of the counter of this level. The places given are those of the array's
-/// `for`, of the length and of the element. A char may be used as the length.
+/// Returns the initial content of an array with the given length, with an element for each value of the counter of the given level. The
+/// source positions are those of the array's `for`, of the length and of the element. A char may be used as the length.
 #[inline(never)]
 pub fn array_made(
     alloc: Global,
@@ -183,7 +186,7 @@ pub fn array_made(
     )?)
 }
 
-/// Settles the demands that were settled separately from the beginning on.
+/// Adds demands that were settled separately from the beginning to the demands settled so far.
 fn settle_too(so_far: &mut Settled, other: Settled)
     ensures { so_far.new.known ≡ merged so_far.old.known other.known }
 {
@@ -196,7 +199,7 @@ fn settle_too(so_far: &mut Settled, other: Settled)
     }
 }
 
-/// Returns the type of a pointer with this mark.
+/// Returns the pointer type with the given mark, target type and region.
 fn pointer(alloc: Global, kind: PointerKind, target: Ty, region: Region) -> Result<Ty, AllocError>
     ensures { IfOk result (λ t. view_ty t ≡ types.Pointer kind (view_ty target) region) }
 {
@@ -228,7 +231,7 @@ fn new(
     )
 }
 
-/// Returns a new object, all of whose demands are settled.
+/// Returns the expression that makes a new object; all demands must already be settled.
 #[inline(never)]
 fn create(
     alloc: Global,
@@ -252,7 +255,8 @@ fn create(
     new(alloc, span, placement, initial, of_type)
 }
 
-/// Returns the new object of the expression at this place.
+/// Settles the demands of a new object and returns the expression that makes it; `span` is the
+/// position of the expression.
 pub fn created(
     alloc: Global,
     span: Span,

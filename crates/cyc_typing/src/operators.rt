@@ -26,7 +26,8 @@ use cyc_types::{Ty, typed};
 use cyc_words::{Code, Span};
 use std::alloc::Global;
 
-/// The left operand of an operator: the place of its chain, the local that it peeks at, and its type.
+/// The left operand of an operator: the source position where its chain begins, the local that it
+/// peeks at, and its type.
 #[derive(Clone, Copy)]
 pub struct Left<'a> {
     pub span: Span,
@@ -34,7 +35,7 @@ pub struct Left<'a> {
     pub given: Given<'a>,
 }
 
-/// Adds an operation at the end of the chain.
+/// Adds an operation at the end of the list of a chain's operations.
 fn push(operations: &mut Vec<Operation>, operation: Operation) -> Result<(), Stop>
     ensures pushed { OnOk result (operations.new.items ≡ operations.old.items ++ operation ∷ []) }
     ensures memory { IfErr result (λ e. e ≡ stops.Memory) }
@@ -111,7 +112,7 @@ fn push_pointer(
     push(operations, operation)
 }
 
-/// Checks that both operands are ints.
+/// Checks that both operands of an operator are ints.
 fn ints_wanted(left: Given<'_>, span: Span, right: Given<'_>, right_span: Span) -> Result<(), Stop>
     ensures { Ends result (settled None (rules.int_wanted (view_given left.entry) (place_of_span span)
         ∷ rules.int_wanted (view_given right.entry) (place_of_span right_span) ∷ [])) }
@@ -138,7 +139,7 @@ fn join_ints(
     Ok(Ty::Int)
 }
 
-/// Checks that both operands can be tested against zero or null.
+/// Checks that both operands of an operator can be tested against zero or null.
 fn tests_wanted(left: Given<'_>, span: Span, right: Given<'_>, right_span: Span) -> Result<(), Stop>
     ensures { Ends result (settled None (rules.test_wanted (view_given left.entry) (place_of_span span)
         ∷ rules.test_wanted (view_given right.entry) (place_of_span right_span) ∷ [])) }
@@ -165,7 +166,8 @@ fn join_tests(
     Ok(Ty::Int)
 }
 
-/// Checks that the left operand is an int or a fat pointer to which an int can be added, and the right one an int.
+/// Checks the operands of a sum: the left operand is an int or a fat pointer that allows arithmetic, and the right
+/// operand is an int.
 fn sum_wanted(left: Given<'_>, span: Span, right: Given<'_>, right_span: Span) -> Result<(), Stop>
     ensures { Ends result (settled None (demand codes.TypeMismatch (place_of_span span)
         (is_int (view_given left.entry) || is_value is_movable (view_given left.entry))
@@ -177,7 +179,7 @@ fn sum_wanted(left: Given<'_>, span: Span, right: Given<'_>, right_span: Span) -
     settled.end()
 }
 
-/// Adds a sum or difference whose left operand has this type.
+/// Adds a sum or difference whose left operand has the type `left` to the operations.
 fn push_type_sum(
     operations: &mut Vec<Operation>,
     left: &Ty,
@@ -197,7 +199,7 @@ fn push_type_sum(
     }
 }
 
-/// Adds a sum or difference of ints, or of a fat pointer and an int.
+/// Adds a sum or difference, of ints or of a fat pointer and an int, to the operations.
 #[inline(never)]
 fn push_sum(
     operations: &mut Vec<Operation>,
@@ -257,7 +259,7 @@ fn push_comparison(
     }
 }
 
-/// Adds a comparison for equality or inequality.
+/// Adds a comparison for equality or inequality to the operations.
 #[inline(never)]
 fn join_equality(
     scope: &Scope<'_>,
@@ -278,7 +280,7 @@ fn join_equality(
     Ok(Ty::Int)
 }
 
-/// Adds an operator with its right operand, which is at this place, at the end of the chain. Returns the type of the result.
+/// Adds an operator with its right operand at the end of the operations. Returns the type of the operator's result.
 #[inline(never)]
 pub fn join(
     scope: &Scope<'_>,
@@ -332,7 +334,7 @@ pub fn join(
     }
 }
 
-/// Returns operands that are joined by operators, with the type of the whole.
+/// Returns the expression of operands joined by operators, with the type of the complete chain.
 #[inline(never)]
 pub fn binary(
     alloc: Global,

@@ -1,4 +1,5 @@
-//! Places: variables and the cells that pointers lead to, as places and as the values in them.
+//! Checks variables and memory cells reached through pointers, both as lvalues and as the values in
+//! them.
 ghost use Rattle.std.specs.Prelude.{◌≡◌, [], ◌∷◌, map, option_map, is_some, None, Ok, IfOk};
 ghost use Rattle.cyc_syntax.specs.inside.TreeView.{place_of_span, view_name};
 ghost use Rattle.cyc_types.specs.TypeView.{view_ty, view_value_type};
@@ -27,7 +28,8 @@ use cyc_words::{Code, Span};
 use std::alloc::{AllocError, Global};
 use std::rc::Rc;
 
-/// A cell that a pointer leads to, with the region that contains it and the demands of naming it.
+/// A memory cell reached through a pointer, with the region that contains the cell and the demands
+/// on its use as an lvalue.
 #[derive(Drop)]
 pub struct Reached {
     pub settled: Settled,
@@ -59,7 +61,7 @@ pub(crate) fn variable_found(
 
 // ---- the cells that pointers lead to
 
-/// Settles that the region of the pointer at this place is live.
+/// Demands that the region of a pointer is live; `span` is the pointer's source position.
 pub(crate) fn live_wanted(so_far: &mut Settled, scope: &Scope<'_>, value: Given<'_>, span: Span)
     ensures { so_far.new.known ≡ settled so_far.old.known (live_wanted scope.now (view_given value.entry) (place_of_span span) ∷ []) }
 {
@@ -144,7 +146,7 @@ fn member(
     )
 }
 
-/// Returns the cell of `*e`, where e is at this place.
+/// Returns the memory cell of `*e`; `span` is the source position of e.
 #[inline(never)]
 pub fn pointed(scope: &Scope<'_>, span: Span, value: Box<typed::Expr>) -> Result<Box<Reached>, Stop>
     ensures { GivesOne IsReached result (Ok (pointed scope.now (place_of_span span) (view_boxed value))) }
@@ -167,7 +169,8 @@ pub fn pointed(scope: &Scope<'_>, span: Span, value: Box<typed::Expr>) -> Result
     )?)
 }
 
-/// Returns the cell of `e[i]`, where e and i are at these places. A char may be used as i.
+/// Returns the memory cell of `e[i]`; the source positions are those of e and i. A char may be used
+/// as i.
 #[inline(never)]
 pub fn indexed(
     scope: &Scope<'_>,
@@ -198,7 +201,8 @@ pub fn indexed(
     )?)
 }
 
-/// Returns the number and the type of the field with this name. If there is none, the number is that after all fields.
+/// Returns the number and the type of the field with the given name. If no field has the name, the number is the
+/// number of fields, and there is no type.
 fn find_field(fields: &[Field], name: usize) -> (usize, Option<&Ty>)
     ensures number { result.0 ≡ field_number (map view_field fields.now) name }
     ensures of_type { option_map (λ t. view_ty t.now) result.1 ≡ field_among (map view_field fields.now) name }
@@ -211,7 +215,8 @@ fn find_field(fields: &[Field], name: usize) -> (usize, Option<&Ty>)
     (fields.len(), None)
 }
 
-/// Returns the type of a field in a struct with these arguments; for an unknown field, the type of ints.
+/// Returns the type of a field in a struct with the given region arguments; for an unknown field,
+/// returns the type int.
 fn field_type(alloc: Global, arguments: &[Region], known: Option<&Ty>) -> Result<Ty, AllocError>
     ensures { IfOk result (λ t. view_ty t ≡ field_type arguments.now (option_map (λ k. view_ty k.now) known.entry)) }
 {
@@ -221,7 +226,7 @@ fn field_type(alloc: Global, arguments: &[Region], known: Option<&Ty>) -> Result
     }
 }
 
-/// Returns the cell of `e->f`, where e is at this place.
+/// Returns the memory cell of `e->f`; `span` is the source position of e.
 #[inline(never)]
 pub fn selected(
     scope: &Scope<'_>,
@@ -266,7 +271,8 @@ pub fn selected(
 
 // ---- the uses of a cell
 
-/// Settles that the content of the cell named at this place may be read.
+/// Demands that the content of a memory cell may be read; `span` is the source position of the
+/// cell's expression.
 fn content_wanted(so_far: &mut Settled, of_type: &Ty, span: Span)
     ensures { so_far.new.known ≡ settled so_far.old.known (content_demanded (view_ty of_type.now) (place_of_span span)) }
 {
@@ -281,7 +287,7 @@ fn load(alloc: Global, source: Box<Dereference>) -> Result<Box<typed::Expr>, Sto
     boxed(alloc, typed::Expr::Load { source })
 }
 
-/// Returns the value in a cell after the demands of its place are settled.
+/// Returns the value in a memory cell, after the demands on the cell as an lvalue were settled.
 #[inline(never)]
 fn load_reached(alloc: Global, span: Span, reached: Box<Reached>) -> Result<Box<typed::Expr>, Stop>
     ensures { Gives view_boxed result (loaded_after reached.value.settled.known (place_of_span span) (view_dereference reached.value.cell.value)) }
@@ -293,7 +299,7 @@ fn load_reached(alloc: Global, span: Span, reached: Box<Reached>) -> Result<Box<
     load(alloc, cell)
 }
 
-/// Returns the value in the cell named at this place.
+/// Returns the value in a memory cell; `span` is the source position of the cell's expression.
 pub fn loaded(alloc: Global, span: Span, reached: Box<Reached>) -> Result<Box<typed::Expr>, Stop>
     ensures { (w : rules.Reached) → IsReached reached w → Gives view_boxed result (run (loaded (place_of_span span) w)) }
 {
@@ -313,7 +319,7 @@ fn place_reached(alloc: Global, reached: Box<Reached>) -> Result<Box<Found>, Sto
     boxed_place(alloc, Side::Cell { place: cell }, region)
 }
 
-/// Returns the cell as a place.
+/// Returns a memory cell as an lvalue.
 pub fn as_place(alloc: Global, reached: Box<Reached>) -> Result<Box<Found>, Stop>
     ensures { (w : rules.Reached) → IsReached reached w → Gives view_found result (run (rules.reached w)) }
 {
@@ -322,7 +328,7 @@ pub fn as_place(alloc: Global, reached: Box<Reached>) -> Result<Box<Found>, Stop
 
 // ---- the uses of a place
 
-/// Returns the type of a pointer to a place.
+/// Returns the type of a pointer to the given lvalue.
 fn pointer_to(alloc: Global, found: &Found) -> Result<Ty, AllocError>
     ensures { IfOk result (λ t. view_ty t ≡ pointer_to (found_of found.now)) }
 {
@@ -334,7 +340,7 @@ fn pointer_to(alloc: Global, found: &Found) -> Result<Ty, AllocError>
     })
 }
 
-/// Checks that the address of the place at this position may be taken.
+/// Checks that the address of an lvalue may be taken; `span` is the lvalue's source position.
 fn address_wanted(found: &Found, span: Span) -> Result<(), Stop>
     ensures { Ends result (settled None (address_demanded (found_of found.now) (place_of_span span))) }
 {
@@ -359,7 +365,8 @@ fn address_of(alloc: Global, side: Side, of_type: Ty) -> Result<Box<typed::Expr>
     }
 }
 
-/// Returns the address of the place at this position. The place is not a key, a unique pointer, or a part of a unique object.
+/// Returns the address of an lvalue; `span` is the lvalue's source position. The lvalue may not be a key, a unique pointer,
+/// or a part of a unique object.
 #[inline(never)]
 pub fn addressed(alloc: Global, span: Span, found: Box<Found>) -> Result<Box<typed::Expr>, Stop>
     ensures { Gives view_boxed result (run (addressed (place_of_span span) (view_found found))) }
@@ -370,7 +377,7 @@ pub fn addressed(alloc: Global, span: Span, found: Box<Found>) -> Result<Box<typ
     address_of(alloc, side, of_type)
 }
 
-/// Returns the type of the value of an assignment; an assignment to a unique pointer or a key has no value.
+/// Returns the type of an assignment's value; an assignment of a unique pointer or a key has no value.
 fn assigned_type(of_type: &Ty) -> Result<ValueType, AllocError>
     ensures { IfOk result (λ t. view_value_type t ≡ assigned_type (view_ty of_type.now)) }
 {
@@ -418,7 +425,7 @@ fn store(
     }
 }
 
-/// Returns the assignment of a value to a place.
+/// Returns the assignment of a value to a variable or memory cell.
 #[inline(never)]
 fn assignment(alloc: Global, side: Side, value: Box<typed::Expr>) -> Result<Box<typed::Expr>, Stop>
     ensures { Gives view_boxed result (Ok (assignment (view_side side) (view_boxed value))) }
@@ -428,7 +435,8 @@ fn assignment(alloc: Global, side: Side, value: Box<typed::Expr>) -> Result<Box<
     store(alloc, side, value, given)
 }
 
-/// Returns the assignment of the value at this position to a place.
+/// Checks and returns the assignment of a value to an lvalue; `span` is the value's source
+/// position.
 #[inline(never)]
 pub fn assigned(
     scope: &Scope<'_>,

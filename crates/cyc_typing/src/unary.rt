@@ -29,7 +29,7 @@ fn unary(
     boxed(alloc, typed::Expr::Unary { operator, operand })
 }
 
-/// Returns a unary operator with its operand, which is at this place.
+/// Checks and returns a unary operator with its operand; `span` is the operand's source position.
 #[inline(never)]
 pub fn computed(
     alloc: Global,
@@ -65,7 +65,7 @@ fn count(alloc: Global, pointer: Box<typed::Expr>) -> Result<Box<typed::Expr>, S
     boxed(alloc, typed::Expr::NumberOfElements { pointer })
 }
 
-/// Returns `numelts` of the pointer at this place.
+/// Checks and returns `numelts` of a pointer; `span` is the pointer's source position.
 #[inline(never)]
 pub fn number_of_elements(
     alloc: Global,
@@ -96,7 +96,8 @@ fn free(alloc: Global, pointer: Box<typed::Expr>) -> Result<Box<typed::Expr>, St
     boxed(alloc, typed::Expr::FreeUnique { pointer })
 }
 
-/// Returns the freeing of the unique pointer at this place.
+/// Checks and returns the expression that frees a unique pointer; `span` is the pointer's source
+/// position.
 #[inline(never)]
 pub fn freed(alloc: Global, span: Span, pointer: Box<typed::Expr>) -> Result<Box<typed::Expr>, Stop>
     ensures { Gives view_boxed result (run (freed (place_of_span span) (view_boxed pointer))) }

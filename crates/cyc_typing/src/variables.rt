@@ -1,4 +1,5 @@
-//! The meaning of names in expressions: the value that is read, the place, and the key that is freed.
+//! The meaning of names in expressions: the value that a name reads, the lvalue that it denotes, and
+//! the key that is freed.
 ghost use Rattle.std.specs.Prelude.{◌≡◌, [], ◌∷◌, None, Ok};
 ghost use Rattle.cyc_syntax.specs.inside.TreeView.{place_of_span, view_name};
 ghost use Rattle.cyc_words.specs.declared.fault.Code.TheVariants as codes;
@@ -23,7 +24,7 @@ use cyc_types::{Ty, typed};
 use cyc_words::{Code, Span};
 use std::alloc::Global;
 
-/// Returns true if a variable may be read, which a unique pointer in a global may not.
+/// Returns true if a variable may be read; a global that holds a unique pointer may not.
 fn is_readable(target: Lvalue, of_type: &Ty) -> bool
     ensures { result ≡ is_readable (view_lvalue target) (view_ty of_type.now) }
 {
@@ -33,7 +34,7 @@ fn is_readable(target: Lvalue, of_type: &Ty) -> bool
     }
 }
 
-/// Checks that the variable whose name is at this place may be read.
+/// Checks that a variable may be read; `span` is the source position of its name.
 fn readable(target: Lvalue, of_type: &Ty, span: Span) -> Result<(), Stop>
     ensures { Ends result (settled None (demand codes.UniqueShared (place_of_span span) (is_readable (view_lvalue target) (view_ty of_type.now)) ∷ [])) }
 {
@@ -80,7 +81,8 @@ fn peeked(alloc: Global, span: Span, number: usize, of_type: &Ty) -> Result<Box<
     )
 }
 
-/// Returns the value of a variable. Reading a local that is a unique pointer or a key leaves it empty.
+/// Returns the expression that reads a variable. Reading a local that is a unique pointer or a key
+/// leaves the local empty.
 fn variable_read(alloc: Global, target: Lvalue, of_type: &Ty) -> Result<Box<typed::Expr>, Stop>
     ensures { Gives view_boxed result (Ok (variable_read (view_lvalue target) (view_ty of_type.now))) }
 {
@@ -96,7 +98,7 @@ fn variable_read(alloc: Global, target: Lvalue, of_type: &Ty) -> Result<Box<type
     }
 }
 
-/// Returns the value of a variable by a peek: a unique pointer stays in place.
+/// Returns the expression that peeks at a variable: a unique pointer stays in the variable.
 fn variable_looked(alloc: Global, target: Lvalue, of_type: &Ty) -> Result<Box<typed::Expr>, Stop>
     ensures { Gives view_boxed result (Ok (variable_looked (view_lvalue target) (view_ty of_type.now))) }
 {
@@ -119,7 +121,7 @@ fn counter(alloc: Global, level: usize) -> Result<Box<typed::Expr>, Stop>
     boxed(alloc, typed::Expr::Counter { level })
 }
 
-/// Returns the value of the meaning of a name at this place.
+/// Returns the expression that reads the meaning of a name; `span` is the name's source position.
 fn read_meant(alloc: Global, meaning: Meaning<'_>, span: Span) -> Result<Box<typed::Expr>, Stop>
     ensures { Gives view_boxed result (run (read (view_meaning meaning.entry) (place_of_span span))) }
 {
@@ -139,14 +141,14 @@ fn read_meant(alloc: Global, meaning: Meaning<'_>, span: Span) -> Result<Box<typ
     }
 }
 
-/// Returns the value that a name denotes.
+/// Returns the expression that reads the value that a name denotes.
 pub fn read(scope: &Scope<'_>, name: Ident) -> Result<Box<typed::Expr>, Stop>
     ensures { Gives view_boxed result (run (read (meaning_of scope.now (view_name name)) (place_of_span name.span))) }
 {
     read_meant(scope.alloc(), scope.meaning(name), name.span)
 }
 
-/// Returns the value that a name denotes, by a peek.
+/// Returns the expression that peeks at the value that a name denotes.
 pub fn looked(scope: &Scope<'_>, name: Ident) -> Result<Box<typed::Expr>, Stop>
     ensures { Gives view_boxed result (run (looked (meaning_of scope.now (view_name name)) (place_of_span name.span))) }
 {
@@ -167,7 +169,7 @@ pub fn looked(scope: &Scope<'_>, name: Ident) -> Result<Box<typed::Expr>, Stop>
     }
 }
 
-/// Returns the place that a name denotes, in an expression that begins at this position.
+/// Returns the lvalue that a name denotes, in an expression that begins at position `span`.
 pub fn place_meant(scope: &Scope<'_>, name: Ident, span: Span) -> Result<Box<Found>, Stop>
     ensures { Gives view_found result (run (place_meant (meaning_of scope.now (view_name name)) (place_of_span name.span) (place_of_span span))) }
 {
@@ -184,7 +186,7 @@ pub fn place_meant(scope: &Scope<'_>, name: Ident, span: Span) -> Result<Box<Fou
     }
 }
 
-/// Checks that the variable whose name is at this place is a key.
+/// Checks that a variable is a key; `span` is the source position of the variable's name.
 fn key_wanted(of_type: &Ty, span: Span) -> Result<(), Stop>
     ensures { Ends result (settled None (demand codes.RegionOrKeyMisused (place_of_span span) (is_key (view_ty of_type.now)) ∷ [])) }
 {
@@ -206,7 +208,7 @@ fn free_key(
     boxed(alloc, typed::Expr::FreeKey { key })
 }
 
-/// Returns the freeing of the key that a name denotes.
+/// Returns the expression that frees the key that a name denotes.
 pub fn key_freed(scope: &Scope<'_>, name: Ident) -> Result<Box<typed::Expr>, Stop>
     ensures { Gives view_boxed result (run (key_freed (meaning_of scope.now (view_name name)) (place_of_span name.span))) }
 {

@@ -1,11 +1,12 @@
-//! The values of constant expressions.
+//! This file computes the values of constant expressions.
 use cyc_syntax::{BinaryOperator, Expr, Operation, PrefixOperator};
 
-/// The deepest nesting of expressions that are evaluated. Each level evaluates its parts again, so without a limit the work would grow with
-/// the square of the depth.
+/// The deepest nesting of expressions that are evaluated. Each nesting level evaluates its parts again, so without a limit the work would
+/// grow with the square of the depth.
 const DEEPEST: u32 = 12;
 
-/// Returns the value of a constant expression. `None` if the sign of a value would matter, as in a quotient of a negative number.
+/// Returns the value of a constant expression. Returns `None` if the expression is not constant, or if the sign of a value would
+/// matter, as in a quotient of a negative number.
 pub(crate) fn constant_of(expression: &Expr) -> Option<u32> {
     match expression {
         Expr::Number { value, .. } => Some(*value),
@@ -50,7 +51,8 @@ fn constant_within(expression: &Expr, levels: u32) -> Option<u32> {
     }
 }
 
-/// Returns true if all these operators can be evaluated; `computed` handles no conditions.
+/// Returns true if the value of each of these operators can be computed; `computed` handles no
+/// conditions.
 fn are_worked_out(operations: &[Operation]) -> bool {
     for operation in operations {
         if is_condition(operation.operator) {
@@ -60,7 +62,7 @@ fn are_worked_out(operations: &[Operation]) -> bool {
     true
 }
 
-/// Returns true if an operator is a comparison or a logical one.
+/// Returns true if an operator is a comparison or a logical operator.
 fn is_condition(operator: BinaryOperator) -> bool {
     match operator {
         BinaryOperator::OrElse
@@ -75,7 +77,7 @@ fn is_condition(operator: BinaryOperator) -> bool {
     }
 }
 
-/// Applies an operator to a value.
+/// Applies a prefix operator to a value.
 fn changed(operator: PrefixOperator, value: u32) -> Option<u32> {
     match operator {
         PrefixOperator::Negate => Some(value.wrapping_neg()),
@@ -85,13 +87,13 @@ fn changed(operator: PrefixOperator, value: u32) -> Option<u32> {
     }
 }
 
-/// The least word that is negative as an int.
+/// The smallest word that is negative when read as an int.
 const SIGN: u32 = 1 << 31;
 
 /// The number of bits of an int, modulo which shift counts are taken.
 const WIDTH: u32 = 32;
 
-/// Applies an operator to two values.
+/// Applies a binary operator to two values.
 fn computed(operator: BinaryOperator, left: u32, right: u32) -> Option<u32> {
     match operator {
         BinaryOperator::Or => Some(left | right),
@@ -110,7 +112,8 @@ fn computed(operator: BinaryOperator, left: u32, right: u32) -> Option<u32> {
     }
 }
 
-/// Returns true if a number of bits is too large or negative as a shift count.
+/// Returns true if a shift count is a constant that is negative or not less than the width of an
+/// int.
 pub(crate) fn is_past_width(expression: &Expr) -> bool {
     is_more_than(expression, WIDTH - 1)
 }

@@ -1,4 +1,4 @@
-//! Finds warnings in expressions and their parts.
+//! This file finds warnings in expressions and their parts.
 use crate::constants::{constant_of, is_more_than, is_past_width};
 use crate::finder::Finder;
 use crate::locals::{Local, Use};
@@ -24,7 +24,7 @@ pub(crate) fn is_null(expression: &Expr) -> bool {
     }
 }
 
-/// Returns the variable that an expression is, possibly in parentheses.
+/// Returns the variable that an expression denotes, possibly in parentheses.
 fn named(expression: &Expr) -> Option<Ident> {
     match expression {
         Expr::Variable { name } => Some(*name),
@@ -34,7 +34,7 @@ fn named(expression: &Expr) -> Option<Ident> {
 }
 
 /// Returns true if an expression has no effect apart from those of its parts. Dereferences and divisions may throw, so they do not count;
-/// two minus signs have their own warning.
+/// two minus signs have a separate warning.
 pub(crate) fn is_bare(expression: &Expr) -> bool {
     match expression {
         Expr::Number { .. }
@@ -69,7 +69,8 @@ fn is_quotient(operations: &[Operation]) -> bool {
     }
 }
 
-/// Returns true if this operand of a minus sign begins with another minus sign directly after it.
+/// Returns true if the operand of a minus sign begins with another minus sign directly after the
+/// first.
 fn is_double(span: Span, operand: &Expr) -> bool {
     match minus_of(operand) {
         Some(second) => is_next(span, second),
@@ -91,12 +92,12 @@ fn is_comparison(operator: BinaryOperator) -> bool {
     matches!(operator, BinaryOperator::Equal | BinaryOperator::NotEqual) || is_order(operator)
 }
 
-/// Returns true if an expression is a constant other than 0 and 1.
+/// Returns true if an expression is a constant other than 0 and 1, and so hardly a truth value.
 fn is_no_truth(expression: &Expr) -> bool {
     is_more_than(expression, 1)
 }
 
-/// Returns true if an expression is a comparison without parentheses.
+/// Returns true if an expression is a comparison that is not in parentheses.
 fn is_compared(expression: &Expr) -> bool {
     match expression {
         Expr::Binary { rest, .. } => match rest.last() {
@@ -145,7 +146,7 @@ fn use_by(operator: BinaryOperator) -> Use {
     }
 }
 
-/// Returns the use of the first operand of operators of one level.
+/// Returns the use of the first operand in a chain of operators of one precedence level.
 fn use_in(operations: &[Operation]) -> Use {
     match operations.first() {
         Some(operation) => use_by(operation.operator),
@@ -153,7 +154,7 @@ fn use_in(operations: &[Operation]) -> Use {
     }
 }
 
-/// Returns the use of the assigned lvalue, given the use of the assignment's value.
+/// Returns the use of the lvalue that is assigned, given the use of the assignment's value.
 fn use_of_target(use_of: Use) -> Use {
     Use::Assigned(!matches!(use_of, Use::Dropped))
 }
@@ -167,7 +168,8 @@ fn use_of_prefix(operator: PrefixOperator) -> Use {
     }
 }
 
-/// Returns the place of a bitwise operator one of whose operands is an unparenthesised comparison and the other no truth value.
+/// Returns the position of a bitwise operator of whose operands one is a comparison without parentheses and another is not a
+/// truth value.
 fn loose_bits(first: &Expr, rest: &[Operation]) -> Option<Span> {
     let mut place = None;
     let mut is_other = !is_truth(first);
@@ -182,8 +184,8 @@ fn loose_bits(first: &Expr, rest: &[Operation]) -> Option<Span> {
     if is_other { place } else { None }
 }
 
-/// Returns the number of elements of a type in 1,000 words: four chars take one word, a fat pointer takes three. For an unknown type it is
-/// that of chars.
+/// Returns the number of elements of a type that fit in 1,000 words: four chars take one word, a fat pointer takes three. For an unknown
+/// type, the number is that of chars.
 fn most_elements(element: Option<Shape>) -> u32 {
     match element {
         Some(shape) if shape.is_fat => 333,
@@ -192,7 +194,8 @@ fn most_elements(element: Option<Shape>) -> u32 {
     }
 }
 
-/// Returns the type of a sum that begins with a value of this type, and int for other operators.
+/// Returns the type of the result of a chain of operators: for a sum, the type of its first value,
+/// and int for other operators.
 fn shape_of_result(first: Option<Shape>, rest: &[Operation]) -> Option<Shape> {
     match rest.last() {
         Some(operation) if is_sum(operation.operator) => match first {
@@ -208,7 +211,7 @@ fn is_sum(operator: BinaryOperator) -> bool {
     matches!(operator, BinaryOperator::Add | BinaryOperator::Subtract)
 }
 
-/// Returns true if an expression has no parts, so that a walk over it, as over most operands, takes no call.
+/// Returns true if an expression has no parts, so that examining it, like most operands, takes no call.
 fn is_leaf(expression: &Expr) -> bool {
     matches!(
         expression,
@@ -254,7 +257,7 @@ impl Finder {
         }
     }
 
-    /// Returns the type of an expression after these postfixes.
+    /// Returns the type of an expression after these postfix operators.
     fn shape_after(&self, base: Option<Shape>, postfixes: &[Postfix]) -> Option<Shape> {
         let mut shape = base;
         for postfix in postfixes {
@@ -286,7 +289,7 @@ impl Finder {
 
     // ---- parts of expressions
 
-    /// Notes what becomes of an expression that has no parts.
+    /// Records how an expression that has no parts is used.
     fn note_leaf(&mut self, expression: &Expr, use_of: Use) {
         if let Expr::Variable { name } = expression {
             self.note(*name, use_of);
@@ -411,12 +414,12 @@ impl Finder {
         }
     }
 
-    /// Counts one more call, assignment, allocation or deallocation.
+    /// Counts one more call, assignment, allocation or deallocation, that is, one more effect.
     fn count_effect(&mut self) {
         self.effects = self.effects.saturating_add(1);
     }
 
-    /// Examines a value that is converted to a char.
+    /// Examines a value that is converted to a char, and warns if it does not fit in a byte.
     pub(crate) fn look_at_byte(&mut self, value: &Expr) {
         if is_more_than(value, LARGEST_CHAR) {
             self.warn(span_of(value), Warning::CharConstant);
@@ -475,7 +478,8 @@ impl Finder {
         }
     }
 
-    /// Examines the first postfix, if it is an index of a local whose array length may be known.
+    /// Examines the first postfix operator, if it is an index of a local whose array length may be
+    /// known.
     fn look_at_first(&mut self, base: &Expr, postfixes: &[Postfix]) {
         if let Expr::Variable { name } = base {
             if let Some(Postfix::Index { index }) = postfixes.first() {
@@ -494,7 +498,8 @@ impl Finder {
         }
     }
 
-    /// Examines an index of the local of this number, which was declared with `length` elements.
+    /// Examines an index of the local with number `local`, which was declared with `length`
+    /// elements.
     fn look_at_number(&mut self, local: usize, length: u32, index: &Expr) {
         if let Some(value) = constant_of(index) {
             if value >= length {
@@ -530,7 +535,7 @@ impl Finder {
         }
     }
 
-    /// Examines an operator and its right operand, and also its left operand if the operator is the first of a chain.
+    /// Examines an operator and its right operand, and also the left operand if the operator is the first of a chain.
     fn look_at_operation(&mut self, left: Option<&Expr>, operation: &Operation) {
         let (span, operand) = (operation.span, &operation.operand);
         match operation.operator {
@@ -561,7 +566,8 @@ impl Finder {
         }
     }
 
-    /// Examines the right operand of `||` or `&&`, and also the left one if the operator is the first of a chain.
+    /// Examines the right operand of `||` or `&&`, and also the left operand if the operator is the first of a
+    /// chain.
     fn look_at_truths(&mut self, left: Option<&Expr>, operand: &Expr) {
         if let Some(left) = left {
             if is_no_truth(left) {
@@ -573,7 +579,8 @@ impl Finder {
         }
     }
 
-    /// Returns true if a comparison is that of a char with a constant outside the range of chars.
+    /// Returns true if one operand of a comparison is a char and the other is a constant outside
+    /// the range of chars, so that the result is known.
     fn is_settled(&self, one: &Expr, other: &Expr) -> bool {
         is_more_than(other, LARGEST_CHAR) && self.is_char(one)
     }
@@ -586,7 +593,8 @@ impl Finder {
     }
 }
 
-/// Returns true if a minus sign at this place is directly followed by the one that its operand begins with.
+/// Returns true if a minus sign at this source position is directly followed by the minus sign with which
+/// its operand begins.
 fn is_added(span: Span, operand: &Expr) -> bool {
     match leading_minus(operand) {
         Some(second) => is_next(span, second),

@@ -1,4 +1,5 @@
-//! The state of the walk over a program: the meaning of names, the uses of locals, and the findings.
+//! This file has the state of the traversal of a program: the meaning of names, the uses of locals,
+//! and the warnings found.
 use crate::known::Known;
 use crate::locals::{Local, Locals, Use};
 use crate::shapes::{OTHER, Shape};
@@ -13,7 +14,7 @@ pub(crate) struct Finder {
     pub(crate) known: Known,
     pub(crate) locals: Locals,
     found: Findings,
-    /// True if the function returns a char.
+    /// True if the function that is examined returns a char.
     pub(crate) gives_char: bool,
     /// The number of calls, assignments, allocations and deallocations so far.
     pub(crate) effects: usize,
@@ -44,7 +45,7 @@ impl Finder {
         self.warn_after(span, warning, span);
     }
 
-    /// Adds a warning that names the word at another place.
+    /// Adds a warning that refers to the word at another source position.
     pub(crate) fn warn_after(&mut self, span: Span, warning: Warning, named: Span) {
         self.found.add(Found {
             span,
@@ -111,19 +112,19 @@ impl Finder {
         self.known.bind(name.name.number, number);
     }
 
-    /// Declares a handle or a key.
+    /// Declares a local that is a handle or a key.
     pub(crate) fn declare_other(&mut self, name: Ident) {
         self.declare(name, Local::new(name.span, OTHER));
     }
 
-    /// Notes a use of the local of a name.
+    /// Records a use of the local with this name.
     pub(crate) fn note(&mut self, name: Ident, use_of: Use) {
         if let Some(local) = self.locals.all.get_mut(self.known.local(name.name.number)) {
             local.note(use_of);
         }
     }
 
-    /// Notes that the local of a name receives a value.
+    /// Records that the local with this name receives a value.
     pub(crate) fn fill(&mut self, name: Ident) {
         if let Some(local) = self.locals.all.get_mut(self.known.local(name.name.number)) {
             local.is_filled = true;

@@ -1,12 +1,12 @@
-//! The warnings of a program.
+//! This file finds the warnings of a program.
 use crate::finder::Finder;
 use crate::hidden::find_hidden;
 use crate::warning::{Found, Warning};
 use cyc_syntax::{Declaration, Tree};
 use std::alloc::Global;
 
-/// Returns the warnings of an accepted program, in the order of their places: the first ones, and one more than are shown. If memory runs
-/// out, no warnings are found.
+/// Returns the warnings of an accepted program, ordered by their source positions: the first ones, and one more than are shown. If memory
+/// runs out, no warnings are found.
 pub fn find_warnings(alloc: Global, tree: &Tree, text: &[u8]) -> Vec<Found> {
     let mut finder = Finder::new(alloc, tree);
     for declaration in &tree.declarations {

@@ -1,9 +1,10 @@
-//! Finds characters that are invisible or change the direction of the surrounding text. In an accepted text they can occur only in
-//! comments, which the tree does not contain, so the search reads the bytes.
+//! This file finds characters that are invisible or change the direction of the surrounding text. In an accepted text these
+//! characters can occur only in comments, which the tree does not contain, so the search reads the bytes.
 use cyc_words::Span;
 
 /// Returns true if three bytes are, or begin, a hidden character in UTF-8. Hidden characters are control characters beyond ASCII;
-/// bidirectional marks, embeddings and isolates; zero-width spaces and joiners; line separators; the byte-order mark; and tags.
+/// they are also bidirectional marks, embeddings and isolates; zero-width spaces and joiners; line separators; the byte-order
+/// mark; and tags.
 fn is_hidden(bytes: [u8; 3]) -> bool {
     matches!(
         bytes,
@@ -24,7 +25,7 @@ fn byte_at(text: &[u8], place: usize) -> u8 {
     }
 }
 
-/// Returns true if a text has a byte beyond ASCII, which most have not.
+/// Returns true if a text has a byte beyond ASCII; most texts have none.
 fn has_other_than_ascii(text: &[u8]) -> bool {
     let mut all = 0_u8;
     for byte in text {
@@ -33,7 +34,7 @@ fn has_other_than_ascii(text: &[u8]) -> bool {
     !all.is_ascii()
 }
 
-/// Returns the place of the first hidden character of a text.
+/// Returns the source position of the first hidden character of a text.
 pub(crate) fn find_hidden(text: &[u8]) -> Option<Span> {
     if !has_other_than_ascii(text) {
         return None;

@@ -1,20 +1,21 @@
-//! The meaning of names: the declarations of a program and the locals in scope, each found in constant time.
+//! This file has the meaning of names: the declarations of a program and the locals in scope, each found in
+//! constant time.
 use crate::shapes::Shape;
 use cyc_syntax::{Declaration, Member, ParameterList, Tree, WrittenType};
 use std::alloc::Global;
 
-/// Stands for the absence of a name, a local or a field.
+/// The value that stands for the absence of a name, a local or a field.
 const NONE: usize = usize::MAX;
 
-/// The meaning of a name other than a local.
+/// The meaning of a name that does not denote a local.
 #[derive(Clone, Copy)]
 struct Entry {
     global: Option<Shape>,
-    /// The type of the function's result.
+    /// The type of the result of the function with this name.
     result: Option<Shape>,
-    /// The index of the struct's first field.
+    /// The index of the first field of the struct with this name.
     fields: usize,
-    /// The index of the function's first parameter.
+    /// The index of the first parameter of the function with this name.
     parameters: usize,
 }
 
@@ -33,29 +34,30 @@ struct Field {
     shape: Shape,
 }
 
-/// A name in scope, and the local that it denoted before.
+/// A name in scope, and the local that this name denoted before.
 #[derive(Clone, Copy)]
 struct Binding {
     name: usize,
     hidden: usize,
 }
 
-/// The meaning of names at a place of a program.
+/// The meaning of names at a position of a program.
 #[derive(Drop)]
 pub(crate) struct Known {
-    /// The meanings, indexed by name number.
+    /// The meanings of names, indexed by name number.
     entries: Vec<Entry>,
     /// The numbers of the locals, indexed by name number.
     locals: Vec<usize>,
-    /// The fields; those of one struct are adjacent.
+    /// The fields of all structs; the fields of one struct are adjacent.
     fields: Vec<Field>,
-    /// For each parameter whether it is a char; those of one function are adjacent.
+    /// For each parameter, true if the parameter is a char; the parameters of one function are
+    /// adjacent.
     parameters: Vec<bool>,
-    /// The names of locals in scope, the newest last.
+    /// The names of the locals in scope, the newest name last.
     bindings: Vec<Binding>,
     /// The name number of the region of unique pointers.
     pub(crate) unique: usize,
-    /// True if memory did not run out.
+    /// True if memory has not run out.
     pub(crate) is_whole: bool,
 }
 
@@ -147,7 +149,7 @@ impl Known {
         self.bindings.len()
     }
 
-    /// Binds a name to the local of this number.
+    /// Binds a name to the local with number `number`.
     pub(crate) fn bind(&mut self, name: usize, number: usize) {
         if let Some(local) = self.locals.get_mut(name) {
             let hidden = *local;
@@ -156,7 +158,7 @@ impl Known {
         }
     }
 
-    /// Unbinds all but the `depth` oldest names of locals.
+    /// Unbinds all names of locals except the `depth` oldest ones.
     pub(crate) fn unbind(&mut self, depth: usize) {
         for _ in depth..self.bindings.len() {
             if let Some(binding) = self.bindings.pop() {
@@ -169,7 +171,7 @@ impl Known {
 
     // ---- meanings of names
 
-    /// Returns the number of the local of a name, or `NONE`.
+    /// Returns the number of the local with this name, or `NONE`.
     pub(crate) fn local(&self, name: usize) -> usize {
         match self.locals.get(name) {
             Some(number) => *number,
@@ -177,7 +179,7 @@ impl Known {
         }
     }
 
-    /// Returns the type of the global of a name.
+    /// Returns the type of the global with this name.
     pub(crate) fn global(&self, name: usize) -> Option<Shape> {
         match self.entries.get(name) {
             Some(entry) => entry.global,
@@ -185,7 +187,7 @@ impl Known {
         }
     }
 
-    /// Returns the result type of the function of a name.
+    /// Returns the result type of the function with this name.
     pub(crate) fn result(&self, name: usize) -> Option<Shape> {
         match self.entries.get(name) {
             Some(entry) => entry.result,
@@ -193,7 +195,7 @@ impl Known {
         }
     }
 
-    /// Returns true if the parameter of this number, of the function of a name, is a char.
+    /// Returns true if the parameter with number `number` of a function is a char.
     pub(crate) fn takes_char(&self, function: usize, number: usize) -> bool {
         let start = match self.entries.get(function) {
             Some(entry) => entry.parameters,
@@ -205,7 +207,7 @@ impl Known {
         }
     }
 
-    /// Returns true if the field of this number, of the struct of a name, is a char.
+    /// Returns true if the field with number `number` of a struct is a char.
     pub(crate) fn keeps_char(&self, owner: usize, number: usize) -> bool {
         let start = match self.entries.get(owner) {
             Some(entry) => entry.fields,
@@ -217,7 +219,7 @@ impl Known {
         }
     }
 
-    /// Returns the type of a field of the struct of a name.
+    /// Returns the type of a field of a struct, given the names of both.
     pub(crate) fn field(&self, owner: usize, name: usize) -> Option<Shape> {
         let start = match self.entries.get(owner) {
             Some(entry) => entry.fields,

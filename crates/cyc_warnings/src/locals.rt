@@ -1,44 +1,44 @@
-//! The locals of a function, and how each is used.
+//! This file records the locals of a function and how each is used.
 use crate::shapes::Shape;
 use crate::warning::Warning;
 use cyc_words::Span;
 use std::alloc::Global;
 
-/// The use of an expression's value, or of an lvalue.
+/// The way in which an expression's value, or an lvalue, is used.
 #[derive(Clone, Copy)]
 pub(crate) enum Use {
-    /// The value is used; a unique pointer is moved by that.
+    /// The value is used; using a unique pointer moves it.
     Value,
-    /// The use only examines or dereferences a unique pointer.
+    /// The use only examines or dereferences a unique pointer, and so does not move it.
     Looked,
-    /// The expression is a whole statement.
+    /// The expression is a statement, so its value is dropped.
     Dropped,
-    /// The lvalue is assigned; the flag tells whether the value of the assignment is used.
+    /// The lvalue is assigned; the flag tells if the value of the assignment is used.
     Assigned(bool),
     /// The lvalue is swapped, or its address is taken.
     Taken,
 }
 
-/// A local variable, with facts that hold for the text traversed so far.
+/// A local variable, with facts from the part of the text that was traversed so far.
 #[derive(Clone, Copy)]
 pub(crate) struct Local {
     pub(crate) span: Span,
     pub(crate) shape: Shape,
-    /// True if the local is declared with its type and is no parameter.
+    /// True if the local is declared with its type and is not a parameter.
     pub(crate) is_ordinary: bool,
-    /// True if the local receives a value other than NULL.
+    /// True if the local receives a value that is not `NULL`.
     pub(crate) is_filled: bool,
-    /// True if the local receives a value other than its initial one.
+    /// True if the local receives a value after its initial value.
     pub(crate) is_changed: bool,
     pub(crate) is_read: bool,
     /// True if the local's value is moved elsewhere.
     pub(crate) is_moved: bool,
-    /// The number of elements of the local's initial value.
+    /// The number of elements of the array that is the local's initial value.
     pub(crate) length: Option<u32>,
 }
 
 impl Local {
-    /// Returns a local without uses.
+    /// Returns a local whose uses are not yet recorded.
     pub(crate) fn new(span: Span, shape: Shape) -> Local {
         Local {
             span,
@@ -89,19 +89,20 @@ impl Local {
     }
 }
 
-/// An index past the last element of a local's initial value.
+/// An array index past the last element of a local's initial value.
 #[derive(Clone, Copy)]
 pub(crate) struct Suspect {
     pub(crate) span: Span,
     pub(crate) local: usize,
 }
 
-/// The locals of a function by their numbers, and the indices that are wrong unless their locals are changed.
+/// The locals of a function by their numbers, and the array indices that are out of bounds unless their
+/// locals are changed.
 #[derive(Drop)]
 pub(crate) struct Locals {
     pub(crate) all: Vec<Local>,
     pub(crate) suspects: Vec<Suspect>,
-    /// True if memory did not run out.
+    /// True if memory has not run out.
     pub(crate) is_whole: bool,
 }
 
@@ -125,7 +126,7 @@ impl Locals {
         self.is_whole = self.suspects.push(Suspect { span, local }).is_ok() && self.is_whole;
     }
 
-    /// Returns true if a local is changed anywhere.
+    /// Returns true if a local is changed anywhere in its function.
     pub(crate) fn is_changed(&self, number: usize) -> bool {
         match self.all.get(number) {
             Some(local) => local.is_changed,

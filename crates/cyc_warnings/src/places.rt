@@ -1,8 +1,8 @@
-//! The beginnings of expressions, statements and items.
+//! This file finds the source positions at which expressions, statements and items begin.
 use cyc_syntax::{Expr, Item, PrefixOperator, Stmt};
 use cyc_words::Span;
 
-/// Returns the place of an expression's first token.
+/// Returns the source position of an expression's first token.
 pub(crate) fn span_of(expression: &Expr) -> Span {
     match expression {
         Expr::Number { span, .. }
@@ -26,7 +26,7 @@ pub(crate) fn span_of(expression: &Expr) -> Span {
     }
 }
 
-/// Returns the place of a statement's first token.
+/// Returns the source position of a statement's first token.
 fn span_of_statement(statement: &Stmt) -> Span {
     match statement {
         Stmt::Block { block } => block.span,
@@ -44,7 +44,7 @@ fn span_of_statement(statement: &Stmt) -> Span {
     }
 }
 
-/// Returns the place of an item: its first token, or else its first name.
+/// Returns the source position of an item: its first token, or else its first name.
 pub(crate) fn span_of_item(item: &Item) -> Span {
     match item {
         Item::Statement { statement } => span_of_statement(statement),
@@ -55,7 +55,8 @@ pub(crate) fn span_of_item(item: &Item) -> Span {
     }
 }
 
-/// The place of the word that names how an item leaves its block: the first one, or the brace that ends a block in it.
+/// Returns the source position of the word that shows how an item leaves its block: its first word, or the brace that
+/// ends a block in it.
 pub(crate) fn span_of_leaving(item: &Item) -> Span {
     match item {
         Item::Statement {
@@ -65,12 +66,13 @@ pub(crate) fn span_of_leaving(item: &Item) -> Span {
     }
 }
 
-/// Returns true if the second place directly follows the first one on its line.
+/// Returns true if the second source position directly follows the first one on its line.
 pub(crate) fn is_next(first: Span, second: Span) -> bool {
     first.line == second.line && first.column.saturating_add(1) == second.column
 }
 
-/// Returns the place of the single minus sign that an expression begins with, if it does.
+/// Returns the source position of the single minus sign with which an expression begins, if it
+/// does.
 pub(crate) fn leading_minus(expression: &Expr) -> Option<Span> {
     match expression {
         Expr::Prefixed {
@@ -86,7 +88,7 @@ pub(crate) fn leading_minus(expression: &Expr) -> Option<Span> {
     }
 }
 
-/// Returns the place of the minus sign that is the expression's operator.
+/// Returns the source position of the minus sign that is the expression's operator.
 pub(crate) fn minus_of(expression: &Expr) -> Option<Span> {
     match expression {
         Expr::Prefixed {

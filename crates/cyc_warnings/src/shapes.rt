@@ -1,27 +1,28 @@
-//! The shape of a type: the parts that warnings need.
+//! This file defines the shape of a type: the parts of the type that warnings need.
 use cyc_syntax::{BaseType, PointerKind, WrittenType};
 
-/// A type as written before its pointer marks.
+/// The base of a type: the type as it is written before its pointer signs (`*`, `@` and `?`).
 #[derive(Clone, Copy)]
 pub(crate) enum Base {
     Int,
     Char,
-    /// A struct, by the number of its name.
+    /// A struct, given by the number of its name.
     Struct(usize),
     /// A handle or a key.
     Other,
 }
 
-/// The region of the last mark.
+/// The region that is written at the last pointer sign of a type.
 #[derive(Clone, Copy)]
 pub(crate) enum Home {
     Unique,
-    /// No region is written, so it may be that of the initial value.
+    /// No region is written, so the region may be that of the initial value.
     LeftOut,
     Other,
 }
 
-/// A type: its base, the number of its pointer marks, and the last mark.
+/// The shape of a type: its base, the number of its pointer signs, and the kind and region of the
+/// last pointer sign.
 #[derive(Clone, Copy)]
 pub(crate) struct Shape {
     pub(crate) base: Base,
@@ -88,7 +89,8 @@ impl Shape {
         matches!(self.home, Home::Unique)
     }
 
-    /// Returns the target of a pointer, whose own mark is unknown.
+    /// Returns the shape of a pointer's target; the kind of the target's own pointer sign is
+    /// unknown.
     pub(crate) fn target(self) -> Option<Shape> {
         if self.marks == 0 {
             return None;
@@ -101,7 +103,7 @@ impl Shape {
         })
     }
 
-    /// Returns the name number of the struct that a pointer refers to.
+    /// Returns the name number of the struct to which a pointer points.
     pub(crate) fn struct_after(self) -> Option<usize> {
         match self.base {
             Base::Struct(name) if self.marks == 1 => Some(name),

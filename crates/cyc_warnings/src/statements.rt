@@ -1,4 +1,4 @@
-//! Finds warnings in statements, items and their parts.
+//! This file finds warnings in statements, items and their parts.
 use crate::constants::constant_of;
 use crate::expressions::{is_bare, is_null};
 use crate::finder::Finder;
@@ -19,7 +19,7 @@ fn is_empty(item: &Item) -> bool {
     )
 }
 
-/// Returns the number of elements of the array that an expression makes.
+/// Returns the number of elements of the array that an expression creates.
 fn length_of(expression: &Expr) -> Option<u32> {
     match expression {
         Expr::Bracketed { inner, .. } => length_of(inner),
@@ -34,8 +34,8 @@ fn length_of(expression: &Expr) -> Option<u32> {
 impl Finder {
     // ---- items
 
-    /// Examines the items of a block. Returns true if the last item of the block always leaves the block. The analysis does not look into
-    /// loops.
+    /// Examines the items of a block. Returns true if the last item of the block always leaves the block. The analysis does not look for
+    /// exits inside loops.
     #[cycle(statements)]
     pub(crate) fn look_at_block(&mut self, items: &[Item]) -> bool {
         let depth = self.known.depth();
@@ -110,7 +110,7 @@ impl Finder {
         self.look_at(value, Use::Value);
     }
 
-    /// Records the form of a local's initial value.
+    /// Records facts about a local's initial value.
     fn fill_from(&self, local: &mut Local, value: &Expr) {
         local.is_filled = !is_null(value);
         local.length = length_of(value);
@@ -215,7 +215,7 @@ impl Finder {
         }
     }
 
-    /// Examines the condition of the statement at this place.
+    /// Examines the condition of the statement at this source position.
     fn look_at_condition(&mut self, span: Span, condition: &Expr) {
         if let Expr::Assign { .. } = condition {
             self.warn(span, Warning::ConditionAssigns);
@@ -230,7 +230,8 @@ impl Finder {
         }
     }
 
-    /// Examines the condition of the loop at this place, and whether its body is empty.
+    /// Examines the condition of the loop at this source position, and tests if the loop's body is
+    /// empty.
     fn look_at_head(&mut self, span: Span, condition: &Expr, body: &Stmt) {
         let before = self.effects;
         self.look_at_condition(span, condition);

@@ -1,4 +1,4 @@
-//! Warnings, their texts, and the list of findings.
+//! This file has the warnings, their texts, and the list of findings.
 use cyc_words::Span;
 use std::alloc::Global;
 use std::mem::replace;
@@ -28,13 +28,14 @@ pub enum Warning {
     OrderChain,
     /// A constant operand of a logical operator, as in `x == 3 || 4`.
     ConstantOperand,
-    /// A comparison that binds before a bitwise operator, as in `f & 1 == 0`.
+    /// A comparison as an operand of a bitwise operator, which binds less tightly, as in `f & 1 ==
+    /// 0`.
     ComparedFirst,
     /// A division by zero, as in `x / 0`.
     DivisionByZero,
     /// An array that is too large, as in `new {for i < 2000 : 0}`.
     ArraySize,
-    /// An index past the end, as in `a[3]` of three elements.
+    /// An index past the end of an array, as in `a[3]` if `a` has three elements.
     IndexOutside,
     /// A statement after a `return`.
     Unreachable,
@@ -46,7 +47,7 @@ pub enum Warning {
     HiddenCharacter,
 }
 
-/// Returns the words of the warning, in which the word at the place that it names stands for a `%`.
+/// Returns the text of the warning, in which `%` stands for the word to which the warning refers.
 pub fn text_of(warning: Warning) -> &'static str {
     match warning {
         Warning::DoubleMinus => "`--` is two minus signs and changes nothing: write i = i - 1",
@@ -78,7 +79,7 @@ pub fn text_of(warning: Warning) -> &'static str {
     }
 }
 
-/// A warning, its place, and the place of the word that it names.
+/// A warning, its source position, and the source position of the word to which it refers.
 #[derive(Clone, Copy)]
 pub struct Found {
     pub span: Span,
@@ -86,20 +87,20 @@ pub struct Found {
     pub named: Span,
 }
 
-/// The most warnings that are shown for a text. The place of each is searched from the beginning of the text, so an unlimited number would
-/// take quadratic time.
+/// The largest number of warnings that are shown for a text. The line of each warning is searched from the beginning of the text, so an
+/// unlimited number of warnings would take quadratic time.
 pub const MOST_WARNINGS: usize = 20;
 
-/// Returns true if the first place is before the second.
+/// Returns true if the first source position is before the second.
 fn is_before(first: Span, second: Span) -> bool {
     first.line < second.line || first.line == second.line && first.column < second.column
 }
 
-/// The findings in the order of their places: the first ones, and one more than are shown.
+/// The findings ordered by their source positions: the first ones, and one more than are shown.
 #[derive(Drop)]
 pub(crate) struct Findings {
     all: Vec<Found>,
-    /// True if memory did not run out.
+    /// True if memory has not run out.
     pub(crate) is_whole: bool,
 }
 
@@ -111,7 +112,7 @@ impl Findings {
         }
     }
 
-    /// Returns true if the list has no room for a finding at this place.
+    /// Returns true if the list is full and all of its findings are before this source position.
     fn is_past(&self, span: Span) -> bool {
         match self.all.get(MOST_WARNINGS) {
             Some(last) => !is_before(span, last.span),

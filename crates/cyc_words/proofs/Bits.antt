@@ -1,4 +1,4 @@
--- Bits of a conjunction, of a disjunction, and of a word minus one.
+-- This file is about the bits of a conjunction, of a disjunction, and of a word minus one.
 use Rattle.std.proofs.Common.{◌≡◌, ℕ, zero, suc, ◌-◌, ◌/◌, ◌%◌, ◌<◌, sym, ap, ◌∙◌, arith, max, min, inl, inr}
 use Rattle.std.specs.Prelude.{◌⊎◌, bit_and, bit_or}
 use Rattle.std.specs.Int.{bit_at}
@@ -26,7 +26,7 @@ bit_within part whole j same is = sym (ap (λ (n : ℕ). bit_at n j) same) ∙ b
 pub no_bit : (a b j : ℕ) → bit_at a j ≡ 0 → bit_at b j ≡ 0 → bit_at (bit_or a b) j ≡ 0
 no_bit a b j first second = bit_at_or a b j ∙ (ap (λ (n : ℕ). max n (bit_at b j)) first ∙ ap (max 0) second)
 
--- If the conjunction of two words is 0, no bit is set in both.
+-- If the conjunction of two words is 0, then no bit is set in both words.
 pub apart_bits : (a b j : ℕ) → bit_and a b ≡ 0 → bit_at b j ≡ 1 → bit_at a j ≡ 1 → ⊥
 apart_bits a b j none second first =
     let e : 1 ≡ 0 = sym (bit_both a b j first second) ∙ (ap (λ (n : ℕ). bit_at n j) none ∙ bit_at-zero j) in
@@ -53,7 +53,8 @@ in_either a b j is = elim (cases_lt (bit_at a j) 1) [
     other : (x y : ℕ) → x < 1 → max x y ≡ 1 → y ≡ 1
     other x y none e = omega (arith, none, e)
 
--- If a word has a set bit below a position, subtracting one does not change a set bit at that position.
+-- If a word has a set bit below a position and a set bit at the position, then the word minus one has a
+-- set bit at the position too.
 pub higher_bit : (i j x : ℕ) → i < j → bit_at x i ≡ 1 → bit_at x j ≡ 1 → bit_at (x - 1) j ≡ 1
 higher_bit zero zero x below low high = absurd (omega (arith, below))
 higher_bit zero (suc j) x below low high =

@@ -1,4 +1,4 @@
--- Conjunctions of tests, and the facts that a true test gives.
+-- This file is about conjunctions of tests, and about the facts that follow from a true test.
 use Rattle.std.proofs.Common.{◌≡◌, Bool, true, false, not, ◌&&◌, Option, Some, None, refl, sym, ◌||◌, true≢false, ◌∙◌, ℕ, cond}
 use Rattle.std.specs.Option.{is_some}
 use Rattle.std.specs.Prelude.{MatchBool}
@@ -41,7 +41,7 @@ pub not_not : (b : Bool) → not (not b) ≡ b
 not_not true = refl
 not_not false = refl
 
--- if a true test would make a false test true, it is false too
+-- If a test implies a second test and the second test is false, then the first test is false too.
 pub false_from_false : (a b : Bool) → (a ≡ true → b ≡ true) → b ≡ false → a ≡ false
 false_from_false true b h k = let e : b ≡ true = h refl in absurd (cc)
 false_from_false false b h k = refl
@@ -64,7 +64,7 @@ never_true_and_false first second = let e : true ≡ false = sym first ∙ secon
 
 -- ---- equality of boolean tests
 
--- two tests that imply each other are equal
+-- Two tests that imply each other have equal results.
 pub same_tests : (a b : Bool) → (a ≡ true → b ≡ true) → (b ≡ true → a ≡ true) → a ≡ b
 same_tests true b to from = sym (to refl)
 same_tests false true to from = from refl
@@ -108,7 +108,7 @@ pub or_false_parts : (a b : Bool) → (a || b) ≡ false → (a ≡ false) × (b
 or_false_parts true b none = absurd (let e : true ≡ false = none in cc)
 or_false_parts false b none = (refl, none)
 
--- if a disjunction holds and its first part does not, its second part does
+-- If a disjunction is true and its first part is false, then its second part is true.
 pub or_right_without_left : (c d : Bool) → not c ≡ true → c || d ≡ true → d ≡ true
 or_right_without_left true d e h = absurd (cc)
 or_right_without_left false d e h = h

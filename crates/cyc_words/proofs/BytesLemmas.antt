@@ -7,7 +7,7 @@ use Rattle.cyc_words.specs.Bytes.{IsByte, bytes_of_word, word_of_bytes}
 pub word_of_bytes-bytes_of_word : (w : ℕ) → IsWord w → word_of_bytes (bytes_of_word w) ≡ w
 word_of_bytes-bytes_of_word w h = omega arith
 
--- four bytes joined into one word and split again are the original bytes
+-- Joining four bytes into one word and splitting the word yields the original bytes.
 joined : (a b c d : ℕ) → IsByte a → IsByte b → IsByte c → IsByte d → bytes_of_word (word_of_bytes (a ∷ b ∷ c ∷ d ∷ [])) ≡ a ∷ b ∷ c ∷ d ∷ []
 joined a b c d ha hb hc hd = grind arith
 

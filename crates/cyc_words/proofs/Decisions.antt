@@ -1,11 +1,12 @@
--- If an input has at most one correct result, a call with a correct result satisfies `Decides`.
+-- If an input has at most one correct result, then a call with a correct result satisfies
+-- `Decides`.
 use Rattle.std.proofs.Common.{◌≡◌, ◌⊎◌, inl, inr, ⊎_elim, subst, refl, Result, Ok, Err}
 use Rattle.std.specs.Prelude.{IfOk, IfErr, MatchResult}
 use Rattle.cyc_words.specs.declared.fault.Fault.{Fault}
 use Rattle.cyc_words.specs.Fault.{memory_fault}
 use Rattle.cyc_words.specs.Decision.{Decides}
 
--- an input has at most one correct outcome: one accepted value, or one fault
+-- Says that an input has at most one correct outcome: one accepted value, or one fault.
 pub record IsDecided {A : Type 0} (Accepted : A → Type 0) (Refused Faulty : Fault → Type 0) : Type 0 where
   pub one : (a b : A) → Accepted a → Accepted b → a ≡ b
   pub same : (f g : Fault) → Refused f → Faulty g → f ≡ g
@@ -28,7 +29,8 @@ module _ {X A : Type 0} (Accepted : A → Type 0) (Gives : A → X → Type 0) (
   decides result accepted refused =
       record { accepted = accepted; refused = refused; accepts = accepts result accepted refused; refuses = refuses result accepted refused }
 
--- a correct result decides also if the accepted value is a view of the result
+-- A call with a correct result satisfies `Decides` also if the accepted value is a view of the
+-- result.
 pub decides_by_view : {X A : Type 0} (view : X → A) (Accepted : A → Type 0) (Refused Faulty : Fault → Type 0) → IsDecided Accepted Refused Faulty
     → (result : Result X Fault) → IfOk result (λ x. Accepted (view x)) → IfErr result (λ f. (f ≡ memory_fault) ⊎ Refused f)
     → Decides Accepted (λ a x. view x ≡ a) Refused Faulty result

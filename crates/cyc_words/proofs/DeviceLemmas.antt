@@ -1,4 +1,4 @@
--- The effect of several calls of a device, derived from the effect of each call.
+-- This file derives the effect of several calls of a device from the effect of each call.
 use Rattle.std.proofs.Common.{◌≡◌, ◌<◌, ℕ, suc, get_or, drop, drop-cons, length, subst, List, [], ◌++◌, Option, None, Some, Result, Ok, Err, IsErr, take, refl, sym, ap, ◌∙◌, append_assoc, append-nil}
 use Rattle.std.proofs.lemmas.List.{take-append-drop}
 use Rattle.std.proofs.lemmas.List.Concat.{flat_map-append}
@@ -45,19 +45,20 @@ Consumes-append (Some w) (Some v) None xs ys h k = absurd k
 Consumes-append (Some w) (Some v) (Some u) xs ys h k =
     h ∙ ap (λ (l : List ℕ). xs ++ l) k ∙ sym (append_assoc xs ys u)
 
--- taking one text whole and then another takes their concatenation
+-- If a device takes one complete text and then another text, it takes their concatenation.
 pub TakesText-append : {A E : Type 0} (a b c : Option (List ℕ)) (xs ys : List ℕ) (r : Result A E) → Appends a b xs → TakesText b ys r c → TakesText a (xs ++ ys) r c
 TakesText-append a b c xs ys (Ok v) h k = Appends-append a b c xs ys h k
 TakesText-append a b c xs ys (Err e) h k =
     (xs ++ k.0, IsPrefix-append_both xs k.0 ys k.1, Appends-append a b c xs k.0 h k.2)
 
--- a failure within a text is also a failure within each longer text
+-- A failure of a device within a text is also a failure within each longer text.
 pub TakesText-fails : {A E : Type 0} (a b : Option (List ℕ)) (xs ys : List ℕ) (r : Result A E) → IsErr r → TakesText a xs r b → TakesText a (xs ++ ys) r b
 TakesText-fails a b xs ys (Ok v) err h = cc
 TakesText-fails a b xs ys (Err e) err h =
     (h.0, IsPrefix-trans h.0 xs (xs ++ ys) h.1 (IsPrefix-append xs ys), h.2)
 
--- if the bytes before a part were taken and the part fails, then the whole text fails
+-- If a device takes the bytes before a part of a text and then fails in this part, then it fails in
+-- the complete text.
 pub TakesText_exit : {A E : Type 0} (a b c : Option (List ℕ)) (xs ys more : List ℕ) (r : Result A E) → IsErr r → Appends a b xs → AppendsPrefix b c ys → TakesText a (xs ++ (ys ++ more)) r c
 TakesText_exit a b c xs ys more (Ok v) err taken then = cc
 TakesText_exit a b c xs ys more (Err e) err taken then = (
@@ -66,14 +67,15 @@ TakesText_exit a b c xs ys more (Err e) err taken then = (
   Appends-append a b c xs then.0 taken then.2,
 )
 
--- if a byte fails after the first i bytes of a text, the text fails
+-- If a device fails at a byte after the first i bytes of a text, then it fails in the text.
 pub TakesText_byte_exit : {A E : Type 0} (a b c : Option (List ℕ)) (text : List ℕ) (i : ℕ) (r : Result A E) → IsErr r → Appends a b (take i text) → Keeps b c → TakesText a text r c
 TakesText_byte_exit a b c text i r err taken kept =
     let nothing : AppendsPrefix b c [] = ([], IsPrefix-nil [], Appends-nil b c kept) in
     let P : List ℕ → Type 0 = λ t. TakesText a t r c in
     subst P (take-append-drop i text) (TakesText_exit a b c (take i text) [] (drop i text) r err taken nothing)
 
--- if a part fails after the first i of several parts, their concatenation fails
+-- If a device fails in a part after the first i of several parts, then it fails in the
+-- concatenation of the parts.
 pub TakesText_part_exit : {X A E : Type 0} (f : X → List ℕ) (a b c : Option (List ℕ)) (parts : List X) (i : ℕ) (d : X) (r : Result A E) → i < length parts → IsErr r → Appends a b (flat_map f (take i parts)) → AppendsPrefix b c (f (get_or parts i d)) → TakesText a (flat_map f parts) r c
 TakesText_part_exit {X} f a b c parts i d r below err taken then =
     let split : flat_map f (take i parts) ++ (f (get_or parts i d) ++ flat_map f (drop (suc i) parts)) ≡ flat_map f parts =

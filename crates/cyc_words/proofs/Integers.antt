@@ -1,4 +1,4 @@
--- Lemmas on the order of integers, on its tests, and on quotients.
+-- This file has lemmas on the order of integers, on the tests of this order, and on quotients.
 use Rattle.std.proofs.Common.{◌≡◌, ℤ, not, arith, true, ℕ, suc, ◌/◌, pos, negsuc, neg_ℤ, ap, ◌%◌, ◌-ℤ◌, ◌^◌, ◌<◌, zero, lit<}
 use Rattle.std.specs.Prelude.{int_le, int_lt, int_div, int_rem}
 use Rattle.std.proofs.lemmas.Int.{ints}

@@ -1,4 +1,5 @@
--- The item at an index, in a list that was appended to, updated or mapped.
+-- This file is about the item at an index of a list, after the list was appended to, updated or
+-- mapped.
 use Rattle.std.proofs.Common.{◌≡◌, ℕ, zero, suc, ◌<◌, List, [], ◌∷◌, length, None, Some, slice_get, arith, Option, ◌++◌, ◌+◌, ap, ◌∙◌, subst, ◌-◌, length-append, refl, sym, inl, inr, get_or, ◌≤◌, Bool, true, replicate, false, set, map}
 use Rattle.std.specs.Prelude.{slice_index_or, ◌⊎◌, slice_index, ◌≢◌}
 use Rattle.std.proofs.lemmas.Grind.{common_steps}
@@ -48,7 +49,7 @@ slice_get_last_after xs ys some = following_all xs (length ys - 1) (length (xs +
     following_all (z ∷ zs) n zero is = absurd (omega (arith, is))
     following_all (z ∷ zs) n (suc m) is = following_all zs n m (omega (arith, is))
 
--- an item of a list with one item appended is an old item or the new one
+-- An item of a list with one item appended is an item of the original list, or the appended item.
 pub slice_get_last_cases : {A : Type 0} (xs : List A) (y : A) (i : ℕ) (x : A) → slice_get (xs ++ y ∷ []) i ≡ Some x
     → (slice_get xs i ≡ Some x) ⊎ ((i ≡ length xs) × (x ≡ y))
 slice_get_last_cases [] y zero x found = inr (refl, sym (same_from_some found))
@@ -135,7 +136,7 @@ slice_get-set_other (a ∷ xs) zero (suc j) y other = refl
 slice_get-set_other (a ∷ xs) (suc i) zero y other = refl
 slice_get-set_other (a ∷ xs) (suc i) (suc j) y other = slice_get-set_other xs i j y (λ e. other (ap suc e))
 
--- an item of an updated list is the new item or an old one
+-- An item of an updated list is the new item or an item of the original list.
 pub slice_get-set_cases : {A : Type 0} (xs : List A) (i j : ℕ) (x y z : A) → slice_get xs i ≡ Some x → slice_get (set xs i y) j ≡ Some z
     → ((j ≡ i) × (z ≡ y)) ⊎ ((j ≢ i) × (slice_get xs j ≡ Some z))
 slice_get-set_cases [] i j x y z there found = absurd (let e : None ≡ Some x = there in cc)

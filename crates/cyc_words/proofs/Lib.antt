@@ -1,4 +1,4 @@
--- lemmas that the laws and other crates cite
+-- These modules have lemmas that the laws and other crates cite.
 pub mod WordLemmas
 pub mod BytesLemmas
 pub mod WordBytesLemmas
@@ -7,7 +7,7 @@ pub mod SeenLemmas
 pub mod EndingLemmas
 pub mod DeviceLemmas
 pub mod Decisions
--- lemmas on tests, lists and numbers
+-- These modules have lemmas on tests, lists and numbers.
 pub mod Booleans
 pub mod Lists
 pub mod Numbers
@@ -19,7 +19,7 @@ pub mod Members
 pub mod Searches
 pub mod Ranges
 pub mod Sums
--- lemmas on simulations between machines
+-- These modules have lemmas on simulations between machines.
 pub mod Simulation
 pub mod Matching
 pub mod SimulationExamples

@@ -1,4 +1,4 @@
--- Items of lists, and the rest of a list after them.
+-- This file is about the items of a list, and the rest of the list after an item.
 use Rattle.std.proofs.Common.{◌≡◌, ℕ, zero, suc, ◌+◌, ◌<◌, List, [], ◌∷◌, ◌++◌, length, drop, get_or, Option, Some, None, refl, sym, ap, ◌∙◌, arith, ◌-◌, reverse, take, ◌≤◌, append_assoc, replicate, map, append-nil}
 use Rattle.std.specs.List.{slice_get, AllByRecursion}
 use Rattle.std.proofs.lemmas.List.{drop_more, length-append, reverse-append, take-append-drop, length-reverse, length-drop, drop_at, drop-drop, take_all, take_more}
@@ -17,7 +17,7 @@ drop_one_more k xs =
     let next : suc k ≡ k + 1 = omega arith in
     drop_next k xs ∙ ap (λ (n : ℕ). drop n xs) next
 
--- the item that a loop has read is the first item of the unread rest
+-- The item that a loop has just read is the first item of the unread rest of the list.
 pub drop_read : {A : Type 0} (xs : List A) (i : ℕ) (x : A) → i < length xs → x ≡ get_or xs i x → drop i xs ≡ x ∷ drop (i + 1) xs
 drop_read xs i x lt is = drop_more xs i x lt ∙ ap (λ y. y ∷ drop (i + 1) xs) (sym is)
 
@@ -95,7 +95,7 @@ pub take_all_but_last : (xs : List ℕ) (y : ℕ) → take (length xs) (xs ++ y 
 take_all_but_last [] y = refl
 take_all_but_last (x ∷ xs) y = ap (λ (l : List ℕ). x ∷ l) (take_all_but_last xs y)
 
--- removing the last item of a list restores the list before it was pushed
+-- Pushing an item to a list and then removing the last item restores the original list.
 pub take_popped : (old now after : List ℕ) (f count : ℕ) → now ≡ old ++ f ∷ [] → count ≡ length now → after ≡ take (count - 1) now → after ≡ old
 take_popped old now after f count is counted taken =
     let e : count - 1 ≡ length old = omega (arith, counted, ap (λ (l : List ℕ). length l) is, length-append old (f ∷ [])) in
@@ -139,7 +139,7 @@ pub append_two_parts : (new middle old a b whole : List ℕ) → whole ≡ a ++ 
 append_two_parts new middle old a b whole is first second =
     second ∙ ap (λ (l : List ℕ). l ++ b) first ∙ append_assoc old a b ∙ ap (λ (l : List ℕ). old ++ l) (sym is)
 
--- after one part of a text was appended, appending the remaining parts gives the whole text
+-- After one part of a text was appended, appending the remaining parts yields the complete text.
 pub append_goes_on : {A : Type 0} (all old new next rest whole : List A) → new ≡ old ++ next → whole ≡ next ++ rest → old ++ whole ≡ all → new ++ rest ≡ all
 append_goes_on {A} all old new next rest whole is parts before =
     ap (λ (l : List A). l ++ rest) is ∙ append_assoc old next rest ∙ ap (λ (l : List A). old ++ l) (sym parts) ∙ before

@@ -1,4 +1,5 @@
--- How a step above is matched: by no step below, by one, or by two.
+-- This file is about how a step of the upper machine is matched: by no step of the lower machine,
+-- by one step, or by two.
 use Rattle.std.proofs.Common.{◌≡◌, ◌<◌, List, [], ◌∷◌, refl, sym, subst, arith}
 use Rattle.std.specs.Prelude.{Contains}
 use Rattle.cyc_words.specs.Seen.{ComesTo}
@@ -7,7 +8,8 @@ use Rattle.cyc_words.specs.Simulation.{Running, Machine}
 use Rattle.cyc_words.specs.inside.Following.{Matching, IsOnTheWay, IsMatchedStep, IsStepped}
 
 module _ (above below : Machine) (m : Matching above below) where
-  -- A state below is between two matches if it shows what the upper state shows before the step, or after the step.
+  -- A state of the lower machine is between two matches if it shows what the upper state shows before the step, or
+  -- after the step.
   pub way_before : (s : above.State) (t : below.State) → below.status t ≡ Running → below.seen t ≡ above.seen s → IsOnTheWay above below s t
   way_before s t running seen = record {
     goes_on = running;
@@ -22,7 +24,7 @@ module _ (above below : Machine) (m : Matching above below) where
     following = (1, next, (next, step, refl), seen);
   }
 
-  -- a step above was taken, and its result matches this state below
+  -- Says that a step of the upper machine was taken, and that its result matches this lower state.
   abbrev Matched : above.State → below.State → Type 0
   Matched s t = (next : above.State) × above.Step s next × m.Matches next t
 

@@ -1,4 +1,4 @@
--- Facts about all items of a list, or about some item.
+-- This file is about facts that hold for all items of a list, or for some item.
 use Rattle.std.proofs.Common.{List, [], ◌∷◌, arith, ◌≡◌, ◌⊎◌, inl, inr, ℕ, ◌<◌, length, get_or, sym, Some, slice_get, subst, ◌++◌, zero, suc, None, set, Any, refl, map}
 use Rattle.std.specs.Prelude.{Contains, All}
 use Rattle.std.proofs.lemmas.List.Elements.{Contains-push, Contains-append_left, Contains-append_right, Contains-push_cases, Contains-append_cases}

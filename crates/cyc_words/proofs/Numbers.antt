@@ -1,4 +1,4 @@
--- Lemmas on the order of numbers and on its tests.
+-- This file has lemmas on the order of numbers and on the tests of this order.
 use Rattle.std.proofs.Common.{◌≡◌, ◌≢◌, ℕ, suc, ◌<◌, ◌≤◌, true, false, nat_eq, arith, zero, refl, ap, inl, inr, sym, ◌∙◌, ◌+◌, Bool, cond, max, ◌*◌, pred, ◌/◌, div-mul-le_self, ◌%◌, ◌^◌, bit_and}
 use Rattle.std.specs.Prelude.{nat_lt, ◌==◌, if◌then◌else◌, ◌⊎◌, nat_le, ◌&&◌, ◌-◌, not}
 use Rattle.std.proofs.lemmas.Bool.{cond-true, eq-eqb, cases_lt, leb-true, ltb-true, false_from_ne_true, le-leb, ne_eqb, eqb-true, not_from_false, cases_eq}
@@ -92,7 +92,7 @@ le_suc_moved first count total e = omega (arith, e)
 pub below_total : (first count total : ℕ) → first + suc count ≤ total → first < total
 below_total first count total e = omega (arith, e)
 
--- a number is in a range, before it, or after it
+-- Every number is in a range, before the range, or after the range.
 pub cases_within : (first count word : ℕ) → ((first ≤ word) × (word < first + count)) ⊎ ((word < first) ⊎ (first + count ≤ word))
 cases_within first count word = elim (cases_lt word first) [
   | inl below ↦ inr (inl below)
@@ -196,7 +196,7 @@ multiples_below m n z less low =
     let next : suc m * z ≡ m * z + z = suc-mul m z in
     omega (arith, most, next, low)
 
--- two multiples of a number are equal if they differ by less than that number
+-- If two multiples of a number differ by less than this number, then they are equal.
 pub multiples_same : (m n z : ℕ) → m * z < n * z + z → n * z < m * z + z → m ≡ n
 multiples_same m n z low high = elim (cases_lt m n) [
   | inl less ↦ absurd (multiples_below m n z less high)
@@ -308,7 +308,7 @@ other_from_eqb a b none same = let e : true ≡ false = sym (eq-eqb a b same) �
 pub not_eqb_other : (a b : ℕ) → (a ≡ b → ⊥) → not (a == b) ≡ true
 not_eqb_other a b apart = not_from_false (a == b) (false_from_ne_true (a == b) (λ e. apart (eqb-true a b e)))
 
--- two numbers that are equal to a third are equal
+-- Two numbers that are equal to a third number are equal to each other.
 pub same_from_eqb : (register m n : ℕ) → (register == m) ≡ true → (register == n) ≡ true → m ≡ n
 same_from_eqb register m n first other = sym (eqb-true register m first) ∙ eqb-true register n other
 

@@ -1,4 +1,4 @@
--- The cases of an option, and conditionals that return one.
+-- This file is about the cases of an option, and about conditionals that return an option.
 use Rattle.std.proofs.Common.{◌≡◌, Option, None, Some, refl, inl, inr, sym, ◌∙◌, ℕ, Bool, false, ap, true, cond, suc, option_map, ◌<◌, List, [], ◌∷◌, ◌++◌, length, arith, IfSome, Result, Ok, Err, OnOk}
 use Rattle.std.specs.Prelude.{◌⊎◌, is_some, unwrap_or}
 use Rattle.std.proofs.lemmas.Bool.{true≢false}

@@ -1,4 +1,4 @@
--- The prefix order on lists of bytes.
+-- This file is about the prefix order on lists of bytes.
 use Rattle.std.proofs.Common.{◌≡◌, ℕ, List, [], ◌∷◌, ◌++◌, refl, sym, ap, ◌∙◌, append_assoc, append-nil}
 use Rattle.cyc_words.specs.Seen.{IsPrefix}
 
@@ -15,7 +15,7 @@ pub IsPrefix-trans : (xs ys zs : List ℕ) → IsPrefix xs ys → IsPrefix ys zs
 IsPrefix-trans xs ys zs h k =
     (h.0 ++ k.0, k.1 ∙ ap (λ (l : List ℕ). l ++ k.0) h.1 ∙ append_assoc xs h.0 k.0)
 
--- putting one list of bytes before both lists keeps the prefix relation
+-- Putting the same list of bytes before two lists preserves the prefix relation between them.
 pub IsPrefix-append_both : (front xs ys : List ℕ) → IsPrefix xs ys → IsPrefix (front ++ xs) (front ++ ys)
 IsPrefix-append_both front xs ys h =
     (h.0, ap (λ (l : List ℕ). front ++ l) h.1 ∙ sym (append_assoc front xs h.0))

@@ -1,11 +1,11 @@
--- The cost of a list of places at a given price.
+-- This file is about the cost of a list of code positions, given the price of each position.
 use Rattle.std.proofs.Common.{◌≡◌, ◌≢◌, ℕ, zero, suc, ◌+◌, ◌*◌, ◌≤◌, List, [], ◌∷◌, length, refl, sym, ap, ◌∙◌, arith, inl, inr}
 use Rattle.std.specs.Prelude.{◌⊎◌, sum_by, Contains, flat_map}
 use Rattle.std.specs.List.{AllByRecursion}
 use Rattle.std.proofs.lemmas.List.Sums.{sum_by-append, sum_by-cons}
 use Rattle.cyc_words.specs.Distinct.{IsDistinct}
 
--- membership in a list, defined by recursion
+-- Says that an item is a member of a list; the definition is by recursion.
 abbrev IsIn : {X : Type 0} → X → List X → Type 0
 IsIn x [] = ⊥
 IsIn x (y ∷ ys) = (y ≡ x) ⊎ IsIn x ys
@@ -19,7 +19,7 @@ all_in : {X : Type 0} (own places : List X) → AllByRecursion (Contains own) pl
 all_in own [] all = tt
 all_in own (p ∷ places) (first, rest) = (is_in p own first, all_in own places rest)
 
--- the list with one occurrence of a member removed
+-- A list after one occurrence of a member is removed.
 without : {X : Type 0} (x : X) (ys : List X) → IsIn x ys → List X
 without x [] h = absurd h
 without x (y ∷ ys) (inl e) = ys
@@ -51,7 +51,8 @@ sum_in price own (p ∷ places) (others, distinct) (first, rest) =
     let fewer = sum_in price left places distinct (all_kept p own places first others rest) in
     omega (arith, fewer, sum_by-cons price p places, sum_without price p own first)
 
--- distinct places of a list cost at most as much as the whole list
+-- A list of distinct positions, all of which occur in a second list, costs at most as much as the
+-- second list.
 pub sum_by-distinct : {X : Type 0} (price : X → ℕ) (own places : List X) → IsDistinct places → AllByRecursion (Contains own) places → sum_by price places ≤ sum_by price own
 sum_by-distinct price own places distinct inside = sum_in price own places distinct (all_in own places inside)
 
@@ -61,7 +62,7 @@ sum_by-flat_map price own [] = refl
 sum_by-flat_map price own (x ∷ xs) =
     omega (arith, sum_by-append price (own x) (flat_map own xs), sum_by-cons (λ y. sum_by price (own y)) x xs, sum_by-flat_map price own xs)
 
--- at a price of one, a list costs its length
+-- If each item has the price one, then a list costs its length.
 pub sum_by-one : {X : Type 0} (xs : List X) → sum_by (λ x. 1) xs ≡ length xs
 sum_by-one [] = refl
 sum_by-one {X} (x ∷ xs) = omega (arith, sum_by-cons (λ (y : X). 1) x xs, sum_by-one xs)

@@ -1,4 +1,4 @@
--- Lists of consecutive numbers.
+-- This file is about lists of consecutive numbers.
 use Rattle.std.proofs.Common.{◌≡◌, ℕ, zero, suc, ◌+◌, List, ◌∷◌, ◌++◌, sym, ap, ◌∙◌, arith, [], ◌-◌, ◌<◌, ◌≤◌, append-nil}
 use Rattle.std.specs.List.{range_with_len, flat_map}
 use Rattle.std.specs.Prelude.{Contains}

@@ -1,4 +1,5 @@
--- Tests of the items of a list, and the index of the first item that passes a test.
+-- This file is about tests of the items of a list, and about the index of the first item that
+-- passes a test.
 use Rattle.std.proofs.Common.{◌≡◌, inl, inr, Bool, true, List, [], ◌∷◌, sym, subst, ◌||◌, map, refl, ap, false, reverse, ◌∙◌, ◌++◌, ⊎_elim, ◌+◌, not, cond, Some, slice_get, length, ℕ, take, ◌≤◌, arith}
 use Rattle.std.specs.Prelude.{Contains}
 use Rattle.std.specs.List.{list_any, list_all, position_or_len, prefix_len}
@@ -14,7 +15,7 @@ use Rattle.cyc_words.proofs.Booleans.{or_comm, or_false_right}
 
 -- ---- a test of all or of some items
 
--- a test of some item may check the last item first
+-- A test of all items of a list for one that passes may check the last item first.
 pub any_last_first : {A : Type 0} (test : A → Bool) (xs : List A) (x : A) → list_any test (xs ++ x ∷ []) ≡ (test x || list_any test xs)
 any_last_first test xs x =
     list_any-append test xs (x ∷ []) ∙ ap (λ (b : Bool). list_any test xs || b) (or_false_right (test x)) ∙ or_comm (list_any test xs) (test x)

@@ -1,4 +1,4 @@
--- The order of observations along a run.
+-- This file is about the order of observations along a run.
 use Rattle.std.proofs.Common.{◌≡◌, ℕ, List, [], ◌++◌, refl, sym, ap, ◌∙◌, append_assoc}
 use Rattle.cyc_words.specs.Seen.{Seen, showing, ComesTo}
 use Rattle.cyc_words.proofs.PrefixLemmas.{IsPrefix-refl, IsPrefix-trans}

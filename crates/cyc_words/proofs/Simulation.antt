@@ -1,4 +1,5 @@
--- General lemmas on simulations: runs and paths, from matched steps to whole runs, composition of passes, and full preservation.
+-- This file has general lemmas on simulations: runs and paths, from matched steps to complete runs, composition of passes, and
+-- full preservation.
 use Rattle.std.proofs.Common.{◌≡◌, ℕ, zero, suc, ◌+◌, ◌*◌, ◌-◌, ◌≤◌, ◌<◌, List, [], ◌∷◌, ◌++◌, length, refl, sym, ap, subst, ◌∙◌, arith, inl, inr, append_assoc, append-nil, mul-le-mul_right}
 use Rattle.std.specs.Prelude.{◌⊎◌, sum_by, flat_map}
 use Rattle.std.proofs.lemmas.Bool.{cases_lt}
@@ -25,7 +26,7 @@ Path-append m (p ∷ ps) qs s t u (mid, at, step, rest) second = (mid, at, step,
 pub Path-step : (m : Machine) (ps : List m.Place) (s t u : m.State) → Path m ps s t → m.Step t u → Path m (ps ++ m.place t ∷ []) s u
 Path-step m ps s t u path step = Path-append m ps (m.place t ∷ []) s t u path (u, refl, step, refl)
 
--- each run is a path through some places, and each path is a run
+-- Each run is a path through some code positions, and each path is a run.
 pub Path-from_run : (m : Machine) (n : ℕ) (s t : m.State) → Run m n s t → (places : List m.Place) × (length places ≡ n) × Path m places s t
 Path-from_run m zero s t run = ([], refl, run)
 Path-from_run m (suc n) s t (mid, step, rest) =
@@ -35,7 +36,7 @@ pub Run-from_path : (m : Machine) (places : List m.Place) (s t : m.State) → Pa
 Run-from_path m [] s t path = path
 Run-from_path m (p ∷ places) s t (mid, at, step, rest) = (mid, step, Run-from_path m places mid t rest)
 
--- a run of i + j steps is a run of i steps followed by one of j steps
+-- A run of i + j steps is a run of i steps followed by a run of j steps.
 pub Run-split : (m : Machine) (i j : ℕ) (s u : m.State) → Run m (i + j) s u → (t : m.State) × Run m i s t × Run m j t u
 Run-split m zero j s u run = (s, refl, subst (λ n. Run m n s u) (omega arith) run)
 Run-split m (suc i) j s u run =
@@ -66,7 +67,7 @@ pub NeverFails-later : (m : Machine) (places : List m.Place) (s t : m.State) →
 NeverFails-later m places s t never path n u run =
     never (length places + n) u (Run-append m (length places) n s t u (Run-from_path m places s t path) run)
 
--- the constructors of `Status` differ
+-- The constructors of `Status` are different from each other.
 pub running_ended : (ending : Ending) → Running ≡ Ended ending → ⊥
 running_ended ending e = cc
 
@@ -84,31 +85,34 @@ status_cases Failed = inr (inr refl)
 -- ---- from matched steps to whole runs
 
 module _ (above below : Machine) (m : Matching above below) (steps : Steps above below m) (laws : IsLawful below) (before : List below.Place) (start : above.State) (never : NeverFails above start) where
-  -- the cost allowed for the steps above from these places, and for the places before the first step
+  -- The cost allowed for the upper machine's steps from these positions, plus the cost of the
+  -- positions before the first step.
   abbrev allowed : (below.Place → ℕ) → List above.Place → ℕ
   allowed price places = sum_by price before + sum_by (λ (p : above.Place). sum_by price (m.own p)) places
 
   abbrev Shown : List below.Place → below.State → Type 0
   Shown met now = IsUnderWay above below before m.own start met now ⊎ IsOver above below start now
 
-  -- both runs have reached states that match
+  -- Says that the runs of both machines have reached states that match.
   record IsMatched (places : List above.Place) (state : above.State) (met : List below.Place) (here : below.State) : Type 0 where
     pub path : Path above places start state
     pub matches : m.Matches state here
     pub paid : (price : below.Place → ℕ) → sum_by price met ≤ allowed price places
 
-  -- the run below is in the middle of a step, and the places `back` of that step are still to come
+  -- Says that the lower machine's run is in the middle of a step, and that the positions `back` of
+  -- this step have not been visited yet.
   record IsInside (places : List above.Place) (state : above.State) (met back : List below.Place) : Type 0 where
     pub path : Path above places start state
     pub running : above.status state ≡ Running
     pub paid : (price : below.Place → ℕ) → sum_by price met + sum_by price back ≤ allowed price places + sum_by price (m.own (above.place state))
 
-  -- each continuation of the run below with fewer steps than this is explained, from every match on
+  -- Says that each continuation of the lower machine's run with fewer than n steps is explained,
+  -- from every match on.
   abbrev Continues : ℕ → Type 0
   Continues n = (places : List above.Place) (state : above.State) (met : List below.Place) (here : below.State) (rest : List below.Place) (now : below.State)
       → IsMatched places state met here → length rest < n → Path below rest here now → Shown (met ++ rest) now
 
-  -- the step below is complete, so the runs match again
+  -- The lower machine completes the step, so the runs match again.
   arrives : (places : List above.Place) (state : above.State) (met all : List below.Place) (here : below.State) → IsInside places state met [] → (next : IsMatchedStep above below m state all here) → IsMatched (places ++ above.place state ∷ []) next.next met here
   arrives places state met all here inside next = record {
     path = Path-step above places start state next.next inside.path next.step;
@@ -119,7 +123,7 @@ module _ (above below : Machine) (m : Matching above below) (steps : Steps above
         omega (arith, inside.paid price, last, one);
   }
 
-  -- the run below visits the next place of the step
+  -- The lower machine's run visits the next position of the step.
   meets : (places : List above.Place) (state : above.State) (met : List below.Place) (q r : below.Place) (back : List below.Place) → q ≡ r → IsInside places state met (q ∷ back) → IsInside places state (met ++ r ∷ []) back
   meets places state met q r back same inside = record {
     path = inside.path;
@@ -132,7 +136,7 @@ module _ (above below : Machine) (m : Matching above below) (steps : Steps above
         omega (arith, inside.paid price, more, one, first, equal);
   }
 
-  -- the run below stops at this place, in the middle of a step or just before it
+  -- The lower machine's run stops at this position, in the middle of a step or just before it.
   stops : (places : List above.Place) (state : above.State) (met : List below.Place) (q : below.Place) (back : List below.Place) (now : below.State)
       → IsInside places state met (q ∷ back) → below.place now ≡ q → IsOnTheWay above below state now → Shown met now
   stops places state met q back now inside stands way =
@@ -151,7 +155,7 @@ module _ (above below : Machine) (m : Matching above below) (steps : Steps above
             omega (arith, inside.paid price, first, equal);
       })
 
-  -- moving a visited place from one list to the other keeps the claim
+  -- Moving a visited position from one list to the other preserves the claim.
   moved : (met : List below.Place) (r : below.Place) (rest : List below.Place) (now : below.State) → Shown ((met ++ r ∷ []) ++ rest) now → Shown (met ++ r ∷ rest) now
   moved met r rest now shown = subst (λ (l : List below.Place). Shown l now) (append_assoc met (r ∷ []) rest) shown
 
@@ -167,7 +171,8 @@ module _ (above below : Machine) (m : Matching above below) (steps : Steps above
       moved met r rest now
       (during n continues places state (met ++ r ∷ []) back all mid rest now (meets places state met q r back (sym stands ∙ met_here) inside) (goes mid step) (omega arith) path)
 
-  -- a step above begins: if it owns no places below it is complete at once, otherwise its first place is visited
+  -- A step of the upper machine begins: if the step owns no positions of the lower machine, it is complete at
+  -- once; otherwise its first position is visited.
   begins : (n : ℕ) → Continues n → (places : List above.Place) (state : above.State) (met all : List below.Place) (here : below.State) (rest : List below.Place) (now : below.State)
       → ((next : above.State) → m.weight next < m.weight state → IsMatched (places ++ above.place state ∷ []) next met here → Shown (met ++ rest) now)
       → IsInside places state met all → Comes below (IsOnTheWay above below state) (IsMatchedStep above below m state all) all here
@@ -181,7 +186,7 @@ module _ (above below : Machine) (m : Matching above below) (steps : Steps above
       moved met r rest now
       (during n continues places state (met ++ r ∷ []) back (q ∷ back) mid rest now (meets places state met q r back (sym stands ∙ met_here) inside) (goes mid step) (omega arith) path)
 
-  -- the run above is still running, so its next step is matched
+  -- The upper machine's run has not ended, so its next step is matched.
   goes_on : (n : ℕ) → Continues n → (places : List above.Place) (state : above.State) (met : List below.Place) (here : below.State) (rest : List below.Place) (now : below.State)
       → ((next : above.State) → m.weight next < m.weight state → IsMatched (places ++ above.place state ∷ []) next met here → Shown (met ++ rest) now)
       → IsMatched places state met here → above.status state ≡ Running → length rest < suc n → Path below rest here now → Shown (met ++ rest) now
@@ -198,7 +203,8 @@ module _ (above below : Machine) (m : Matching above below) (steps : Steps above
       })
       stepped.comes short path
 
-  -- the run above has ended, so the run below has ended too and stays as it is
+  -- The upper machine's run has ended, so the lower machine's run has ended too and stays
+  -- unchanged.
   ends : (places : List above.Place) (state : above.State) (met : List below.Place) (here : below.State) (rest : List below.Place) (now : below.State) (ending : Ending)
       → IsMatched places state met here → above.status state ≡ Ended ending → Path below rest here now → Shown (met ++ rest) now
   ends places state met here rest now ending matched ended path =
@@ -231,7 +237,7 @@ module _ (above below : Machine) (m : Matching above below) (steps : Steps above
   continues (suc n) places state met here rest now matched short path =
       turns n (continues n) (suc (m.weight state)) places state met here rest now (omega arith) matched short path
 
-  -- the claim for the initial places, which are visited before the first match
+  -- The claim holds for the initial positions, which are visited before the first match.
   comes_first : (met back : List below.Place) (here : below.State) (rest : List below.Place) (now : below.State) → above.status start ≡ Running
       → ((price : below.Place → ℕ) → sum_by price met + sum_by price back ≤ sum_by price before)
       → Comes below (IsOnTheWay above below start) (m.Matches start) back here → Path below rest here now → Shown (met ++ rest) now
@@ -256,7 +262,8 @@ module _ (above below : Machine) (m : Matching above below) (steps : Steps above
       omega (arith, paid price, more, one, first, equal))
       (goes mid step) path)
 
-  -- Each run below follows a run above, if the places before the first step lead to a match with the start.
+  -- Each run of the lower machine follows a run of the upper machine, if the positions before the first
+  -- step reach a match with the start.
   pub simulates : (from : below.State) → above.status start ≡ Running → Comes below (IsOnTheWay above below start) (m.Matches start) before from → Follows above below before m.own start from
   simulates from running comes = record {
     runs = λ met now path. comes_first [] before from met now running (λ price. omega arith) comes path;
@@ -264,7 +271,8 @@ module _ (above below : Machine) (m : Matching above below) (steps : Steps above
 
 -- ---- composition of two passes
 
--- an observation that a run below may show may also be shown above
+-- If a run of the lower machine may show an observation, then a run of the upper machine may show
+-- it too.
 may_show : (above below : Machine) (before : List below.Place) (own : above.Place → List below.Place) (start : above.State) (met : List below.Place) (now : below.State)
     → IsUnderWay above below before own start met now ⊎ IsOver above below start now → MayShow above start (below.seen now)
 may_show above below before own start met now (inl u) = u.following
@@ -326,7 +334,8 @@ module _ (above middle below : Machine) (before_middle : List middle.Place) (own
   together first met now (inl u) = goes first met now u (first.runs u.places u.state u.path)
   together first met now (inr o) = over met now o (first.runs o.places o.state o.path)
 
-  -- Two simulations compose: the own places of a step are the own places, in the second pass, of its own places in the first.
+  -- Two simulations compose: the positions that a step owns in the composition are those that the second simulation assigns
+  -- to its positions in the first simulation.
   pub in_a_row : Follows above middle before_middle own_middle start between → Follows middle below before_below own_below between from
       → Follows above below (before_below ++ flat_map own_below before_middle) (λ p. flat_map own_below (own_middle p)) start from
   in_a_row first second = record { runs = λ met now path. together first met now (second.runs met now path) }
@@ -340,7 +349,8 @@ fewer k n each less =
     omega (arith, times, more)
 
 module _ (above below : Machine) (laws : IsLawful above) (before : List below.Place) (own : above.Place → List below.Place) (start : above.State) (from : below.State) (follows : Follows above below before own start from) where
-  -- the run above after n steps, given its state after k steps: an earlier state, or the given one if it has ended
+  -- The state of the upper machine after n steps, with which the lower machine has caught up; below it, the proof
+  -- from a later state of the upper machine.
   abbrev After : ℕ → below.State → Type 0
   After n now = (state : above.State) × Run above n start state × ComesTo (above.seen state) (below.seen now)
       × ((ending : Ending) → above.status state ≡ Ended ending → (below.status now ≡ Ended ending) × (below.seen now ≡ above.seen state))
@@ -364,7 +374,8 @@ module _ (above below : Machine) (laws : IsLawful above) (before : List below.Pl
   ahead_over : (now : below.State) (o : IsOver above below start now) → ComesTo (above.seen o.state) (below.seen now)
   ahead_over now o = subst (ComesTo (above.seen o.state)) (sym o.seen) (ComesTo-refl (above.seen o.state))
 
-  -- a run below that is long enough has completed n steps of the run above
+  -- If the lower machine's run is long enough, then it has completed n steps of the upper machine's
+  -- run.
   comes_so_far : (each n : ℕ) → ((p : above.Place) → length before + length (own p) ≤ each) → (met : List below.Place) (now : below.State) → length met ≡ (n + 1) * each
       → (u : IsUnderWay above below before own start met now) → n ≤ length u.places
   comes_so_far each n most met now long u =
@@ -421,12 +432,13 @@ module _ (above below : Machine) (laws : IsLawful above) (before : List below.Pl
   fails_not met now (inl u) failed = running_failed (sym u.goes_on ∙ failed)
   fails_not met now (inr o) failed = ended_failed o.ending (sym o.over ∙ failed)
 
-  -- no run below fails, which is the premise of the next pass
+  -- No run of the lower machine fails, which is the premise of the next pass.
   pub follows-never_fails : NeverFails below from
   follows-never_fails n now run =
       let (met, long, path) = Path-from_run below n from now run in fails_not met now (follows.runs met now path)
 
-  -- full preservation follows if the number of a step's own places, plus those before the first step, is bounded
+  -- If the number of positions that a step owns, plus the number before the first step, is bounded, then full
+  -- preservation follows.
   pub follows-preserves : (each : ℕ) → ((p : above.Place) → length before + length (own p) ≤ each) → Preserves above below each start from
   follows-preserves each most = record {
     ahead = λ n now run.

@@ -1,11 +1,12 @@
--- Machines that full preservation rejects although they print the right bytes. These machines read too early, read bytes that the program
--- never reads, print before a read, omit a read, or ask for input at its end.
+-- This file has machines that full preservation rejects although they print the right bytes. These machines read too early, read bytes
+-- that the program never reads, print before a read, omit a read, or request input at the end of the run.
 use Rattle.std.proofs.Common.{◌≡◌, ℕ, zero, suc, List, [], ◌∷◌, drop, refl, ap}
 use Rattle.cyc_words.specs.Ending.{Full}
 use Rattle.cyc_words.specs.Seen.{Seen, showing}
 use Rattle.cyc_words.specs.Simulation.{Status, Running, Ended, Machine, Preserves}
 
--- A machine that shows three given observations in turn. `first`, `next`, and `last` for ever.
+-- A machine that shows three given observations one after the other: `first`, `next`, and then
+-- `last` for ever.
 abbrev shown : (first next last : Seen) → ℕ → Seen
 shown first next last zero = first
 shown first next last (suc zero) = next
@@ -30,7 +31,7 @@ playing first next last = record {
   status = status_after;
 }
 
--- the unread input: one byte, or none
+-- The unread input of the examples, which is one byte.
 abbrev one : List ℕ
 one = 7 ∷ []
 
@@ -77,7 +78,8 @@ prints_ahead each p =
     never (suc zero) seen = letter_none (output_same letter [] one [] seen)
     never (suc (suc n)) seen = some_none (rest_same letter letter one [] seen)
 
--- Rejected: the program prints and never reads, but the machine prints and at its end reads the rest of the input.
+-- Rejected: the program prints and never reads, but the machine prints and, at the end of its run, reads the rest
+-- of the input.
 pub reads_at_its_end : (each : ℕ) → Preserves (playing (showing [] one) (showing letter one) (showing letter one)) (playing (showing [] one) (showing letter one) (showing letter [])) each 0 0 → ⊥
 reads_at_its_end each p =
     let (n, state, run, seen, ends) = p.following 2 2 (1, refl, (2, refl, refl)) in
@@ -88,7 +90,7 @@ reads_at_its_end each p =
     never (suc zero) seen = none_some (rest_same letter letter [] one seen)
     never (suc (suc n)) seen = none_some (rest_same letter letter [] one seen)
 
--- Rejected: the program reads, but the machine never does; it prints and ends alike.
+-- Rejected: the program reads, but the machine never reads; it prints and ends like the program.
 pub never_reads : Preserves (playing (showing [] one) (showing [] []) (showing letter [])) (playing (showing [] one) (showing [] one) (showing letter one)) 1 0 0 → ⊥
 never_reads p =
     let (n, state, run, seen, ends) = p.following 2 2 (1, refl, (2, refl, refl)) in
@@ -99,8 +101,8 @@ never_reads p =
     never (suc zero) seen = letter_none (output_same letter [] one [] seen)
     never (suc (suc n)) seen = some_none (rest_same letter letter one [] seen)
 
--- Rejected: the program prints and never reads, but the machine then asks for one byte more than the input has. At the end of the input
--- such a read shows nothing, but the machine cannot know the end in advance. If a byte is left, the machine reads that byte.
+-- Rejected: the program prints and never reads, but the machine then requests one byte more than the input has. If the input is at its
+-- end, the request shows nothing, but the machine cannot know the end in advance. If a byte is left, then the machine reads that byte.
 pub asks_at_the_end : (each : ℕ)
     → ((input : List ℕ) → Preserves (playing (showing [] input) (showing letter input) (showing letter input)) (playing (showing [] input) (showing letter input) (showing letter (drop 1 input))) each 0 0)
     → ⊥

@@ -1,4 +1,4 @@
--- Writing one byte of a word leaves the other three.
+-- Writing one byte of a word leaves the other three bytes of the word unchanged.
 use Rattle.std.proofs.Common.{◌≡◌, ◌≢◌, ℕ, zero, suc, ◌<◌, refl, arith}
 use Rattle.cyc_words.specs.Bytes.{byte_in, with_byte}
 
@@ -38,7 +38,7 @@ with_byte-word w (suc zero) b word small = omega (arith, word, small)
 with_byte-word w (suc (suc zero)) b word small = omega (arith, word, small)
 with_byte-word w (suc (suc (suc p))) b word small = omega (arith, word, small)
 
--- two words with equal bytes are equal
+-- Two words with equal bytes are equal.
 pub word-same : (v w : ℕ) → v < 4294967296 → w < 4294967296 → ((p : ℕ) → p < 4 → byte_in v p ≡ byte_in w p) → v ≡ w
 word-same v w first second same =
     omega (arith, first, second, same 0 (omega arith), same 1 (omega arith), same 2 (omega arith), same 3 (omega arith))

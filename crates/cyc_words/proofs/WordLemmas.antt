@@ -1,4 +1,4 @@
--- Laws of words that other crates cite.
+-- This file has laws of words that other crates cite.
 use Rattle.std.proofs.Common.{◌≡◌, ◌≢◌, ℕ, zero, suc, ◌+◌, ◌-◌, ◌*◌, ◌/◌, ◌%◌, ◌^◌, ◌<◌, ◌≤◌, ℤ, pos, negsuc, ◌+ℤ◌, ◌-ℤ◌, ◌*ℤ◌, neg_ℤ, ◌≤ℤ◌, ◌<ℤ◌, refl, sym, ap, inl, inr, ◌∙◌, arith, rules}
 use Rattle.std.specs.Prelude.{◌⊎◌, ◌↔◌, FitsSigned, bit_and, bit_or, bit_xor, int_div, int_rem}
 use Rattle.std.specs.Int.{w16, w32, bit_at, int_wrap}
@@ -26,7 +26,8 @@ IsWord-unsigned (negsuc n) = omega arith
 pub FitsSigned-signed : (w : ℕ) → IsWord w → FitsSigned w32 (signed w)
 FitsSigned-signed w h = search (rules, ints)
 
--- the signed meaning of a word below 2 ^ 31, and of a word from 2 ^ 31 on
+-- The signed meaning of a word below 2 ^ 31 is the word; below it, the signed meaning of a word
+-- from 2 ^ 31 on.
 pub signed_low : (w : ℕ) → w < 2 ^ 31 → signed w ≡ pos w
 signed_low w h = omega (arith, ints)
 
@@ -47,7 +48,8 @@ IsWord-sub_of a b = omega arith
 pub IsWord-mul_of : (a b : ℕ) → IsWord (mul_of a b)
 IsWord-mul_of a b = omega arith
 
--- wrapping a sum, difference or product of integers is the operation on their wrapped words
+-- Wrapping a sum, difference or product of integers equals the same operation on their wrapped
+-- words.
 pub unsigned-add : (x y : ℤ) → unsigned (x +ℤ y) ≡ add_of (unsigned x) (unsigned y)
 unsigned-add (pos x) (pos y) = omega arith
 unsigned-add (pos x) (negsuc y) = grind (arith, ints)
@@ -60,7 +62,7 @@ unsigned-sub (pos x) (negsuc y) = grind (arith, ints)
 unsigned-sub (negsuc x) (pos y) = grind (arith, ints)
 unsigned-sub (negsuc x) (negsuc y) = grind (arith, ints)
 
--- the signed meaning of a wrapped integer is std's wrapping at 32 bits
+-- The signed meaning of a wrapped integer equals the wrapping of std at 32 bits.
 signed-unsigned_wraps : (z : ℤ) → signed (unsigned z) ≡ int_wrap w32 z
 unfolding int_wrap
 signed-unsigned_wraps (pos n) = refl
@@ -76,7 +78,7 @@ unsigned-mul x y =
     ∙ ap unsigned (signed-unsigned_wraps (x *ℤ y) ∙ sym wrapped ∙ sym product)
     ∙ unsigned-signed (mul_of (unsigned x) (unsigned y)) (IsWord-mul_of (unsigned x) (unsigned y))
 
--- the operations on words are those on their signed meanings, wrapped
+-- The operations on words equal the operations on their signed meanings, wrapped to 32 bits.
 pub add_of-signed : (a b : ℕ) → IsWord a → IsWord b → add_of a b ≡ unsigned (signed a +ℤ signed b)
 add_of-signed a b ha hb = simp (unsigned-add, unsigned-signed)
 
@@ -97,7 +99,7 @@ pub signed-sar_of : (a k : ℕ) → IsWord a → signed (sar_of a k) ≡ floor_d
 unfolding sar_of
 signed-sar_of a k h = signed-unsigned (floor_div (signed a) (2 ^ (k % 32))) (FitsSigned-floor_div (signed a) (2 ^ (k % 32)) (FitsSigned-signed a h))
 
--- quotient times divisor plus remainder is the dividend, even if the quotient wraps
+-- The quotient times the divisor plus the remainder is the dividend, even if the quotient wraps.
 pub divided : (a b : ℕ) → IsWord a → IsWord b → add_of (mul_of (div_of a b) b) (rem_of a b) ≡ a
 unfolding div_of rem_of
 divided a b ha hb =
@@ -107,7 +109,8 @@ divided a b ha hb =
     simp (unsigned-add, unsigned-mul) in
     ap (λ (x : ℕ). add_of (mul_of (div_of a b) x) (rem_of a b)) (sym (unsigned-signed b hb)) ∙ sym parts ∙ again
 
--- the quotient fits into 32 bits, except for -2 ^ 31 by -1; the remainder always fits
+-- The quotient of two words fits into 32 bits, except for -2 ^ 31 divided by -1; the remainder
+-- always fits.
 FitsSigned-neg : (n : ℕ) → n ≤ 2 ^ 31 → FitsSigned w32 (neg_ℤ (pos n))
 FitsSigned-neg zero h = record { sfits = omega arith }
 FitsSigned-neg (suc n) h = record { sfits = omega arith }
@@ -194,7 +197,7 @@ sltu_of-zero a b h = grind arith
 
 -- ---- bits
 
--- two words with equal bits are equal
+-- Two words with equal bits are equal.
 pub same_bits : (a b : ℕ) → IsWord a → IsWord b → ((i : ℕ) → i < 32 → bit_at a i ≡ bit_at b i) → a ≡ b
 same_bits a b ha hb same = same_from_bits_below 32 a b ha hb same
 
@@ -204,7 +207,7 @@ sign_bit w h = (λ e. grind (arith, ints), λ e. grind (arith, ints))
 
 -- ---- halves of a word
 
--- the high half times 2 ^ 16 plus the low half is the word
+-- The high half of a word times 2 ^ 16 plus its low half is the word.
 pub halves : (w : ℕ) → (w / 2 ^ 16) * 2 ^ 16 + w % 2 ^ 16 ≡ w
 halves w = omega arith
 
@@ -214,13 +217,13 @@ IsHalf-high w h = omega arith
 pub IsHalf-low : (w : ℕ) → IsHalf (w % 2 ^ 16)
 IsHalf-low w = omega arith
 
--- shifting a high half up and setting a low half adds the two
+-- Shifting a high half up by 16 bits and setting a low half yields the sum of the two.
 pub bit_or-shl_of : (h l : ℕ) → IsHalf h → IsHalf l → bit_or (shl_of h 16) l ≡ h * 2 ^ 16 + l
 bit_or-shl_of h l hh hl =
     let whole : shl_of h 16 ≡ h * 2 ^ 16 = omega arith in
     rw whole (or_shifted h 16 l hl)
 
--- loading the high half of a word and setting its low half gives the word
+-- Loading the high half of a word and setting its low half yields the word.
 pub bit_or-halves : (w : ℕ) → IsWord w → bit_or (shl_of (w / 2 ^ 16) 16) (w % 2 ^ 16) ≡ w
 bit_or-halves w h = bit_or-shl_of (w / 2 ^ 16) (w % 2 ^ 16) (IsHalf-high w h) (IsHalf-low w) ∙ halves w
 
@@ -231,7 +234,7 @@ pub signed-sign_extended : (h : ℕ) → IsHalf h → signed (sign_extended h) �
 unfolding sign_extended
 signed-sign_extended h hh = grind (arith, ints)
 
--- the sign extension of a half, by cases on its highest bit
+-- The sign extension of a half, depending on the highest bit of the half.
 pub sign_extended_low : (h : ℕ) → h < 2 ^ 15 → sign_extended h ≡ h
 unfolding sign_extended
 sign_extended_low h hh = grind (arith, ints)
@@ -240,7 +243,8 @@ pub sign_extended_high : (h : ℕ) → 2 ^ 15 ≤ h → IsHalf h → sign_extend
 unfolding sign_extended
 sign_extended_high h high hh = grind (arith, ints)
 
--- a word whose signed meaning fits 16 bits is the extension of its low half
+-- If the signed meaning of a word fits in 16 bits, then the word is the sign extension of its low
+-- half.
 pub sign_extended-low_half : (w : ℕ) → IsWord w → FitsSigned w16 (signed w) → sign_extended (w % 2 ^ 16) ≡ w
 unfolding sign_extended
 sign_extended-low_half w h fits = grind (arith, ints)

@@ -1,4 +1,5 @@
--- The faults of a source text, and the numbers of their codes: this project's own choice.
+-- This file defines the faults of a source text, and the numbers of their codes, which are this
+-- project's own choice.
 use Rattle.std.specs.Prelude.{ℕ}
 use Rattle.cyc_words.specs.declared.fault.Code.{Code}
 use Rattle.cyc_words.specs.declared.fault.Fault.{Fault}
@@ -6,7 +7,7 @@ use Rattle.cyc_words.specs.declared.fault.Code.TheVariants.{UnknownByte, Unclose
 use Rattle.cyc_words.specs.declared.fault.Code.TheVariants.{RegionNotLive, NotOutlived, EffectNotCovered, UniqueShared, NotAPlace, RegionOrKeyMisused, BadMain, OutsideLoop, EmptyVariable, LockedVariable, LoopEmptiesVariable, MissingReturn, TooManyFunctions}
 use Rattle.cyc_words.specs.declared.fault.Code.TheVariants.{FrameTooLarge}
 
--- the number of a code
+-- The number of a fault code.
 abbrev pub number_of : Code → ℕ
 number_of UnknownByte = 1
 number_of UnclosedComment = 2
@@ -37,6 +38,6 @@ number_of MissingReturn = 43
 number_of TooManyFunctions = 50
 number_of FrameTooLarge = 51
 
--- the fault for lack of memory, which has no place in the text
+-- The fault for lack of memory, which has no position in the text.
 abbrev pub memory_fault : Fault
 memory_fault = record { code = Memory; line = 0; column = 0 }

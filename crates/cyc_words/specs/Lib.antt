@@ -1,15 +1,16 @@
--- words of 32 bits, bytes, faults, and devices: the definitions that the contracts of this crate use
+-- These modules define words of 32 bits, bytes, faults, and devices, which the contracts of this
+-- crate use.
 pub mod Word
 pub mod Bytes
 pub mod Fault
 pub mod Seen
 pub mod Device
--- definitions that the contracts of many crates use
+-- These modules have definitions that the contracts of many crates use.
 pub mod Decision
 pub mod Ending
 pub mod Demand
 pub mod Distinct
 pub mod Simulation
--- Contracts between this crate's functions, and statements of its proofs. No public contract of the product depends on these internal
--- definitions.
+-- This module has the contracts between this crate's functions, and the statements of its proofs. No public contract of the product
+-- depends on these internal definitions.
 pub mod inside

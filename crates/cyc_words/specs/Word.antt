@@ -1,9 +1,9 @@
--- Words of 32 bits. A word is a number below 2 ^ 32; its signed meaning is that of two's complement. The operations are those of the MIPS32
--- architecture, volume II, defined on natural numbers.
+-- This file defines words of 32 bits. A word is a number below 2 ^ 32; its signed meaning is that of two's complement. The operations are
+-- those of the MIPS32 architecture, volume II, defined on natural numbers.
 use Rattle.std.specs.Prelude.{ℕ, ◌+◌, ◌-◌, ◌*◌, ◌/◌, ◌%◌, ◌^◌, ◌<◌, ℤ, pos, negsuc, int_div, int_rem, int_lt, nat_lt, if◌then◌else◌}
 use Rattle.std.specs.Int.{w16, w32, cast_signed}
 
--- a number of 32 bits
+-- Says that a number fits in 32 bits.
 abbrev pub IsWord : ℕ → Type 0
 IsWord w = w < 2 ^ 32
 
@@ -16,7 +16,8 @@ abbrev pub unsigned : ℤ → ℕ
 unsigned (pos n) = n % 2 ^ 32
 unsigned (negsuc n) = 2 ^ 32 - 1 - n % 2 ^ 32
 
--- a halfword (a number of 16 bits), its signed meaning, and its sign extension to a word
+-- Says that a number is a halfword (16 bits); below it, the signed meaning of a halfword and its
+-- sign extension to a word.
 abbrev pub IsHalf : ℕ → Type 0
 IsHalf h = h < 2 ^ 16
 
@@ -31,7 +32,8 @@ abbrev pub floor_div : ℤ → ℕ → ℤ
 floor_div (pos n) d = pos (n / d)
 floor_div (negsuc n) d = negsuc (n / d)
 
--- sum, difference and product, wrapped (the difference is a + 2 ^ 32 - b, since `-` stops at 0)
+-- The sum of two words, wrapped; below it, the difference (a + 2 ^ 32 - b, since `-` stops at 0)
+-- and the product, both wrapped.
 abbrev pub add_of : ℕ → ℕ → ℕ
 add_of a b = (a + b) % 2 ^ 32
 
@@ -41,7 +43,8 @@ sub_of a b = (a + (2 ^ 32 - b)) % 2 ^ 32
 abbrev pub mul_of : ℕ → ℕ → ℕ
 mul_of a b = (a * b) % 2 ^ 32
 
--- Shifts by k modulo 32: left, wrapped; right, shifting in zeros; right, shifting in the sign (the signed quotient rounded down).
+-- Shifts of a word by k modulo 32: left, wrapped; right, shifting in zeros; right, shifting in the sign (the signed quotient
+-- rounded down).
 abbrev pub shl_of : ℕ → ℕ → ℕ
 shl_of a k = (a * 2 ^ (k % 32)) % 2 ^ 32
 
@@ -51,15 +54,16 @@ shr_of a k = a / 2 ^ (k % 32)
 unfoldable pub sar_of : ℕ → ℕ → ℕ
 sar_of a k = unsigned (floor_div (signed a) (2 ^ (k % 32)))
 
--- 1 if a is less than b, otherwise 0: compared as signed numbers, and as unsigned words
+-- The comparison of two words as signed numbers: 1 if a is less than b, otherwise 0; below it, the
+-- comparison as unsigned words.
 unfoldable pub slt_of : ℕ → ℕ → ℕ
 slt_of a b = if int_lt (signed a) (signed b) then 1 else 0
 
 abbrev pub sltu_of : ℕ → ℕ → ℕ
 sltu_of a b = if nat_lt a b then 1 else 0
 
--- quotient and remainder of signed numbers: the quotient is rounded toward zero, and the remainder has the
--- dividend's sign
+-- The quotient of signed numbers, rounded toward zero; below it, the remainder, which has the dividend's
+-- sign.
 unfoldable pub div_of : ℕ → ℕ → ℕ
 div_of a b = unsigned (int_div (signed a) (signed b))
 

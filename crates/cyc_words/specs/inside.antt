@@ -1,5 +1,5 @@
--- definitions that the contracts inside this crate use
+-- These modules have definitions that the contracts inside this crate use.
 pub mod Reader
 pub mod Writer
--- simulation as each pass proves it
+-- This module defines simulation in the form in which each pass proves it.
 pub mod Following

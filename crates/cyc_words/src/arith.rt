@@ -1,23 +1,23 @@
-//! Arithmetic on words of 32 bits, signed ones in two's complement.
+//! This file has the arithmetic on words of 32 bits; signed words are in two's complement.
 
 ghost use Rattle.std.specs.Prelude.{◌≡◌, ◌≢◌};
 ghost use Rattle.cyc_words.specs.Word.{add_of, sub_of, mul_of, shl_of, shr_of, sar_of, slt_of, sltu_of, div_of, rem_of};
 
-/// Returns the sum, wrapped to 32 bits.
+/// Returns the sum of two words, wrapped to 32 bits.
 pub fn add(a: u32, b: u32) -> u32
     ensures { result ≡ add_of a b }
 {
     a.wrapping_add(b)
 }
 
-/// Returns the difference, wrapped to 32 bits.
+/// Returns the difference of two words, wrapped to 32 bits.
 pub fn sub(a: u32, b: u32) -> u32
     ensures { result ≡ sub_of a b }
 {
     a.wrapping_sub(b)
 }
 
-/// Returns the product, wrapped to 32 bits.
+/// Returns the product of two words, wrapped to 32 bits.
 pub fn mul(a: u32, b: u32) -> u32
     ensures { result ≡ mul_of a b }
 {
@@ -61,7 +61,8 @@ pub fn sltu(a: u32, b: u32) -> u32
     u32::from(a < b)
 }
 
-/// Returns the signed quotient, rounded toward zero. -2147483648 by -1 wraps to -2147483648.
+/// Returns the signed quotient, rounded toward zero. The quotient of -2147483648 and -1
+/// wraps to -2147483648.
 #[tactic(auto, unfolding(crate::specs::Word::div_of))]
 pub fn div(a: u32, b: u32) -> u32
     requires { b ≢ 0 }
@@ -72,7 +73,8 @@ pub fn div(a: u32, b: u32) -> u32
         .cast_unsigned()
 }
 
-/// Returns the signed remainder, with the dividend's sign. For -2147483648 by -1 it is 0.
+/// Returns the signed remainder, with the sign of the dividend. For -2147483648 and -1 the
+/// remainder is 0.
 #[tactic(auto, unfolding(crate::specs::Word::rem_of))]
 pub fn rem(a: u32, b: u32) -> u32
     requires { b ≢ 0 }

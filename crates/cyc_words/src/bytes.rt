@@ -1,16 +1,16 @@
-//! A word as four bytes, big-endian.
+//! This file represents a word as four bytes, big-endian.
 
 ghost use Rattle.std.specs.Prelude.{◌≡◌};
 ghost use Rattle.cyc_words.specs.Bytes.{bytes_of_word, word_of_bytes, byte_in, with_byte};
 
-/// Returns the word of four bytes, the highest first.
+/// Returns the word whose four bytes are given, the highest byte first.
 pub fn word_at(bytes: &[u8; 4]) -> u32
     ensures { result ≡ word_of_bytes bytes.now }
 {
     u32::from_be_bytes(*bytes)
 }
 
-/// Returns the four bytes of a word, the highest first.
+/// Returns the four bytes of a word, the highest byte first.
 pub fn bytes_of(word: u32) -> [u8; 4]
     ensures { result ≡ bytes_of_word word }
 {
@@ -30,7 +30,7 @@ pub fn byte_in(word: u32, place: u32) -> u8
     }
 }
 
-/// Returns the word with its byte at this position replaced; the other bytes stay.
+/// Returns the word after its byte at this position is replaced; the other bytes stay unchanged.
 pub fn with_byte(word: u32, place: u32, byte: u8) -> u32
     ensures { result ≡ with_byte word place byte }
 {

@@ -1,4 +1,4 @@
-//! Devices that read or write one byte at a time.
+//! This file defines devices that read or write one byte at a time.
 
 ghost use Rattle.std.specs.Prelude.{◌≡◌, ◌||◌, ℕ, List, Bool, true, Option, is_err, IsTrue, IsErr, OnOk, OnErr, flat_map};
 ghost use Rattle.std.specs.Io.KnownBytes.{Keeps};
@@ -10,7 +10,7 @@ pub struct Failed;
 
 /// An input device.
 ///
-/// A `ByteIn` may report the bytes that are still to be read; `None` reports nothing. Once reported, the bytes are consumed one at a time
+/// A `ByteIn` may report the bytes that have not been read yet; `None` reports nothing. The reported bytes are consumed one at a time
 /// from the front.
 pub trait ByteIn {
     ghost remaining: { Self → Option (List ℕ) };
@@ -23,9 +23,10 @@ pub trait ByteIn {
     /// True once a byte was requested after the end of the input.
     ghost asked_past_end: { Self → Bool };
 
-    /// Returns the next byte, or `None` at the end.
+    /// Returns the next byte, or `None` at the end of the input.
     ///
-    /// Any call may return `Failed`; each later call then returns `Failed` too. A failure does not change the reported bytes.
+    /// Any call of `next` may return `Failed`; each later call then returns `Failed` too. A failure does not change the
+    /// reported bytes.
     fn next(&mut self) -> Result<Option<u8>, Failed>
         ensures bytes { Gives (remaining self.old) result (remaining self.new) }
         ensures fails { failed self.new ≡ is_err result }
@@ -41,7 +42,7 @@ pub trait ByteIn {
 
 /// An output device.
 ///
-/// A `ByteOut` may report the bytes that it has taken; `None` reports nothing. Once reported, the bytes only grow at the end.
+/// A `ByteOut` may report the bytes that it has taken; `None` reports nothing. The reported bytes only grow at the end.
 pub trait ByteOut {
     ghost written: { Self → Option (List ℕ) };
 
@@ -49,15 +50,18 @@ pub trait ByteOut {
 
     /// Takes one byte.
     ///
-    /// Any call may return `Failed`; each later call then returns `Failed` too. A failure does not change the reported bytes.
+    /// Any call of `put` may return `Failed`; each later call then returns `Failed` too. A failure does not change the
+    /// reported bytes.
     fn put(&mut self, byte: u8) -> Result<(), Failed>
         ensures bytes { Takes (written self.old) byte result (written self.new) }
         ensures fails { failed self.new ≡ is_err result }
         ensures stays { IsTrue (failed self.old) → IsErr result };
 
-    /// Flushes the bytes that the device has taken but holds back, as before a call that waits for input.
+    /// Flushes the bytes that the device has taken but has not yet passed on; a caller uses it before a
+    /// call that waits for input.
     ///
-    /// The reported bytes do not change. If flushing fails, the next call of `put` returns the failure.
+    /// Flushing does not change the reported bytes. If flushing fails, then the next call of `put`
+    /// returns the failure.
     fn pass_on(&mut self)
         ensures bytes { Keeps (written self.old) (written self.new) }
         ensures fails { failed self.new ≡ failed self.old }

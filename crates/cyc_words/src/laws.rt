@@ -19,14 +19,16 @@ pub fn word_views()
     ensures unsigned_fits { (z : ℤ) → IsWord (unsigned z) }
 {}
 
-/// Sum, difference and product of words are those of their signed meanings, wrapped to 32 bits.
+/// The sum, difference and product of words are the sum, difference and product of their signed
+/// meanings, wrapped to 32 bits.
 pub fn word_sums()
     ensures sum { (a b : ℕ) → IsWord a → IsWord b → add_of a b ≡ unsigned (signed a +ℤ signed b) }
     ensures difference { (a b : ℕ) → IsWord a → IsWord b → sub_of a b ≡ unsigned (signed a -ℤ signed b) }
     ensures product { (a b : ℕ) → IsWord a → IsWord b → mul_of a b ≡ unsigned (signed a *ℤ signed b) }
 {}
 
-/// Quotient, remainder and arithmetic shift equal those of integers, except for the one quotient that wraps.
+/// The quotient, remainder and arithmetic shift of words equal those of integers, except for the one
+/// quotient that wraps (-2 ^ 31 by -1).
 pub fn word_quotients()
     ensures dividend { (a b : ℕ) → IsWord a → IsWord b → add_of (mul_of (div_of a b) b) (rem_of a b) ≡ a }
     ensures quotient { (a b : ℕ) → IsWord a → IsWord b → (a ≡ 2 ^ 31 → b ≢ 2 ^ 32 - 1) →
@@ -52,8 +54,8 @@ pub fn word_bytes()
     ensures bytes { (bs : List ℕ) → length bs ≡ 4 → All IsByte bs → bytes_of_word (word_of_bytes bs) ≡ bs }
 {}
 
-/// Reading a byte of a word by position agrees with the list of its bytes. A written byte is read back at its position, and the other three
-/// stay.
+/// Reading a byte of a word by its position agrees with the list of the word's bytes. A byte that is written is read back at its position,
+/// and the other three bytes stay unchanged.
 pub fn byte_places()
     ensures listed { (w : ℕ) → bytes_of_word w ≡ byte_in w 0 ∷ byte_in w 1 ∷ byte_in w 2 ∷ byte_in w 3 ∷ [] }
     ensures here { (w p b : ℕ) → IsByte b → byte_in (with_byte w p b) p ≡ b }

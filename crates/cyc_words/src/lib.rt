@@ -1,4 +1,5 @@
-//! The base of the compiler: 32-bit words and their arithmetic, the faults of a source text, and devices that read and write bytes.
+//! This crate is the base of the compiler: it has 32-bit words and their arithmetic, the faults of a source text, and devices that
+//! read and write bytes.
 #![tactic(auto)]
 
 mod arith;

@@ -1,4 +1,4 @@
-//! An output device over std's `Write`.
+//! This file defines an output device over the trait `Write` of std.
 
 ghost use Rattle.std.specs.Prelude.{◌≡◌, false};
 
@@ -7,8 +7,8 @@ use std::io::Write;
 
 /// An output device over a writer of std. The device reports the written bytes if the writer reports its contents.
 ///
-/// Each call makes one write of one byte. A write that takes no byte is a failure, and so is an error of the writer, also `Interrupted`.
-/// After a failure the writer is never called again. The device flushes no byte.
+/// Each call of the device makes one write of one byte. A write that takes no byte is a failure, and so is an error of the writer, also
+/// `Interrupted`. After a failure the writer is never called again. The device never flushes the writer.
 #[derive(Drop)]
 pub struct Writer<W> {
     inner: W,

@@ -1,2 +1,2 @@
--- the answer to a request about a code
+-- the answer to a request for the description of a fault code
 pub mod Page

@@ -1,10 +1,10 @@
-//! A program that is compiled in memory and run.
+//! The command `exec`: compiles a program in memory and runs it.
 use cyc_host::Answer;
 use cyc_image_commands::{Allowance, refuse_report, run_made, write_outcome};
 use cyc_source_commands::make_file;
 
-/// `exec SOURCE`, with what the program reaches of libraries, on the standard input. If a file for the report is given, the report is
-/// written however the run ends.
+/// Runs `exec SOURCE`, with the library declarations that the program uses, on the standard input. If a file for the report is given,
+/// the report is written, however the run ends.
 pub fn exec_file(
     rt: &HostRuntime,
     source: &str,

@@ -1,28 +1,29 @@
-//! The files that the words of a command line name, where there may be several: those of a command, and those of `--with`.
+//! Finds the file names among the words of a command line, where there may be several: those of a command, and those of
+//! `--with`.
 use std::alloc::{AllocError, Global};
 
-/// Returns true if the command of this name takes several files.
+/// Returns true if the command with this name accepts several files.
 fn takes_several(name: &str) -> bool {
     matches!(name, "check" | "bound" | "format")
 }
 
-/// The first word that may be a file: that after the name of the program and that of the command.
+/// The index of the first word that may be a file name, after the program's name and the command's.
 const FIRST: usize = 2;
 
-/// What the words so far say of the next one.
+/// The kind of the next word of a command line, as the words before it determine it.
 #[derive(Clone, Copy)]
 enum Next {
-    /// The next word is an option, or a file.
+    /// The next word is an option or a file name.
     Any,
-    /// The next word belongs to the option before it.
+    /// The next word is the value of the option before it.
     OfOption,
-    /// The next word belongs to `--with`, if it is no option.
+    /// The next word is a file name of `--with`, unless it is an option.
     OfWith,
-    /// The next word is a file, as each word after `--` is.
+    /// The next word is a file name, like each word after `--`.
     File,
 }
 
-/// Returns true if a word is a file's, and not an option or of one.
+/// Returns true if a word is a file name, and neither an option nor the value of one.
 fn is_file(word: &str, next: Next) -> bool {
     match next {
         Next::Any => word == "-" || !word.starts_with('-'),
@@ -31,7 +32,7 @@ fn is_file(word: &str, next: Next) -> bool {
     }
 }
 
-/// What a word says of the one after it.
+/// Returns the kind of the word after a word of the command line.
 fn next_after(word: &str, next: Next) -> Next {
     match next {
         Next::File => Next::File,
@@ -46,7 +47,7 @@ fn next_after(word: &str, next: Next) -> Next {
     }
 }
 
-/// Returns the names of the files of `--with`.
+/// Returns the file names that follow `--with`.
 pub fn libraries_in(alloc: Global, words: &[String]) -> Result<Vec<&str>, AllocError> {
     let mut names = Vec::new(alloc);
     let mut next = Next::Any;
@@ -62,7 +63,7 @@ pub fn libraries_in(alloc: Global, words: &[String]) -> Result<Vec<&str>, AllocE
     Ok(names)
 }
 
-/// Returns the number of files that words name to a command that takes several.
+/// Returns the number of file names on a command line whose command accepts several files.
 pub fn count_of_files(words: &[String]) -> usize {
     match words.get(1) {
         Some(name) if takes_several(name.as_str()) => {}
@@ -79,7 +80,8 @@ pub fn count_of_files(words: &[String]) -> usize {
     count
 }
 
-/// The words of a command line but for its files, and the place among them where each of these may stand.
+/// The words of a command line without its file names, and the index at which each file name can be
+/// inserted.
 #[derive(Drop)]
 pub struct Line {
     pub words: Vec<String>,
@@ -88,7 +90,7 @@ pub struct Line {
 }
 
 impl Line {
-    /// Takes the words of a command line apart.
+    /// Separates the file names of a command line from its other words.
     pub fn of(alloc: Global, words: Vec<String>) -> Result<Line, AllocError> {
         let mut line = Line {
             words: Vec::new(alloc),
@@ -107,7 +109,8 @@ impl Line {
                 line.words.push(word)?;
             }
         }
-        // What begins like an option is a file only after `--`, which ends the others; and `--with` takes words up to an option.
+        // A word that begins like an option is a file name only after `--`, which ends the options. The option `--with` takes
+        // words up to the next option.
         if let Next::File = next {
             line.place = line.words.len();
         }

@@ -1,4 +1,4 @@
-//! The program `cyclone`: checks a program, compiles one to an image, and runs, disassembles or describes an image.
+//! The program `cyclone` checks a program, compiles one to an image, and runs, disassembles or describes an image.
 #![tactic(auto)]
 
 mod exec;

@@ -1,15 +1,16 @@
-//! The words of a text, four bytes in each, for a program that prints it.
+//! Packs a text into words of four bytes, as constants for a program that prints the text.
 use cyc_host::{Answer, Output};
 use std::alloc::{AllocError, Global};
 use std::io::Write;
 use std::{fmt, io};
 
-/// How many bytes a word has, and how many words a call of the library takes.
+/// The number of bytes in a word, and the number of words that one call of the library prints.
 const BYTES: usize = 4;
 
 const WORDS: usize = 8;
 
-/// The byte that an escape of these letters means, and the letters after it; nothing if there is no such escape.
+/// Returns the byte that an escape sequence denotes, and the letters after the sequence, or `None` if it is not
+/// valid.
 fn escaped(letters: &[u8]) -> Option<(u8, &[u8])> {
     match letters {
         [b'n', rest @ ..] => Some((b'\n', rest)),
@@ -27,7 +28,7 @@ fn escaped(letters: &[u8]) -> Option<(u8, &[u8])> {
     }
 }
 
-/// The value of a hexadecimal digit.
+/// Returns the value of a hexadecimal digit.
 fn digit_of(letter: u8) -> Option<u8> {
     match letter {
         b'0'..=b'9' => Some(letter - b'0'),
@@ -37,7 +38,7 @@ fn digit_of(letter: u8) -> Option<u8> {
     }
 }
 
-/// The bytes of a text with escapes; nothing if any escape is invalid.
+/// Returns the bytes of a text with escape sequences, or `None` if one of them is not valid.
 fn bytes_of(alloc: Global, text: &[u8]) -> Result<Option<Vec<u8>>, AllocError> {
     let mut bytes = Vec::new(alloc);
     let mut rest = text;
@@ -60,7 +61,8 @@ fn bytes_of(alloc: Global, text: &[u8]) -> Result<Option<Vec<u8>>, AllocError> {
     Ok(Some(bytes))
 }
 
-/// A word of at most four bytes, the first one highest, as a program writes it: a number has no more than 31 bits.
+/// Writes a word of at most four bytes, the first one highest, as a constant in a program: a number in a text has
+/// no more than 31 bits.
 #[derive(Drop)]
 struct Word<'a>(&'a [u8]);
 
@@ -79,7 +81,7 @@ impl fmt::Display for Word<'_> {
     }
 }
 
-/// Words with something between them.
+/// Writes words with a separator between them.
 #[derive(Drop)]
 struct Words<'a> {
     bytes: &'a [u8],
@@ -100,7 +102,7 @@ impl fmt::Display for Words<'_> {
     }
 }
 
-/// Bytes in a comment, with escapes, which does not end among them.
+/// Writes bytes in a comment, with escape sequences, so that no byte ends the comment.
 #[derive(Drop)]
 struct Commented<'a>(&'a [u8]);
 
@@ -123,7 +125,7 @@ impl fmt::Display for Commented<'_> {
     }
 }
 
-/// What is printed of a text: its words, and the calls that print it, with the text beside them.
+/// Writes the words of a text and the calls that print it, with the text beside them as comments.
 #[derive(Drop)]
 struct Packed<'a>(&'a [u8]);
 
@@ -146,7 +148,7 @@ impl fmt::Display for Packed<'_> {
     }
 }
 
-/// Prints a text packed.
+/// Prints a text packed into words.
 fn print_packed(rt: &HostRuntime, bytes: &[u8]) -> io::Result<()> {
     let mut output = Output::new(rt);
     write!(output, "{}", Packed(bytes))?;

@@ -1,4 +1,4 @@
-//! Serves the words of the command line, using files and the standard streams.
+//! Performs the request on the command line, using files and the standard streams.
 use crate::exec::exec_file;
 use crate::line::{Line, count_of_files, libraries_in};
 use crate::pack::pack_text;
@@ -14,7 +14,8 @@ use std::env::{Env, FillError};
 use std::io::Write;
 use std::{env, io};
 
-/// Returns the answer to a request with these libraries, which is for one file of several where `is_one` says so.
+/// Performs a request with these libraries and returns the answer. If `is_one` is true, the request is for one of
+/// several files.
 fn carry_out(rt: &HostRuntime, request: &Request<'_>, libraries: &[&str], is_one: bool) -> Answer {
     let result = match request {
         Request::Check { source, is_json } => check_file(rt, source, libraries, *is_json),
@@ -86,13 +87,13 @@ fn carry_out(rt: &HostRuntime, request: &Request<'_>, libraries: &[&str], is_one
     }
 }
 
-/// What one of several programs needs, below its name.
+/// Prints the memory requirements of one of several programs, below its name.
 fn bound_one(rt: &HostRuntime, source: &str, libraries: &[&str]) -> Result<Answer, Answer> {
     print_name(rt, source)?;
     bound_file(rt, source, libraries)
 }
 
-/// Refuses to write several programs to one file.
+/// Reports that several programs cannot be written to one output file.
 fn refuse_output(rt: &HostRuntime) -> Result<Answer, Answer> {
     let _ = rt.eprintln("cyclone: -o takes one file: leave it out, or format them one by one");
     Err(Answer::Usage)
@@ -105,8 +106,8 @@ fn print_help(rt: &HostRuntime, help: &clap::Error) -> io::Result<()> {
     output.flush()
 }
 
-/// Handles words without a request. Returns the answer to a wrong command line; help and the version have none if their text could be
-/// written.
+/// Handles a command line without a valid request. Returns the answer to a wrong command line, or `None` if help or the version was
+/// requested and written.
 fn print_usage(rt: &HostRuntime, error: &clap::Error) -> Option<Answer> {
     match error.kind() {
         ErrorKind::DisplayHelp | ErrorKind::DisplayVersion => match print_help(rt, error) {
@@ -114,7 +115,8 @@ fn print_usage(rt: &HostRuntime, error: &clap::Error) -> Option<Answer> {
             Err(_) => Some(Answer::WriteFault),
         },
         kind => {
-            // The message on the mistake contains the words of the command line, which may have any characters.
+            // The message about the mistake contains words of the command line, which may contain any
+            // characters.
             let text = within_bounds(error);
             say(rt, Lines(text.as_str()));
             Some(match kind {
@@ -125,10 +127,11 @@ fn print_usage(rt: &HostRuntime, error: &clap::Error) -> Option<Answer> {
     }
 }
 
-/// The most bytes of a word that are examined: no file has a longer name.
+/// The most bytes of a word that are examined; no file name is longer.
 const MOST_WORD: usize = 4096;
 
-/// Reports the word of the command line that is not UTF-8, and how to reach its file: std opens files only by text, the shell by any bytes.
+/// Reports that a word of the command line is not valid UTF-8, and how to use its file: std opens files only by text, the shell by any
+/// bytes.
 fn report_word(rt: &HostRuntime) {
     let mut word = [0; MOST_WORD];
     for place in 0..usize::MAX {
@@ -146,7 +149,7 @@ fn report_word(rt: &HostRuntime) {
     }
 }
 
-/// Returns the command line's words.
+/// Returns the words of the command line.
 fn read_words(rt: &HostRuntime) -> Result<Vec<String>, Answer> {
     let words = match env::args(rt) {
         Ok(words) => words,
@@ -162,7 +165,8 @@ fn read_words(rt: &HostRuntime) -> Result<Vec<String>, Answer> {
     }
 }
 
-/// Returns the answer to the words of a command line. The words on it for a person stand on standard error.
+/// Performs the request in the words of a command line and returns the answer. Messages for human readers
+/// are written to standard error.
 fn answer_words(rt: &HostRuntime, words: &[String], is_one: bool) -> Option<Answer> {
     match read_request(rt.alloc(), words) {
         Ok(request) => Some(match libraries_in(rt.alloc(), words) {
@@ -173,8 +177,8 @@ fn answer_words(rt: &HostRuntime, words: &[String], is_one: bool) -> Option<Answ
     }
 }
 
-/// Returns the answer to words that name several files, each of which is done as if it stood there alone: the first that is not `done`.
-/// Where the words are wrong, or ask for help, no more than one is.
+/// Performs a command for each of several files, as if each were the only one. Returns the first answer other than `done`. If the
+/// command line is wrong or asks for help, no further file is handled.
 fn answer_each(rt: &HostRuntime, line: Line) -> Option<Answer> {
     let Line {
         mut words,
@@ -200,7 +204,7 @@ fn answer_each(rt: &HostRuntime, line: Line) -> Option<Answer> {
     Some(answer)
 }
 
-/// Returns the answer to the words of the command line.
+/// Performs the requests on the command line and returns the answer.
 fn answer_line(rt: &HostRuntime, words: Vec<String>) -> Option<Answer> {
     if count_of_files(words.as_slice()) < 2 {
         return answer_words(rt, words.as_slice(), false);
@@ -211,7 +215,7 @@ fn answer_line(rt: &HostRuntime, words: Vec<String>) -> Option<Answer> {
     }
 }
 
-/// Rejects a stack on which some text or image would crash the program.
+/// Rejects a stack that is too small, on which some text or image would crash the program.
 fn ask_for_stack(rt: &HostRuntime) -> Result<(), Answer> {
     let limit = stack_limit(rt);
     if is_enough_stack(limit) {
@@ -224,8 +228,8 @@ fn ask_for_stack(rt: &HostRuntime) -> Result<(), Answer> {
     Err(Answer::NoMemory)
 }
 
-/// Serves the request of the command line, if the stack is large enough. Returns the program's answer, or `None` if help or the version was
-/// requested and printed.
+/// Performs the request on the command line, if the stack is large enough. Returns the program's answer, or `None` if help or the version
+/// was requested and printed.
 pub fn serve(rt: &HostRuntime) -> Option<Answer> {
     match ask_for_stack(rt) {
         Ok(()) => serve_words(rt),
@@ -233,7 +237,8 @@ pub fn serve(rt: &HostRuntime) -> Option<Answer> {
     }
 }
 
-/// Serves the command line in a stack frame of its own, so that a stack that is too small is reported without this frame.
+/// Performs the request on the command line in a stack frame of its own, so that the check for a stack that is too small
+/// runs without this frame.
 #[inline(never)]
 fn serve_words(rt: &HostRuntime) -> Option<Answer> {
     let answer = match read_words(rt) {

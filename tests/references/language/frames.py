@@ -1,12 +1,14 @@
 """The words of a function's frame, which the limit of frames speaks of: they are counted on the tree alone."""
 from .types import NOTHING, NULL, is_fat
 
-# What a frame holds beside variables and the values of expressions; a `try`; a place; and what a `for` keeps beside its element.
+# The numbers of words in a stack frame: for the frame itself, for a `try`, for an address, and for an array `for` besides its
+# element.
 FRAME_ITSELF = 24
 TRY_WORDS = 6
 PLACE_WORDS = 3
 ARRAY_WORDS = 4
-# The handle of a lexical region, and that of one opened by a key.
+# The number of words in a frame for the handle of a lexical region, and for the handle of a region
+# opened by a key.
 LEXICAL_WORDS, HANDLE_WORDS = 2, 1
 
 

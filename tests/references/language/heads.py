@@ -125,7 +125,8 @@ class Head:
     def name(self):
         faults, part = Faults(), self.part
         self.program.declare("name", part, faults)
-        # the block of a function is a region of its name, and the heap and the unique region are there already
+        # a function's block is a region named after the function, so the name must differ from the built-in
+        # regions `heap` and `unique`
         if part.name in (HEAP, UNIQUE):
             faults.add(21, part.place)
         is_plain = not part.is_void and part.result.base == "int" and not part.result.marks

@@ -4,9 +4,9 @@ from .runs import Run
 from .types import is_number
 from .values import End, Thrown
 
-# The exceptions of the language, in the order of their numbers.
+# The built-in exceptions of the language, in the order of their numbers.
 BUILT_IN = ("Null_Exception", "Array_bounds", "Array_size", "Div_zero")
-# How many calls are told.
+# The maximum number of calls that a report of a stopped run lists.
 MOST_CALLS = 32
 
 
@@ -21,7 +21,8 @@ def place_of_value(node):
     return PLACES[node.kind](node) if node.kind in PLACES else None
 
 
-# What a pointer leads to is named by the pointer, by the field or by the index.
+# The source position reported for a memory cell: that of the pointer, of the field's name or of the
+# index.
 PLACES = {
     "target": lambda node: node.operand.start,
     "member": lambda node: node.field.place,
@@ -33,7 +34,8 @@ class PlacedRun(Run):
     """A run that notes at which place it stops, and by which calls it came there."""
 
     def __init__(self, *given, **options):
-        # of each call under way where it stands, and the functions, that of `main` first
+        # for each active call: the source position of the call; and the names of the called
+        # functions, starting with `main`
         self.sites, self.names = [], []
         self.stop = None
         super().__init__(*given, **options)
@@ -78,7 +80,7 @@ class PlacedRun(Run):
         finally:
             self.names.pop()
 
-    # What has a place
+    # Executes a statement and records its source position, if the statement has one.
 
     def statement(self, item):
         act = super().statement(item)

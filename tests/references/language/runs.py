@@ -75,7 +75,8 @@ class Run:
         self.read += 1
         return self.given[self.read - 1]
 
-    # Statements: each answers None where the next one follows, "break", "continue", or a list of what is returned.
+    # Executes a statement. Returns None if the next statement follows, "break", "continue", or a list with the
+    # returned value.
 
     def statement(self, item):
         return getattr(self, "statement_" + item.kind)(item)
@@ -255,7 +256,8 @@ class Run:
         place = self.place(node)
         return lambda frame: load(place(frame))
 
-    # The place of a variable, or of what a pointer leads to, with the checks of the latter.
+    # Returns the storage of a variable or of a pointer's target. Access through a pointer performs
+    # the checks.
 
     def place(self, node):
         return getattr(self, "place_" + node.kind)(node)

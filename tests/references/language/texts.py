@@ -21,7 +21,7 @@ TOKEN = re.compile(
     re.DOTALL,
 )
 ESCAPES = {"n": 10, "t": 9, "r": 13, "0": 0, "\\": 92, "'": 39}
-# From the loosest to the tightest.
+# The binary operators by precedence, from the lowest to the highest.
 LEVELS = [["||"], ["&&"], ["|"], ["^"], ["&"], ["==", "!="], ["<", "<=", ">", ">="], ["<<", ">>"], ["+", "-"], ["*", "/", "%"]]
 LEVEL_OF = {sign: level for level, signs in enumerate(LEVELS) for sign in signs}
 MARKS = ("*", "@", "?")

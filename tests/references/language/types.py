@@ -7,7 +7,7 @@ from .texts import Refused
 
 HEAP, UNIQUE = "H", "U"
 INT, CHAR = ("int",), ("char",)
-# What an expression has for its type where it has no value, and where it is the null pointer.
+# The types of an expression without a value and of the null pointer.
 NOTHING, NULL = "nothing", "null"
 
 

@@ -9,9 +9,10 @@ COMPARISONS = ("==", "!=", "<", "<=", ">", ">=")
 ORDERS = ("<", "<=", ">", ">=")
 EFFECTS = ("call", "assign", "new", "ufree", "free_ukey")
 WIDTH = 32
-# Beyond ASCII: control characters, marks and embeddings of direction, what has no width, separators of lines, the byte-order mark, tags.
+# Characters beyond ASCII that a reader cannot see: control characters, direction marks and embeddings, zero-width characters, line
+# separators, the byte-order mark, tags.
 HIDDEN = re.compile("[\x80-\x9f\u061c\u200b-\u200f\u2028-\u202e\u2060-\u206f\ufeff\U000e0000-\U000e007f]")
-# How many elements of a type are 1,000 words.
+# The numbers of chars, fat pointers and other elements that occupy 1,000 words.
 CHARS_AT_MOST, FATS_AT_MOST, CELLS_AT_MOST = 4000, 333, 1000
 
 

@@ -1,4 +1,5 @@
--- The meaning of a text: the machine that runs its words follows the labelled machine.
+-- The meaning of an assembled text: the MIPS machine that runs its words follows the labelled
+-- machine.
 use Rattle.std.specs.Prelude.{ℕ, ◌*◌, ◌≤◌, List, [], replicate}
 use Rattle.cyc_store.specs.State.{StoreState}
 use Rattle.cyc_machine_model.specs.declared.constants.TheConstants.{MAX_CALLS}
@@ -13,7 +14,8 @@ use Rattle.cyc_select.specs.inside.Labelled.{Labelled}
 use Rattle.cyc_select.specs.inside.Machine as labelled
 use Rattle.cyc_asm.specs.inside.Text.{text_of, own}
 
--- The initial world of the machine with these words of text and these words in the data range.
+-- Returns the initial world of the MIPS machine with these words of text and these words in the
+-- data range.
 abbrev pub start_in : (words globals stack : List ℕ) → StoreState → (calls : ℕ) → (input : List ℕ) → World
 start_in words globals stack store calls input =
     record {
@@ -30,8 +32,8 @@ abbrev pub start : Labelled → (words : List ℕ) → StoreState → (calls : �
 start code words store calls input =
     start_in words (labelled.globals_of code.globals) (replicate (words_per_call * calls) 0) store calls input
 
--- For every store and input, the machine that runs the words does the same as the labelled machine, unless that one fails. For each line it
--- visits only the line's own words, each at most once.
+-- `Runs` says that for every store and input, the MIPS machine that runs the words does the same as the labelled machine, unless the
+-- labelled machine fails. For each line it visits only the line's own words, each at most once.
 abbrev pub Runs : Labelled → (addresses : ℕ → ℕ) → (words : List ℕ) → Type 0
 Runs code addresses words =
     (store : StoreState) (calls : ℕ) (input : List ℕ) → calls ≤ MAX_CALLS

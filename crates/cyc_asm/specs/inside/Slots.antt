@@ -1,5 +1,5 @@
--- The filled delay slots. The instruction just before a branch or jump fills its slot unless this changes the effect of either or another
--- line jumps to the branch. The rule for filling delay slots is this project's own choice.
+-- The filled delay slots. The instruction just before a branch or jump fills its delay slot, unless the move changes the effect of either
+-- of them or another line jumps to the branch. The rule for filling delay slots is this project's own choice.
 use Rattle.std.specs.Prelude.{◌≡◌, ℕ, zero, suc, ◌<◌, Bool, true, false, not, ◌==◌, ◌&&◌, ◌||◌, if◌then◌else◌, List, length, Option, Some, None, slice_get, get_or}
 use Rattle.std.specs.List.{list_any}
 use Rattle.cyc_isa.specs.Uses.{reads, writes}
@@ -11,7 +11,8 @@ use Rattle.cyc_select.specs.declared.code.Condition.TheVariants as conditions
 use Rattle.cyc_select.specs.declared.code.Line.{Line}
 use Rattle.cyc_select.specs.declared.code.Line.TheVariants as lines
 
--- An instruction that may stand in a delay slot: no jump, branch, `syscall` or `break`.
+-- Returns true if an instruction may stand in a delay slot: it is no jump, branch, `syscall` or
+-- `break`.
 abbrev pub is_movable : Instr → Bool
 is_movable (Branch op left right offset) = false
 is_movable (BranchZero op source offset) = false
@@ -21,14 +22,14 @@ is_movable (JumpRegisterLink destination source) = false
 is_movable (Exception op code) = false
 is_movable instruction = true
 
--- The instruction writes no register that the condition tests.
+-- Returns true if an instruction writes no register that the condition tests.
 abbrev pub leaves : Instr → Condition → Bool
 leaves instruction (conditions.Registers op left right) =
     not (writes instruction left.number) && not (writes instruction right.number)
 leaves instruction (conditions.Sign op source) = not (writes instruction source.number)
 
--- The instruction may be executed after a branch or jump instead of before it: it writes no register that this reads, and it neither reads
--- nor writes one that this writes. A call writes register 31, and a return reads it.
+-- Returns true if an instruction may be executed after a branch or jump instead of before it. The instruction must not write a register
+-- that the branch or jump reads, nor read or write one that it writes. A call writes register 31, and a return reads it.
 abbrev pub moves : Instr → Line → Bool
 moves instruction (lines.Ordinary other) = false
 moves instruction (lines.Branch condition label) = is_movable instruction && leaves instruction condition
@@ -37,7 +38,7 @@ moves instruction (lines.Call label) =
     is_movable instruction && (not (reads instruction RETURN_ADDRESS) && not (writes instruction RETURN_ADDRESS))
 moves instruction lines.Return = is_movable instruction && not (writes instruction RETURN_ADDRESS)
 
--- The label that a line jumps to, if it has one.
+-- Returns the label to which a line jumps, if it has one.
 abbrev pub label_of : Line → Option ℕ
 label_of (lines.Ordinary instruction) = None
 label_of (lines.Branch condition label) = Some label
@@ -49,11 +50,12 @@ abbrev pub is_label : (number : ℕ) → Option ℕ → Bool
 is_label number (Some label) = label == number
 is_label number None = false
 
--- Some line jumps to the line of this number.
+-- Returns true if some line jumps to the line with this number.
 abbrev pub is_named : List Line → (number : ℕ) → Bool
 is_named code number = list_any (λ line. is_label number (label_of line)) code
 
--- A line that is not a jump or a return may be followed by the next one: a call returns there.
+-- Returns true if control may continue at the next line. After a jump or a return it never does; a
+-- call returns to the next line.
 abbrev pub goes_on : Option Line → Bool
 goes_on (Some (lines.Jump label)) = false
 goes_on (Some lines.Return) = false
@@ -63,47 +65,50 @@ abbrev pub is_call : Option Line → Bool
 is_call (Some (lines.Call label)) = true
 is_call line = false
 
--- The next line is a call whose delay slot may be filled by this line: no label stands at the call.
+-- Returns true if the next line is a call whose delay slot this line may fill, since no line jumps
+-- to the call.
 abbrev pub fills_after : List Line → (number : ℕ) → Bool
 fills_after code number = not (is_named code (suc number)) && is_call (slice_get code (suc number))
 
--- A line may be omitted if it is unreachable: it is no call, since a return may go after it, and no instruction that may fill the slot of a
--- call after it.
+-- Returns true if an unreachable line may be omitted: it is no call, since a return may go to the line after it, and no instruction that
+-- may fill the delay slot of a call after it.
 abbrev pub may_lack : (fills : Bool) → Option Line → Bool
 may_lack fills (Some (lines.Ordinary instruction)) = not fills
 may_lack fills (Some (lines.Call label)) = false
 may_lack fills (Some line) = true
 may_lack fills None = false
 
--- The line of this number is unreachable: no label stands at it, and the line before is unreachable or never continues with it.
+-- Returns true if the line with this number is unreachable: no line jumps to it, and the line before it is unreachable or never
+-- continues with it.
 abbrev pub is_unreached_after : (unreached : Bool) → List Line → (number : ℕ) → Bool
 is_unreached_after unreached code zero = false
 is_unreached_after unreached code (suc before) =
     (unreached || not (goes_on (slice_get code before)))
     && (not (is_named code (suc before)) && may_lack (fills_after code (suc before)) (slice_get code (suc before)))
 
--- The line is unreachable, as computed line by line.
+-- Returns true if a line is unreachable, as computed line by line.
 abbrev pub is_unreached : List Line → (number : ℕ) → Bool
 is_unreached code zero = false
 is_unreached code (suc before) = is_unreached_after (is_unreached code before) code (suc before)
 
--- The previous line is unreachable.
+-- Returns true if the line before this one is unreachable.
 abbrev pub is_unreached_before : List Line → (number : ℕ) → Bool
 is_unreached_before code zero = false
 is_unreached_before code (suc before) = is_unreached code before
 
--- The instruction of a line that fills the delay slot of the next line.
+-- Returns the instruction of a line if it fills the delay slot of the next line.
 abbrev pub moved : Option Line → Option Line → Option Instr
 moved (Some (lines.Ordinary instruction)) (Some line) = if moves instruction line then Some instruction else None
 moved before line = None
 
--- The instruction that fills the delay slot of the line of this number.
+-- Returns the instruction that fills the delay slot of the line with this number, if one does.
 abbrev pub filling : List Line → (number : ℕ) → Option Instr
 filling code zero = None
 filling code (suc before) =
     if is_named code (suc before) then None else moved (slice_get code before) (slice_get code (suc before))
 
--- A table that says for each of the first `count` lines whether some line jumps to it.
+-- `AreNamed` says that a table is true for those of the first `count` lines to which some line
+-- jumps.
 pub record AreNamed (code : List Line) (count : ℕ) (named : List Bool) : Type 0 where
   pub long : length named ≡ count
   pub each : (number : ℕ) → number < count → get_or named number false ≡ is_named code number

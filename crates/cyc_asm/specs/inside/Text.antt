@@ -1,6 +1,6 @@
--- The relation between words of text and labelled code at given addresses. The instruction of each reachable line occurs once, each label
+-- The relation between words of text and labelled code at these addresses. The instruction of each reachable line occurs once, each label
 -- is its line's address, and each delay slot contains the instruction that fills it or is empty. Branches, jumps and delay slots are those
--- of the MIPS32 architecture, volume II; the form of far branches is this project's own choice.
+-- of the MIPS32 architecture; the form of far branches is this project's own choice.
 use Rattle.std.specs.Prelude.{◌≡◌, ℕ, zero, suc, ◌+◌, ◌-◌, ◌*◌, ◌/◌, ◌≤◌, Bool, true, false, List, [], ◌∷◌, length, map, Option, Some, None, slice_get}
 use Rattle.std.specs.List.{range_with_len, flat_map}
 use Rattle.cyc_isa.specs.Encoding.{word_of, IsEncodable}
@@ -26,16 +26,16 @@ use Rattle.cyc_asm.specs.inside.Layout.{is_near}
 use Rattle.cyc_asm.specs.inside.Slots.{is_unreached, filling}
 use Rattle.cyc_asm.specs.inside.Order.{in_order}
 
--- A text that consists of these words.
+-- Returns the text range that contains exactly these words.
 abbrev pub text_of : List ℕ → List (Option ℕ)
 text_of words = map (λ (word : ℕ). Some word) words
 
--- An instruction is at an address of the text.
+-- `IsAt` says that an instruction is at an address of the text.
 pub record IsAt (words : List ℕ) (address : ℕ) (i : Instr) : Type 0 where
   pub encodable : IsEncodable i
   pub word : text_at (text_of words) address ≡ Some (word_of i)
 
--- The instruction without effect, whose word is 0; it fills each delay slot that no other instruction fills.
+-- The instruction without effect, whose word is 0, fills each delay slot that no other instruction fills.
 abbrev pub nothing : Instr
 nothing = Shift Left (register_of 0) (register_of 0) (shift_amount_of 0)
 
@@ -43,12 +43,12 @@ nothing = Shift Left (register_of 0) (register_of 0) (shift_amount_of 0)
 abbrev pub return_register : Register
 return_register = register_of RETURN_ADDRESS
 
--- The branch instruction for a condition.
+-- Returns the branch instruction for a condition.
 abbrev pub branch_of : Condition → (offset : ℕ) → Instr
 branch_of (conditions.Registers op left right) offset = Branch op left right offset
 branch_of (conditions.Sign op source) offset = BranchZero op source offset
 
--- The negation of a condition.
+-- Returns the negation of a condition.
 abbrev pub inverse_of : Condition → Condition
 inverse_of (conditions.Registers Equal left right) = conditions.Registers NotEqual left right
 inverse_of (conditions.Registers NotEqual left right) = conditions.Registers Equal left right
@@ -57,21 +57,24 @@ inverse_of (conditions.Sign signs.Greater source) = conditions.Sign signs.LessOr
 inverse_of (conditions.Sign signs.Less source) = conditions.Sign signs.GreaterOrEqual source
 inverse_of (conditions.Sign signs.GreaterOrEqual source) = conditions.Sign signs.Less source
 
--- A branch from one address to another, with this instruction in its delay slot.
+-- `IsBranchAt` says that the text has a branch from one address to another, with this instruction
+-- in its delay slot.
 pub record IsBranchAt (words : List ℕ) (condition : Condition) (slotted : Instr) (from to : ℕ) : Type 0 where
   pub offset : ℕ
   pub branch : IsAt words from (branch_of condition offset)
   pub target : branch_target from offset ≡ to
   pub slot : IsAt words (from + 4) slotted
 
--- A jump from one address to another, with this instruction in its delay slot.
+-- `IsJumpAt` says that the text has a jump from one address to another, with this instruction in
+-- its delay slot.
 pub record IsJumpAt (words : List ℕ) (op : JumpOp) (slotted : Instr) (from to : ℕ) : Type 0 where
   pub index : JumpIndex
   pub jump : IsAt words from (Jump op index)
   pub target : jump_target from index.index ≡ to
   pub slot : IsAt words (from + 4) slotted
 
--- A branch or jump is in the text from this address up to the next line's. A far branch is the inverse branch over a jump.
+-- `StandsBranch` says that a branch is in the text from this address up to the next line's. A far branch is the inverse
+-- branch over a jump.
 abbrev pub StandsBranch : Bool → List ℕ → (ℕ → ℕ) → (number : ℕ) → Condition → (label : ℕ) → (slotted : Instr) → (from : ℕ) → Type 0
 StandsBranch true words addresses number condition label slotted from =
     IsBranchAt words condition slotted from (addresses label) × (addresses (suc number) ≡ from + 8)
@@ -92,15 +95,16 @@ StandsFrom code words addresses number lines.Return slotted from =
     IsAt words from (JumpRegister return_register) × IsAt words (from + 4) slotted
     × (addresses (suc number) ≡ from + 8)
 
--- With an empty slot, a branch or jump is at its line's address. With a filled slot it is at the previous line's address, so that a jump to
--- that line executes it first. If the delay slot is not filled, it is at its own line's address.
+-- `StandsFilled` says where a branch or jump is in the text. If its delay slot is empty, it is at the address of its own line. If the slot
+-- is filled, it is at the previous line's address, so that a jump to the previous line executes it first.
 abbrev pub StandsFilled : Option Instr → Labelled → List ℕ → (ℕ → ℕ) → (number : ℕ) → Line → Type 0
 StandsFilled None code words addresses number line =
     StandsFrom code words addresses number line nothing (addresses number)
 StandsFilled (Some slotted) code words addresses number line =
     (from : ℕ) × (addresses number ≡ from + 4) × StandsFrom code words addresses number line slotted from
 
--- An ordinary instruction is at its line's address, or in the delay slot of the next line.
+-- `StandsOrdinary` says that an ordinary instruction is at its line's address, or in the delay slot
+-- of the next line.
 abbrev pub StandsOrdinary : Option Instr → List ℕ → (ℕ → ℕ) → (number : ℕ) → Instr → Type 0
 StandsOrdinary None words addresses number instruction =
     IsAt words (addresses number) instruction × (addresses (suc number) ≡ addresses number + 4)
@@ -111,23 +115,24 @@ Stands code words addresses number (lines.Ordinary instruction) =
     StandsOrdinary (filling code.lines (suc number)) words addresses number instruction
 Stands code words addresses number line = StandsFilled (filling code.lines number) code words addresses number line
 
--- An unreachable line contributes no word to the text.
+-- `StandsUnless` says that an unreachable line contributes no word to the text, and that a
+-- reachable one is in the text.
 abbrev pub StandsUnless : (unreached : Bool) → Labelled → List ℕ → (ℕ → ℕ) → (number : ℕ) → Line → Type 0
 StandsUnless true code words addresses number line = addresses (suc number) ≡ addresses number
 StandsUnless false code words addresses number line = Stands code words addresses number line
 
--- The addresses of `count` words from `from` on.
+-- Returns the addresses of `count` words from `from` on.
 abbrev pub stretch : (from count : ℕ) → List ℕ
 stretch from zero = []
 stretch from (suc count) = from ∷ stretch (from + 4) count
 
--- The addresses of a line's own words: from its address up to the next line's. If a slot is filled, the previous line owns the word of the
--- branch or jump, and this line owns the slot.
+-- Returns the addresses of a line's own words: from its address up to the next line's. If the line's delay slot is filled, the previous
+-- line owns the word of the branch or jump, and this line owns the slot.
 abbrev pub own : (ℕ → ℕ) → ℕ → List ℕ
 own addresses number = stretch (addresses number) ((addresses (suc number) - addresses number) / 4)
 
--- The words of the text represent the labelled code with its lines in the given order. The text contains nothing else: each word belongs to
--- exactly one line.
+-- `IsTextInOrder` says that the words of the text represent the labelled code with its lines in the order of `order`. The text contains
+-- nothing else: each word belongs to exactly one line.
 pub record IsTextInOrder (code order : Labelled) (addresses : ℕ → ℕ) (words : List ℕ) : Type 0 where
   pub places : AreAddresses code addresses
   pub first : addresses 0 ≡ text_base
@@ -137,6 +142,7 @@ pub record IsTextInOrder (code order : Labelled) (addresses : ℕ → ℕ) (word
   pub few : length words ≤ all_words code.lines
   pub inside : text_base + 4 * length words ≤ text_end
 
--- The words represent the code: its lines are in their order, except for instructions moved down to fill a delay slot.
+-- `IsTextOf` says that the words represent the code: its lines are in their order, except for instructions moved down
+-- to fill a delay slot.
 abbrev pub IsTextOf : Labelled → (ℕ → ℕ) → List ℕ → Type 0
 IsTextOf code addresses words = IsTextInOrder code (in_order code) addresses words

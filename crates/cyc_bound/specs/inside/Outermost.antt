@@ -27,13 +27,14 @@ IsOwnOperand (Some v) = IsOwn v.value
 abbrev pub AreOwn : List Operand → Type 0
 AreOwn operands = AllByRecursion (λ (v : Operand). IsOwn v.value) operands
 
--- no operand that is passed on or stored is a handle of the heap or a key
+-- says that no operand stored in a stack entry is a handle of the heap or a key
 abbrev pub waiting_own : Awaiting → Type 0
 waiting_own (Pass callee before later) = AreOwn before
 waiting_own (MakeFields owner before fields) = AreOwn before
 waiting_own waiting = Unit {0}
 
--- `opens` states whether a lexical region may be open
+-- says that a stack entry stores no handle of the heap and no key; `opens` states if a lexical
+-- region may be open
 abbrev pub entry_own : (opens : Bool) → Entry → Type 0
 entry_own opens (Needs waiting) = waiting_own waiting
 entry_own opens (CloseLexical region) = opens ≡ true
@@ -59,13 +60,13 @@ IsOwnCell c = IsOwnContent c.content
 abbrev pub AreOwnObjects : List Object → Type 0
 AreOwnObjects objects = AllByRecursion (λ (x : Object). AllByRecursion IsOwnCell x.cells) objects
 
--- true for a region that is neither the heap nor dynamic
+-- says that a region is neither the heap nor dynamic
 abbrev pub IsLeft : Sort → Type 0
 IsLeft Heap = ⊥
 IsLeft Dynamic = ⊥
 IsLeft sort = Unit {0}
 
--- the first region is the heap; no other region is the heap, and none is dynamic
+-- says that the first region is the heap, and that no other region is the heap or dynamic
 abbrev pub AreSorted : List Region → Type 0
 AreSorted [] = ⊥
 AreSorted (heap ∷ regions) = (heap.sort ≡ Heap) × AllByRecursion (λ (r : Region). IsLeft r.sort) regions

@@ -1,4 +1,4 @@
--- The callees of one part of a list that is visited part by part.
+-- The callees of the parts of lists that are visited part by part.
 use Rattle.std.specs.Prelude.{ℕ, List, [], option_map}
 use Rattle.cyc_types.specs.declared.typed.Operation.{Operation}
 use Rattle.cyc_types.specs.declared.typed.Operation.TheVariants as operation

@@ -1,5 +1,5 @@
--- The cost of one item of a list that is visited item by item for regions. The costs of functions found for regions open simultaneously and
--- for the pages of regions.
+-- The costs of the items of lists that are visited item by item for regions. The file also defines the costs for regions open at the same
+-- time, and the costs for the pages of regions.
 use Rattle.std.specs.Prelude.{◌≡◌, ◌<◌, ◌^◌, ℕ, Bool, true, false, List, Option, Some, None}
 use Rattle.cyc_types.specs.TypedTrees.{Item, Execute, DeclareRegion, Program}
 use Rattle.cyc_bound.specs.declared.costs.Measure.{Measure}
@@ -20,21 +20,22 @@ abbrev pub item_at_once : Measure → (costs : List ℕ) → Item → ℕ
 item_at_once m costs (Execute s) = statement_at_once m costs s
 item_at_once m costs j = 0
 
--- the cost of the costliest outermost region; or the costs still grow
+-- says that the result is the cost of the costliest outermost region, or that the costs of
+-- functions still grow
 abbrev pub IsAtOnceFound : Program → Measure → Option ℕ → Type 0
 IsAtOnceFound program m (Some cost) = IsAtOnce program m cost
 IsAtOnceFound program m None = StillGrow program m
 
--- the measures that determine the pages of regions
+-- says that a measure is one of those that determine the pages of regions
 abbrev pub IsOfRegions : Measure → Type 0
 IsOfRegions (measures.Uniques class) = ⊥
 IsOfRegions m = Unit {0}
 
--- `AreCounted`, restricted to the measures of regions
+-- says that `AreCounted` holds for the measures of regions
 abbrev pub AreRegionsCounted : Program → (gives_back : Bool) → (cost : Measure → ℕ) → Type 0
 AreRegionsCounted program gives_back cost = (m : Measure) → IsForPages gives_back m → IsOfRegions m → IsCost program gives_back m (cost m) × (cost m < too_many)
 
--- the pages of regions, or the reason why there is no bound
+-- says that the result is the number of pages of regions, or the reason why there is no bound
 abbrev pub IsRegionAnswer : Program → (gives_back : Bool) → PageBound → Type 0
 IsRegionAnswer program gives_back (bounds.Pages pages) = (cost : Measure → ℕ) × AreRegionsCounted program gives_back cost × (pages ≡ most_region_pages gives_back cost) × (pages < 2 ^ 53)
 IsRegionAnswer program gives_back bounds.TooMany = (m : Measure) × IsForPages gives_back m × IsCost program gives_back m too_many

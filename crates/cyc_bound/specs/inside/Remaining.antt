@@ -1,6 +1,6 @@
--- The remaining cost of a run in each of its states: the cost of the focus, and that of each stack entry down to `main`. No step raises it,
--- and a step that allocates lowers it by the cost of the allocation. Each entry costs at least the step that pops it. The definition of
--- remaining costs is this project's own choice.
+-- The remaining cost of a run in each of its states is the cost of the focus plus the costs of all stack entries down to `main`. No step
+-- raises the remaining cost, and a step that allocates lowers it by the cost of the allocation. Each stack entry costs at least the step
+-- that pops it. The definition of remaining costs is this project's own choice.
 use Rattle.std.specs.Prelude.{ℕ, zero, suc, ◌+◌, ◌*◌, ◌-◌, nat_le, if◌then◌else◌, max, ◌≤◌, List, [], ◌∷◌, length, Option, None, Some}
 use Rattle.cyc_types.specs.declared.typed.Kind.{Kind}
 use Rattle.cyc_types.specs.declared.typed.Kind.TheVariants as kinds
@@ -17,7 +17,8 @@ use Rattle.cyc_bound.specs.Costs.{place_cost, initial_cost, fields_cost, convert
 
 -- ---- what is known of an awaited value
 
--- the facts known about an awaited value: there is none; nothing is known; its kind; or, for an int, possibly its value
+-- the facts known about the value that a stack entry awaits: no value; an unknown value; a value of a known kind; for
+-- an int, possibly a known value
 pub data Delivery : Type 0 where
   Nothing : Delivery
   Anything : Delivery
@@ -43,25 +44,26 @@ focus_delivers (Returning value) = Nothing
 focus_delivers (Throwing tag value) = Nothing
 focus_delivers focus = Anything
 
--- the facts about the value that the entry after this one receives
+-- the facts about the value that a stack entry passes to the next entry
 abbrev pub entry_delivers : Entry → Delivery
 entry_delivers (Needs (ConvertTo from to target)) = OfKind to None
 entry_delivers entry = Anything
 
 -- ---- entries
 
--- the site of an object of this owner; region 0 is the heap
+-- the allocation site of an object, from its owner; region 0 is the heap
 abbrev pub site_of_owner : Owner → Site
 site_of_owner (InRegion zero) = sites.Heap
 site_of_owner (InRegion (suc region)) = sites.Region
 site_of_owner (Unique live) = sites.Unique
 
--- the number of bytes of fields with these values, newest first
+-- the number of bytes of struct fields, from their values listed newest first
 abbrev pub bytes_before : List Operand → ℕ
 bytes_before [] = 0
 bytes_before (v ∷ before) = following v.kind (bytes_before before)
 
--- The cost of a field that is awaited after its conversion; otherwise 0.
+-- The cost of a struct field whose value is awaited. If no value comes, the cost is one step. If
+-- the value's kind is unknown, the cost is the greatest counted value.
 abbrev pub field_awaited : Measure → (fields : Kind → ℕ) → Delivery → ℕ
 field_awaited m fields Nothing = step_cost m
 field_awaited m fields Anything = too_many
@@ -72,7 +74,7 @@ length_awaited m array Nothing = step_cost m
 length_awaited m array Anything = array None
 length_awaited m array (OfKind kind n) = array n
 
--- the cost of the elements from this index on
+-- the cost of the array elements from index `index` on
 abbrev pub elements_left : Measure → (element count index : ℕ) → ℕ
 elements_left m element count index = if nat_le index count then (count - index) * (step_cost m + element) + 2 * step_cost m else too_many
 
@@ -147,8 +149,8 @@ sort_spent m Lexical = opening_cost m
 sort_spent m Dynamic = opening_cost m + lasting_cost m
 sort_spent m sort = 0
 
--- The spent cost of all regions opened so far and of their blocks, closed ones included. The first region opened is at this site, and the
--- other regions belong to handles.
+-- The resources used by all regions opened so far and by their blocks, including closed regions. The first region has the given
+-- allocation site, and the blocks of all other regions are allocated by handles.
 abbrev pub regions_spent : Measure → Site → List Region → ℕ
 regions_spent m site [] = 0
 regions_spent m site (r ∷ regions) = sort_spent m r.sort + (blocks_spent m site r.blocks + regions_spent m sites.Region regions)
@@ -157,7 +159,7 @@ abbrev pub object_spent : Measure → Owner → (size : ℕ) → ℕ
 object_spent m (InRegion region) size = 0
 object_spent m (Unique live) size = block_cost m sites.Unique size
 
--- the spent cost of all unique objects allocated so far, freed ones included
+-- the resources used by all unique objects allocated so far, including freed ones
 abbrev pub objects_spent : Measure → List Object → ℕ
 objects_spent m [] = 0
 objects_spent m (x ∷ objects) = object_spent m x.owner (block_size x.cells) + objects_spent m objects
@@ -167,13 +169,13 @@ spent m w = regions_spent m sites.Heap w.regions + objects_spent m w.objects
 
 -- ---- states
 
--- the counted spent cost plus the remaining cost is at most this number
+-- says that the used resources, as counted by `counted`, plus the remaining cost are at most `most`
 abbrev pub TakesAtMost : (counted : World → ℕ) → Measure → (costs : List ℕ) → (most : ℕ) → State → Type 0
 TakesAtMost counted m costs most (Running focus stack e w) = focus_cost m costs focus + (stack_cost m costs (focus_delivers focus) stack + counted w) ≤ most
 TakesAtMost counted m costs most (Ended ending output input) = Unit {0}
 TakesAtMost counted m costs most (Dead output input) = Unit {0}
 TakesAtMost counted m costs most (Wrong output input) = Unit {0}
 
--- the bound for the count of all spent costs
+-- says that the used resources plus the remaining cost are at most `most`
 abbrev pub CostsAtMost : Measure → (costs : List ℕ) → (most : ℕ) → State → Type 0
 CostsAtMost m costs most s = TakesAtMost (spent m) m costs most s

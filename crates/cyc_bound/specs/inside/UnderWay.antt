@@ -1,5 +1,5 @@
--- An invariant on the active calls in every state of a run. The functions of the active calls form a chain from `main`. The remaining part
--- of each active call is part of the body of its function. The invariant on active calls is this project's own choice.
+-- An invariant about the active calls in every state of a run. The functions of the active calls form a chain from `main`. The remaining
+-- part of each active call is a part of its function's body. The invariant about active calls is this project's own choice.
 use Rattle.std.specs.Prelude.{◌≡◌, ℕ, List, [], ◌∷◌, ◌++◌}
 use Rattle.std.specs.List.{AllByRecursion}
 use Rattle.cyc_types.specs.TypedTrees.{Program}
@@ -53,11 +53,12 @@ focus_callees focus = []
 
 -- ---- the functions of the active calls
 
--- this function contains calls of all of these
+-- says that the body of a function contains calls of all functions in the list
 abbrev pub AreOf : Program → (caller : ℕ) → List ℕ → Type 0
 AreOf program caller callees = AllByRecursion (λ (callee : ℕ). Calls program caller callee) callees
 
--- the stack entries of a call of the function, followed by those of the function's callers up to `main`
+-- says that the stack contains the entries of a call of the function, followed by those of the
+-- function's callers up to `main`
 abbrev pub Waits : Program → (function : ℕ) → List Entry → Type 0
 Waits program function [] = function ≡ program.main
 Waits program function (Caller outer ∷ stack) = (caller : ℕ) × Calls program caller function × Waits program caller stack
@@ -65,7 +66,7 @@ Waits program function (Main ∷ []) = function ≡ program.main
 Waits program function (Main ∷ entry ∷ stack) = ⊥
 Waits program function (entry ∷ stack) = AreOf program function (entry_callees entry) × Waits program function stack
 
--- the newest call is of this function
+-- says that the newest active call of a state is a call of the function
 abbrev pub IsIn : Program → (function : ℕ) → State → Type 0
 IsIn program function (Running focus stack e w) = AreOf program function (focus_callees focus) × Waits program function stack
 IsIn program function (Ended ending output input) = Unit {0}

@@ -1,15 +1,16 @@
--- The state and the result of the walk over calls.
+-- The state and the result of the search over calls.
 use Rattle.std.specs.Prelude.{◌≡◌, ℕ, ◌<◌, ◌≤◌, List, get_or}
 use Rattle.cyc_types.specs.TypedTrees.{Program}
 use Rattle.cyc_bound.specs.declared.bound.CallBound.{CallBound}
 use Rattle.cyc_bound.specs.declared.bound.CallBound.TheVariants as bounds
 use Rattle.cyc_bound.specs.Bound.{most_calls, IsHeight}
 
--- each entry of the table is the function's height, at most the greatest reported bound; or 0
+-- says that each entry of the table is 0 or the height of its function, which is at most the
+-- greatest reported bound
 abbrev pub AreHeights : Program → List ℕ → Type 0
 AreHeights program heights = (f : ℕ) → 0 < get_or heights f 0 → IsHeight program f (get_or heights f 0) × (get_or heights f 0 ≤ most_calls)
 
--- if a height was found, the path is unchanged and the table is correct
+-- says that, if a height was found, the path is unchanged and the table of heights is correct
 abbrev pub GoesOn : Program → (before after heights : List ℕ) → CallBound → Type 0
 GoesOn program before after heights (bounds.Calls count) = (after ≡ before) × AreHeights program heights
 GoesOn program before after heights bound = Unit {0}

@@ -1,9 +1,11 @@
--- A scope inside another: its declarations come before the outer ones, so leaving it removes them.
+-- A scope is inside another one if its declarations come before the outer ones, so that leaving it
+-- removes them.
 use Rattle.std.specs.Prelude.{◌≡◌, List, ◌++◌}
 use Rattle.cyc_types.specs.declared.scope.Scope.{Scope as Opened}
 use Rattle.cyc_types.specs.typing.Scopes.{Scope, RegionName, LocalVariable}
 
--- a scope with these declarations in front, and otherwise equal to another scope
+-- Returns a scope with these declarations in front of those of the scope `g`, which otherwise
+-- equals the scope `n`.
 abbrev pub extended : Scope → List LocalVariable → List RegionName → List Opened → Scope → Scope
 extended g ls ns os n = record g {
   names = ns ++ g.names;

@@ -1,4 +1,5 @@
--- Faults and warnings as JSON. The members of an object are this project's own choice; the notation of strings is RFC 8259, section 7.
+-- This file defines faults and warnings as JSON. The members of an object are this project's own choice; the notation of strings is
+-- RFC 8259, section 7.
 use Rattle.std.specs.Prelude.{ℕ, ◌==◌, ◌/◌, ◌%◌, nat_lt, Bool, true, false, List, [], ◌∷◌, ◌++◌, Option, Some, None, option_map, codes, if◌then◌else◌}
 use Rattle.std.specs.List.{flat_map}
 use Rattle.std.specs.Fmt.{decimal, digit_glyph}
@@ -9,11 +10,12 @@ use Rattle.cyc_cli.specs.declared.json.Edit.{Edit}
 use Rattle.cyc_cli.specs.declared.json.Related.{Related}
 use Rattle.cyc_cli.specs.declared.json.Entry.{Entry}
 
--- A control character, by its number.
+-- A control character in a JSON string, written by its number.
 abbrev pub control_char : ℕ → List ℕ
 control_char c = 92 ∷ codes "u00" ++ (digit_glyph false (c / 16) ∷ digit_glyph false (c % 16) ∷ [])
 
--- A character of a string: quotes and backslashes after a backslash, control characters by their numbers, any other unchanged.
+-- A character of a JSON string: quotes and backslashes follow a backslash, control characters are written by their numbers,
+-- any other character is unchanged.
 abbrev pub string_char : ℕ → List ℕ
 string_char c = if c == 34 then 92 ∷ 34 ∷ []
     else (if c == 92 then 92 ∷ 92 ∷ []
@@ -30,7 +32,7 @@ quoted text = 34 ∷ string_text text ++ (34 ∷ [])
 abbrev pub null : List ℕ
 null = codes "null"
 
--- The members that give the beginning and end of a range.
+-- The JSON members that state the beginning and end of a range.
 abbrev pub range_members : Range → List ℕ
 range_members r = codes "\"line\":" ++ (decimal r.line ++ (codes ",\"column\":" ++ (decimal r.column
     ++ (codes ",\"endLine\":" ++ (decimal r.end_line ++ (codes ",\"endColumn\":" ++ decimal r.end_column))))))
@@ -39,7 +41,7 @@ range_members r = codes "\"line\":" ++ (decimal r.line ++ (codes ",\"column\":" 
 abbrev pub edit_text : Edit → List ℕ
 edit_text e = codes "{" ++ (range_members e.range ++ (codes ",\"text\":" ++ (quoted e.text.now ++ codes "}")))
 
--- The JSON object for a related place and the text about it.
+-- The JSON object for a related source position and the text about it.
 abbrev pub related_text : Related → List ℕ
 related_text r = codes "{" ++ (range_members r.range ++ (codes ",\"message\":" ++ (quoted r.message.now ++ codes "}")))
 
@@ -51,7 +53,7 @@ abbrev pub edit_or_null : Option Edit → List ℕ
 edit_or_null (Some edit) = edit_text edit
 edit_or_null None = null
 
--- The JSON array with the optional related place.
+-- The JSON array with the related source position, or the empty array.
 abbrev pub list_text : Option Related → List ℕ
 list_text (Some related) = codes "[" ++ (related_text related ++ codes "]")
 list_text None = codes "[]"
@@ -64,7 +66,7 @@ abbrev pub truth_text : Bool → List ℕ
 truth_text true = codes "true"
 truth_text false = codes "false"
 
--- A fault or a warning: an object on one line.
+-- A fault or a warning as a JSON object on one line.
 abbrev pub entry_text : Entry → List ℕ
 entry_text e = codes "{\"kind\":" ++ (quoted e.kind.now
     ++ (codes ",\"rule\":" ++ (quoted e.rule.now

@@ -1,20 +1,22 @@
--- The limits that a command line gives, and their effect. The form of limits on a command line is this project's own choice.
+-- This file defines the limits that a command line gives, and their effect. The form of limits on a command line is this
+-- project's own choice.
 use Rattle.std.specs.Prelude.{ℕ, ◌≤◌, ◌&&◌, nat_le, min, max, if◌then◌else◌, Option, Some, None, IfSome, unwrap_or}
 use Rattle.cyc_machine_model.specs.Bounds.{Bounds}
 use Rattle.cyc_machine_model.specs.declared.constants.TheConstants.{MIN_PAGES, MAX_PAGES, MIN_CALLS, MAX_CALLS}
 use Rattle.cyc_cli.specs.declared.limits.TheConstants.{DEFAULT_PAGES, DEFAULT_CALLS}
 
--- The limits given on a command line, each optional.
+-- The limits that a command line gives, each of which is optional.
 pub record Given : Type 0 where
   pub pages : Option ℕ
   pub calls : Option ℕ
 
--- Each given limit is in its range.
+-- Says that each limit that is given is in its range.
 pub record AreInRange (pages calls : Option ℕ) : Type 0 where
   pub pages_fit : IfSome pages (λ n. (MIN_PAGES ≤ n) × (n ≤ MAX_PAGES))
   pub calls_fit : IfSome calls (λ n. (MIN_CALLS ≤ n) × (n ≤ MAX_CALLS))
 
--- The limits in an image that is compiled with these: none if neither is given, else both, with the default for a missing one.
+-- The limits that are stored in a compiled image: none if no limit is given, otherwise both, with the default for a limit that
+-- is not given.
 abbrev pub carried_by : (pages calls : Option ℕ) → Option (ℕ × ℕ)
 carried_by None None = None
 carried_by None (Some calls) = Some (DEFAULT_PAGES, calls)
@@ -28,16 +30,17 @@ limits_for pages calls =
     then Some (record { pages = Some (max MIN_PAGES pages); calls = Some (max MIN_CALLS calls) })
     else None
 
--- The limits of a run of an image with these limits, or with none: each is the given one, else the image's, else the default.
+-- The limits of a run of an image that may contain limits: each limit is the given one, or else the image's limit, or else
+-- the default.
 abbrev pub limits_by : Given → (note : Option (ℕ × ℕ)) → Bounds
 limits_by given None = record { pages = unwrap_or given.pages DEFAULT_PAGES; calls = unwrap_or given.calls DEFAULT_CALLS }
 limits_by given (Some limits) = record { pages = unwrap_or given.pages limits.0; calls = unwrap_or given.calls limits.1 }
 
--- A number, limited by an optional cap.
+-- A number, or the cap if a cap is given and the number is above it.
 abbrev pub capped : Option ℕ → ℕ → ℕ
 capped None n = n
 capped (Some most) n = min n most
 
--- Limits, each limited by its cap.
+-- Limits after each of them is bounded by its cap.
 abbrev pub capped_by : Given → Bounds → Bounds
 capped_by caps limits = record { pages = capped caps.pages limits.pages; calls = capped caps.calls limits.calls }

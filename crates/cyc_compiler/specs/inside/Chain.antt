@@ -1,5 +1,5 @@
--- The relation between a source program and each plain program on the way to its image: the lowering makes one, and each later pass makes
--- another from it. The relation between the programs is this project's own choice.
+-- This file relates a source program to each plain program on the way to its image. The lowering makes a plain program, and each later
+-- pass makes another plain program from it. The relation between the programs is this project's own choice.
 use Rattle.std.specs.Prelude.{◌≡◌, ◌⊎◌, ℕ, ◌*◌, ◌≤◌, ◌<◌, List, [], ◌∷◌, length, sum_by}
 use Rattle.std.specs.List.{AllByRecursion}
 use Rattle.cyc_types.specs.TypedTrees.{Function, Program}
@@ -14,12 +14,13 @@ use Rattle.cyc_lower_proof.specs.inside.Slots.{global_types}
 use Rattle.cyc_lower_proof.specs.inside.Lowering.{span_of_place}
 use Rattle.cyc_lower_proof.specs.inside.Lowered.{FollowsSource}
 
--- The plain function for a source function: it has the same name, and its frame is as large, or neither frame is too large.
+-- The plain function for a source function: it has the same name, and its frame has the same size, or neither frame is too
+-- large.
 pub record IsFunctionOf (h : Function) (r : Routine) : Type 0 where
   pub name : r.name ≡ span_of_place h.place
   pub frame : (r.frame_count ≡ frame_count h) ⊎ ((frame_count h ≤ max_frame_words) × (r.frame_count ≤ max_frame_words))
 
--- Corresponding functions, in order.
+-- Says that the functions of two programs correspond, in order.
 abbrev pub AreFunctionsOf : List Function → List Routine → Type 0
 AreFunctionsOf [] [] = Unit {0}
 AreFunctionsOf (h ∷ hs) (r ∷ rs) = IsFunctionOf h r × AreFunctionsOf hs rs

@@ -1,4 +1,4 @@
--- The result of the code for the declarations of a program.
+-- The result of the code for the declarations of a program, as a rule's result.
 use Rattle.std.specs.Prelude.{ℕ, List, [], ◌∷◌, Ok}
 use Rattle.cyc_words.specs.declared.fault.Code.TheVariants as codes
 use Rattle.cyc_syntax.specs.Trees.{Declaration}
@@ -6,7 +6,7 @@ use Rattle.cyc_types.specs.Rules.{Checked, and_then, demand, Rule, demands, run}
 use Rattle.cyc_types.specs.typing.DeclarationRules.{rule_declarations, declares}
 use Rattle.cyc_types.specs.typing.Programs.{Program, known_of, before_all, program_known, start}
 
--- the rule that `main` is declared
+-- the rule that a program declares `main`
 abbrev pub rule_main : ℕ → List Declaration → Rule (Unit {0})
 rule_main main ds = demands (demand codes.BadMain start (declares main ds) ∷ [])
 

@@ -1,4 +1,4 @@
--- The declarations of a program, one after the other.
+-- The state of the code while it adds the declarations of a program one after the other.
 use Rattle.std.specs.Prelude.{ℕ, suc, List, [], ◌∷◌, ◌++◌, map, Option}
 use Rattle.cyc_syntax.specs.Trees.{Named, Member, WrittenType, Parameters, Constructor, Declaration, StructType, Exceptions, Global, Function}
 use Rattle.cyc_types.specs.declared.region.Region.TheVariants.{Heap}
@@ -11,7 +11,7 @@ use Rattle.cyc_types.specs.typing.DeclarationRules.{Known, parameter_names, fiel
 use Rattle.cyc_types.specs.typing.Programs.{Program, exceptions_before, declared_before}
 use Rattle.cyc_declarations.specs.declared.declared.Declared.{Declared}
 
--- the declarations so far, and the numbers of the next global and the next function
+-- the declarations added so far, and the numbers that the next global and the next function get
 pub record State : Type 0 where
   pub program : Program
   pub globals : ℕ
@@ -20,7 +20,7 @@ pub record State : Type 0 where
 abbrev pub state_of : Declared → State
 state_of d = record { program = d.program; globals = d.globals; functions = d.functions }
 
--- the built-in declarations of a program with these known names
+-- the built-in declarations of a program, from the names known in the program
 abbrev pub program_before : List (List ℕ) → Known → Program
 program_before texts k = record { known = k; fields = []; exceptions = exceptions_before texts; declared = declared_before texts }
 
@@ -48,14 +48,14 @@ with_function r x ps h = record h {
   functions = suc h.functions;
 }
 
--- the state after a declaration
+-- the state after one more declaration has been added
 abbrev pub after_declaration : Declaration → State → State
 after_declaration (StructType s rs ms) h = with_struct rs ms h
 after_declaration (Exceptions cs) h = record h { program = with_exceptions cs h.program }
 after_declaration (Global w x v) h = with_global w x h
 after_declaration (Function r x ps b) h = with_function r x ps h
 
--- the program after all of these declarations
+-- the program after all declarations of a list have been added to a state
 abbrev pub after_declarations : List Declaration → State → Program
 after_declarations ds h = record {
   known = h.program.known;

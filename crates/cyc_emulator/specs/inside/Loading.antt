@@ -1,4 +1,4 @@
--- The results of loading an image over a store.
+-- The results of loading an image into the machine over a store (the heap of regions).
 use Rattle.std.specs.Prelude.{◌≡◌, ◌⊎◌, true, false, Result, Ok, Err}
 use Rattle.cyc_store.specs.State.{StoreState}
 use Rattle.cyc_elf.specs.declared.fault.ElfFault.{ElfFault}
@@ -10,12 +10,13 @@ use Rattle.cyc_machine.specs.declared.fault.LoadFault.TheVariants as load
 use Rattle.cyc_emulator.specs.declared.report.RunFault.{RunFault}
 use Rattle.cyc_emulator.specs.declared.report.RunFault.TheVariants.{Elf, Load, Memory}
 
--- The machine is in the initial state of the image that was read.
+-- `Loads` says that the machine is in the initial state of the image that was read.
 abbrev pub Loads : Result ImageContents ElfFault → Bounds → StoreState → State → Type 0
 Loads (Err fault) limits store machine = ⊥
 Loads (Ok image) limits store machine = (has_outside image ≡ false) × (machine ≡ start_state image limits store)
 
--- The reason why there is no machine: the fault of reading; that it has no place for the image; or lack of memory.
+-- `Declines` says why there is no machine: the fault of reading, an image for which the machine has no place, or
+-- lack of memory.
 abbrev pub Declines : Result ImageContents ElfFault → RunFault → Type 0
 Declines (Err fault) why = (why ≡ Elf fault) ⊎ (why ≡ Memory)
 Declines (Ok image) why = ((has_outside image ≡ true) × (why ≡ Load load.Outside)) ⊎ (why ≡ Memory)

@@ -1,4 +1,5 @@
--- One instruction of a machine between two devices, as the code executes it.
+-- One turn of the engine: the machine executes one instruction between a reader and a writer, as
+-- the code does it.
 use Rattle.std.specs.Prelude.{◌≡◌, ℕ, ◌+◌, [], ◌∷◌, Bool, Option, None, Some, Result, Ok, Err}
 use Rattle.std.specs.Io.KnownBytes.{Keeps, Appends}
 use Rattle.cyc_machine.specs.Between.{Asked, after_byte}
@@ -13,7 +14,8 @@ use Rattle.cyc_emulator.specs.declared.report.Peaks.{Peaks}
 use Rattle.cyc_emulator.specs.declared.report.RunFault.{RunFault}
 use Rattle.cyc_emulator.specs.declared.report.RunFault.TheVariants.{Read, Write, Memory}
 
--- An instruction emitted this event and reached this state: the exchange that follows, and the counts before and after it.
+-- `WentOn` says that an instruction emitted this event and reached this state, and describes the exchange of bytes that
+-- follows, with the counts before and after it.
 abbrev pub WentOn : Event → State → (machine : State) (x x' : Exchanged) (old new : Devices) → Type 0
 WentOn Ran s machine x x' old new = (machine ≡ s) × (x' ≡ x) × Rests old new
 WentOn WantsByte s machine x x' old new =
@@ -23,7 +25,8 @@ WentOn (Puts byte) s machine x x' old new =
 WentOn (Ended end) s machine x x' old new = ⊥
 WentOn NoMemory s machine x x' old new = ⊥
 
--- The result of a turn: nothing, so the run continues; its end; or that a device failed before the instruction was done.
+-- `Turned` describes the result of a turn (one instruction): `None` if the run continues, its end, or the fault of a
+-- device that failed before the instruction was done.
 abbrev pub Turned : (machine machine' : State) (x x' : Exchanged) (old new : Devices) → Result (Option End) RunFault → Type 0
 Turned machine machine' x x' old new (Ok None) =
     (event : Event) × (s : State) × Step machine event s × WentOn event s machine' x x' old new
@@ -32,12 +35,13 @@ Turned machine machine' x x' old new (Err Read) = (s : State) × Step machine Wa
 Turned machine machine' x x' old new (Err Write) = (byte : ℕ) × (s : State) × Step machine (Puts byte) s × Rests old new
 Turned machine machine' x x' old new (Err e) = ⊥
 
--- The result of a turn that may also find that the store lacks memory, before the instruction was done.
+-- `TurnedOver` describes the result of a turn (one instruction) that may also find that the store lacks
+-- memory, before the instruction was done.
 abbrev pub TurnedOver : (grows : Bool) (machine machine' : State) (x x' : Exchanged) (old new : Devices) → Result (Option End) RunFault → Type 0
 TurnedOver grows machine machine' x x' old new (Err Memory) = WantsMemory grows machine × Rests old new
 TurnedOver grows machine machine' x x' old new result = Turned machine machine' x x' old new result
 
--- The peaks after one more instruction, if they are counted.
+-- Returns the peaks of calls and pages after one more instruction, if they are counted.
 abbrev pub counted_at : Option Peaks → State → Option Peaks
 counted_at None s = None
 counted_at (Some most) s = Some (higher most (uses_at s))

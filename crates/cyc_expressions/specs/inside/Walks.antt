@@ -1,4 +1,5 @@
--- The contracts between the functions of the walk: parts of rules.
+-- The contracts between the functions that check expressions; each contract states a part of a
+-- typing rule.
 use Rattle.std.specs.Prelude.{ℕ, Option, Some, None, Ok}
 use Rattle.cyc_words.specs.declared.fault.Code.TheVariants as codes
 use Rattle.cyc_syntax.specs.declared.tree.BinaryOperator.{BinaryOperator}
@@ -18,30 +19,34 @@ use Rattle.cyc_types.specs.typing.Scopes.{Scope}
 use Rattle.cyc_types.specs.typing.Expressions.{as_int, rule_looked, is_looking, operand, peeked_local, Joined, joined, Found, Reached, Placed, by_handle, indexed, selected, rule, rule_chain}
 use Rattle.cyc_expressions.specs.declared.walk.Chain.{Chain}
 
--- the name that the expression is, ignoring brackets
+-- the variable name that an expression consists of, ignoring parentheses; `None` for any other
+-- expression
 abbrev pub name_in : Expression → Option Named
 name_in (Variable x) = Some x
 name_in (Bracketed p e) = name_in e
 name_in e = None
 
--- the rule for an expression that begins at this position and is not a place
+-- the rule for an expression that is used as an lvalue but is not one; the expression begins at
+-- position p
 abbrev pub rule_no_place : Scope → Place → Expression → Rule Found
 rule_no_place g p e = Part (rule g e) (λ a. Refused (fault_at codes.NotAPlace p))
 
--- the rule for the handle of a new object, at this place
+-- the rule for the region handle of a new object; the handle is at position p
 abbrev pub rule_by_handle : Scope → Place → Expression → Rule Placed
 rule_by_handle g p e = Part (rule g e) (λ a. gives (by_handle g p a))
 
--- one postfix after an operand that begins at this place
+-- the result of one postfix after an operand that begins at position p
 abbrev pub one_postfix : Scope → Place → typed.Expression → Postfix → Checked Reached
 one_postfix g p a (postfix.Index i) = and_then (run (rule g (view_expression i))) (λ b. Ok (indexed g p a (place_of (view_expression i)) (as_int b)))
 one_postfix g p a (postfix.Field f) = Ok (selected g p a (view_name f))
 
--- one operation of a chain that begins at this place, after a left operand of this type, which may peek at a local
+-- the result of one operation of a chain, after a left operand of the given type, which may peek at a local; the
+-- chain begins at position p
 abbrev pub one_operation : Scope → Place → Option ℕ → ValueType → BinaryOperator → Expression → Checked Joined
 one_operation g p k left o e = run (Part (operand (is_looking o) (rule g e) (rule_looked g e (rule g e))) (λ a. joined g p k left o (place_of e) (as_int a)))
 
--- the type of the left operand of an operation: of the first operand, or of the result of the previous operations
+-- the type of the left operand of an operation: the type of the chain's first operand, or of the result of the
+-- previous operations
 abbrev pub left_of : ValueType → Option TyCode → ValueType
 left_of first None = first
 left_of first (Some t) = Value (view_ty t)
@@ -53,6 +58,6 @@ peeked_after k (Some t) = None
 abbrev pub view_chain : Chain → typed.Operations × Ty
 view_chain c = (view.operations_of c.operations.items, view_ty c.of_type)
 
--- the rest of a chain after its first operand, which begins at this place
+-- the rule for the operations of a chain after its first operand; the chain begins at position p
 abbrev pub rule_rest : Scope → Place → typed.Expression → Operations → Rule typed.Expression
 rule_rest g p a os = Part (rule_chain g p (peeked_local (as_int a)) (type_of (as_int a)) os) (λ bs. gives (typed.Binary (as_int a) bs.0 bs.1))

@@ -1,4 +1,4 @@
--- True if the word has the bit of this number set.
+-- Returns true if the bit with this number is set in the word.
 use Rattle.std.specs.Prelude.{ℕ, Bool, ◌==◌}
 use Rattle.std.specs.Int.{bit_at}
 

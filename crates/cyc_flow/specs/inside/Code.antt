@@ -1,4 +1,5 @@
--- The relation of the code to the flow rules: the states that it holds, and the results of its functions.
+-- The relation between the code and the flow rules: the flow states that the code computes, and the
+-- results of its functions.
 use Rattle.std.specs.Prelude.{◌≡◌, ℕ, Bool, true, ◌&&◌, List, [], ◌∷◌, Option, Some, None, Result, Ok, Err}
 use Rattle.cyc_words.specs.declared.fault.Fault.{Fault}
 use Rattle.cyc_words.specs.Fault.{memory_fault}
@@ -27,61 +28,67 @@ abbrev pub view_state : StateCode → State
 view_state states.Unreached = Unreached
 view_state (states.Reached t) = Reached (view_table t)
 
--- the state before these changes, which are undone from the last to the first
+-- Returns the flow state before these changes, which are undone from the last to the first.
 abbrev pub undone : List Change → State → State
 undone [] f = f
 undone (c ∷ cs) f = with_fullness (view_fullness c.before) (undone cs f) c.number
 
--- the state at the start of the expression, or of the innermost enclosing operand of `&&` or `||`
+-- Returns the flow state at the start of the expression, or of the innermost enclosing operand of
+-- `&&` or `||`.
 abbrev pub begun : Evaluation → State
 begun v = undone v.trail.items (view_state v.state)
 
--- the state in which each changed local is lowered to its value before the change
+-- Returns the flow state in which each changed local is lowered to its state before the change.
 abbrev pub lowered : List Change → State → State
 lowered [] f = f
 lowered (c ∷ cs) f = lowered cs (with_fullness (lower (fullness f c.number) (view_fullness c.before)) f c.number)
 
--- the state in which each changed local is lowered to its fullness in the first state
+-- Returns the flow state in which each changed local is lowered to its fullness in the state `g`.
 abbrev pub lowered_to : State → List Change → State → State
 lowered_to g [] f = f
 lowered_to g (c ∷ cs) f = lowered_to g cs (with_fullness (lower (fullness f c.number) (fullness g c.number)) f c.number)
 
--- `now` lists the present fullness of each changed local
+-- `Notes` says that `now` lists the present fullness of each changed local.
 abbrev pub Notes : (now : List Change) → State → (changes : List Change) → Type 0
 Notes vs g cs = (f : State) → lowered vs f ≡ lowered_to g cs f
 
--- true if each changed local may be empty in this state
+-- Returns true if each changed local may be empty in this flow state.
 abbrev pub are_emptied : List Change → State → Bool
 are_emptied [] f = true
 are_emptied (c ∷ cs) f = is_vacant (fullness f c.number) && are_emptied cs f
 
--- the fault that is returned for a stop of the check
+-- Returns the fault that the flow check reports when it stops.
 abbrev pub fault_of : Stop → Fault
 fault_of stops.Memory = memory_fault
 fault_of (stops.Refused x n) = x
 
--- A rejection by the code is the rule's fault. If memory runs out, nothing is claimed.
+-- `Stops` says that a fault found by the code is the fault of the rule. If memory runs out, `Stops`
+-- claims nothing.
 abbrev pub Stops : {Y : Type 0} → Stop → Checked Y → Type 0
 Stops stops.Memory checked = Unit {0}
 Stops (stops.Refused x n) checked = checked ≡ Err x
 
--- The code continues if no fault is known, and otherwise stops with that fault; it never runs out of memory.
+-- `Ends` says that the code continues if no fault is known, and otherwise stops with the known fault; it
+-- never runs out of memory.
 abbrev pub Ends : Result (Unit {0}) Stop → Option Fault → Type 0
 Ends (Ok u) fault = fault ≡ None
 Ends (Err stops.Memory) fault = ⊥
 Ends (Err (stops.Refused x n)) fault = fault ≡ Some x
 
--- The code continues if the rule is satisfied, and otherwise stops with the rule's fault.
+-- `Allows` says that the code continues if the rule is satisfied, and otherwise stops with the
+-- rule's fault.
 abbrev pub Allows : Result (Unit {0}) Stop → Checked (Unit {0}) → Type 0
 Allows (Ok u) checked = checked ≡ Ok tt
 Allows (Err e) checked = Stops e checked
 
--- The state after an expression is the rule's, these locals are touched, and the expression began in this state.
+-- `Leads` says that the flow state after an expression is the rule's, that these locals are touched, and that
+-- the expression began in the state `start`.
 abbrev pub Leads : Result (Unit {0}) Stop → (following : Evaluation) → Checked State → List ℕ → (start : State) → Type 0
 Leads (Ok u) v checked ns start = (checked ≡ Ok (view_state v.state)) × (v.touched.numbers.list ≡ ns) × (begun v ≡ start)
 Leads (Err e) v checked ns start = Stops e checked
 
--- `Leads` for a whole expression, after which the state is passed on.
+-- `Gives` relates the code's result for a whole expression to the rule: the state after the
+-- expression, and the touched locals.
 abbrev pub Gives : Result Tracked Stop → Checked State → List ℕ → Type 0
 Gives (Ok t) checked ns = (checked ≡ Ok (view_state t.state)) × (t.touched.numbers.list ≡ ns)
 Gives (Err e) checked ns = Stops e checked
@@ -89,12 +96,14 @@ Gives (Err e) checked ns = Stops e checked
 abbrev pub known : State → State → Known
 known f breaks = record { now = f; breaks = breaks }
 
--- `Gives` for a statement; the state at the breaks so far is the last argument.
+-- `GivesKnown` relates the code's result for a statement to the rule; its last argument is the
+-- state at the breaks so far.
 abbrev pub GivesKnown : Result Tracked Stop → Checked Known → List ℕ → State → Type 0
 GivesKnown (Ok t) checked ns breaks = (checked ≡ Ok (known (view_state t.state) breaks)) × (t.touched.numbers.list ≡ ns)
 GivesKnown (Err e) checked ns breaks = Stops e checked
 
--- `GivesKnown` for clauses, whatever clauses come after them.
+-- `GivesClauses` relates the code's result for catch clauses to the rule, whatever clauses come
+-- after them.
 abbrev pub GivesClauses : Around → State → Result Tracked Stop → (clauses : Clauses → Clauses) → Known → List ℕ → State → Type 0
 GivesClauses c start (Ok t) clauses k ns breaks =
     (rest : Clauses) → (run (rule_clauses c start (clauses rest) k) ≡ run (rule_clauses c start rest (known (view_state t.state) breaks))) × (touched_clauses (clauses rest) ns ≡ touched_clauses rest t.touched.numbers.list)

@@ -1,4 +1,4 @@
--- Sets of numbers, represented by the bits of words.
+-- Sets of numbers, represented by the bits of a list of words.
 use Rattle.std.specs.Prelude.{◌≡◌, ℕ, ◌/◌, ◌%◌, Bool, false, ◌==◌, ◌||◌, List, [], ◌∷◌, get_or}
 use Rattle.cyc_flow.specs.inside.Bits.{has_bit}
 
@@ -9,11 +9,11 @@ is_among n (m ∷ ms) = (n == m) || is_among n ms
 abbrev pub has_number : (words : List ℕ) → (n : ℕ) → Bool
 has_number ws n = has_bit (get_or ws (n / 64) 0) (n % 64)
 
--- these words have exactly the bits of these numbers
+-- `Stand` says that the bits set in these words are exactly those of these numbers.
 abbrev pub Stand : List ℕ → List ℕ → Type 0
 Stand ws ns = (n : ℕ) → has_number ws n ≡ is_among n ns
 
--- each element of the list, changed by the word at its index if there is one
+-- Returns the list in which each element is changed by the word at its index, if there is one.
 abbrev pub with_words : {X : Type 0} (change : X → ℕ → X) → List X → (words : List ℕ) → List X
 with_words f [] ws = []
 with_words f (x ∷ xs) [] = x ∷ xs

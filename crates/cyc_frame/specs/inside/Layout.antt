@@ -1,4 +1,4 @@
--- The layout of a function's frame. The frame grows downward from the caller's, as in the System V ABI. The use of its words and its size
+-- The layout of a function's stack frame. The stack grows downward, as in the System V ABI. The use of the frame's words and its size
 -- limit are this project's own choice.
 use Rattle.std.specs.Prelude.{◌≡◌, ◌≢◌, ℕ, ◌+◌, ◌<◌, ◌≤◌, Bool, true, false, ◌||◌, nat_lt, if◌then◌else◌, List, [], ◌∷◌, length, Option, Some, None, slice_index_or}
 use Rattle.cyc_words.specs.declared.fault.Code.TheVariants as faults
@@ -14,11 +14,12 @@ use Rattle.cyc_registers.specs.inside.Interference.{AreHomes}
 use Rattle.cyc_registers.specs.inside.Idle.{AreIdle}
 use Rattle.cyc_registers.specs.inside.Fills.{AreFillable}
 
--- The word of a frame that holds a slot.
+-- Returns the number of the word of a frame that holds a slot.
 abbrev pub slot_word : Frame → ℕ → ℕ
 slot_word frame slot = frame.first_slot + slot
 
--- An instruction that overwrites the return address register: a call, or the opening of a handler.
+-- Returns true if an instruction overwrites the return address register: a call, or the opening of
+-- a handler.
 abbrev pub loses : Instruction → Bool
 loses (instructions.Call function arguments count result) = true
 loses (instructions.Try first handler) = true
@@ -28,7 +29,8 @@ abbrev pub loses_any : List Instruction → Bool
 loses_any [] = false
 loses_any (i ∷ code) = loses i || loses_any code
 
--- A return instruction. The code of a return has room to restore the saved registers, and for the function's entry to save them.
+-- Returns true for a return instruction. The size of its code includes words to restore the saved registers, and words for the
+-- function's entry to save them.
 abbrev pub returns : Instruction → Bool
 returns (instructions.Return value) = true
 returns (instructions.Finish value) = true
@@ -38,7 +40,7 @@ abbrev pub returns_any : List Instruction → Bool
 returns_any [] = false
 returns_any (i ∷ code) = returns i || returns_any code
 
--- An instruction that opens a handler.
+-- Returns true if an instruction opens a handler.
 abbrev pub opens : Instruction → Bool
 opens (instructions.Try first handler) = true
 opens instruction = false
@@ -47,12 +49,13 @@ abbrev pub opens_any : List Instruction → Bool
 opens_any [] = false
 opens_any (i ∷ code) = opens i || opens_any code
 
--- A correct frame for a function: each slot has its own word, apart from those of the return address and the saved registers. All words are
--- within the first `frame_count` words of the frame, whose number is within the limit.
+-- `IsFrame` says that a frame is correct for a function: each slot has its own word, apart from those of the return address and the saved
+-- registers. All words are within the first `frame_count` words of the frame, and `frame_count` is within the limit.
 pub record IsFrame (r : Routine) (frame : Frame) : Type 0 where
   pub apart : (a b : ℕ) → a < r.slots → b < r.slots → slot_word frame a ≡ slot_word frame b → a ≡ b
   pub inside : (slot : ℕ) → slot < r.slots → slot_word frame slot < r.frame_count
-  -- For a function without slots `inside` says nothing, hence this field.
+  -- For a function without slots, `inside` says nothing about `first_slot`, so this field is
+  -- needed.
   pub first_inside : frame.first_slot ≤ r.frame_count
   pub beside : (slot : ℕ) → slot < r.slots → slot_word frame slot ≢ frame.return_address
   pub return_inside : frame.return_address < r.frame_count
@@ -65,17 +68,18 @@ pub record IsFrame (r : Routine) (frame : Frame) : Type 0 where
   pub parameters : frame.parameters ≡ r.parameters
   pub returning : 0 < frame.saved → returns_any r.code ≡ true
 
--- The frame of a function by its number; an empty one if there is none.
+-- Returns the frame of the function with this number, or an empty frame if there is none.
 abbrev pub frame_at : List Frame → ℕ → Frame
 frame_at frames function =
     slice_index_or frames function
     (record { return_address = 0; saves = false; first_saved = 0; saved = 0; first_slot = 0; parameters = 0; homes = []; idle = []; fills = [] })
 
--- Each function of the program contains a return.
+-- `AllReturn` says that each function of the program contains a return.
 abbrev pub AllReturn : Program → Type 0
 AllReturn program = (k : ℕ) → k < length program.functions → returns_any (routine_at program k).code ≡ true
 
--- Correct frames of the first `count` functions, with homes, idle places and filled delay slots. None saves more than `most` registers.
+-- `AreFirstFrames` says that the frames of the first `count` functions are correct, with homes, idle instructions and filled delay
+-- slots. No frame of these functions saves more than `most` registers.
 pub record AreFirstFrames (program : Program) (count most : ℕ) (frames : List Frame) : Type 0 where
   pub as_many : length frames ≡ count
   pub each : (k : ℕ) → k < count → IsFrame (routine_at program k) (frame_at frames k)
@@ -85,19 +89,20 @@ pub record AreFirstFrames (program : Program) (count most : ℕ) (frames : List 
   pub fills : (k : ℕ) → k < count
       → AreFillable program (routine_at program k) (frame_at frames k).homes (frame_at frames k).fills
 
--- Among the first `count` functions, each one that opens a handler saves at least `most` registers.
+-- `AreRaised` says that among the first `count` functions, each one that opens a handler saves at
+-- least `most` registers.
 abbrev pub AreRaised : Program → (count most : ℕ) → List Frame → Type 0
 AreRaised program count most frames =
     (k : ℕ) → k < count → opens_any (routine_at program k).code ≡ true → most ≤ (frame_at frames k).saved
 
--- A correct frame for each function.
+-- `AreFrames` says that a program has a correct frame for each function.
 pub record AreFrames (program : Program) (frames : List Frame) : Type 0 where
   pub as_many : length frames ≡ length program.functions
   pub each : (k : ℕ) → k < length program.functions → IsFrame (routine_at program k) (frame_at frames k)
   pub homes : (k : ℕ) → k < length program.functions
       → AreHomes program (routine_at program k) (frame_at frames k).saved (frame_at frames k).homes
-  -- An exception leaves calls without restoring registers. Since an exception leaves calls without restoring registers, a function with a
-  -- handler saves all registers that any function may change.
+  -- An exception leaves calls without restoring registers. Since an exception restores no registers, a function with a handler saves all
+  -- registers that any function may change.
   pub opening : (k g : ℕ) → k < length program.functions → g < length program.functions
       → opens_any (routine_at program k).code ≡ true → (frame_at frames g).saved ≤ (frame_at frames k).saved
   pub idle : (k : ℕ) → k < length program.functions
@@ -105,7 +110,7 @@ pub record AreFrames (program : Program) (frames : List Frame) : Type 0 where
   pub fills : (k : ℕ) → k < length program.functions
       → AreFillable program (routine_at program k) (frame_at frames k).homes (frame_at frames k).fills
 
--- The position of the name of the first function whose frame is too large.
+-- Returns true if a function's frame is too large.
 abbrev pub is_too_large : Routine → Bool
 is_too_large r = nat_lt MOST_FRAME_WORDS r.frame_count
 
@@ -113,11 +118,11 @@ abbrev pub first_too_large : List Routine → Option Span
 first_too_large [] = None
 first_too_large (r ∷ routines) = if is_too_large r then Some r.name else first_too_large routines
 
--- Each function's frame is within the size limit.
+-- `HasSmallFrames` says that each function's frame is within the size limit.
 abbrev pub HasSmallFrames : Program → Type 0
 HasSmallFrames program = (k : ℕ) → k < length program.functions → (routine_at program k).frame_count ≤ MOST_FRAME_WORDS
 
--- The fault for the first function whose frame is too large.
+-- `IsTooLarge` says that a fault is that for the first function whose frame is too large.
 pub record IsTooLarge (program : Program) (fault : Fault) : Type 0 where
   pub function : ℕ
   pub is_function : function < length program.functions
@@ -127,6 +132,7 @@ pub record IsTooLarge (program : Program) (fault : Fault) : Type 0 where
   pub line : fault.line ≡ (routine_at program function).name.line
   pub column : fault.column ≡ (routine_at program function).name.column
 
--- The program is accepted unchanged: all its frames are small enough.
+-- `IsAccepted` says that the program is unchanged and that all its frames are within the size
+-- limit.
 abbrev pub IsAccepted : (given program : Program) → Type 0
 IsAccepted given program = (program ≡ given) × HasSmallFrames program

@@ -1,4 +1,5 @@
--- The exit status and the last line for each answer of the program: this project's own choice.
+-- This file defines the exit status and the last line for each answer of the program: they are this
+-- project's own choice.
 use Rattle.std.specs.Prelude.{ℕ, ◌%◌, List, ◌++◌, Option, Some, None, codes}
 use Rattle.std.specs.Fmt.{decimal, signed_decimal}
 use Rattle.cyc_words.specs.Word.{unsigned}
@@ -52,7 +53,8 @@ last_line NoMemory = codes "no memory"
 last_line Usage = codes "usage"
 last_line Unformatted = codes "not formatted"
 
--- The exit status; for a run that returned, the low 8 bits of its value.
+-- The exit status of an answer; for a run that returned, it is the low 8 bits of the returned
+-- value.
 abbrev pub status_of : Answer → ℕ
 status_of Done = 0
 status_of (Returned value) = unsigned value % 256
@@ -68,7 +70,8 @@ status_of NoMemory = 8
 status_of Usage = 9
 status_of Unformatted = 1
 
--- Lack of memory has no place in the text and does not mean that the text is rejected.
+-- A fault of lack of memory has no position in the text and does not mean that the text is
+-- rejected.
 abbrev pub answer_of_fault : Fault → Answer
 answer_of_fault fault = elim fault.code [ Memory ↦ NoMemory | _ ↦ Refused fault ]
 
@@ -79,7 +82,8 @@ answer_of_stop (Stop.End End.Full) = Full
 answer_of_stop (Stop.End (End.Trap cause)) = Trapped cause
 answer_of_stop Stop.Spent = Spent
 
--- Faults of an image keep the numbers of the image reader; 8 is an image without a place in the machine's memory.
+-- Faults of an image keep the numbers of the image reader; number 8 is an image that does not fit the machine's
+-- memory.
 abbrev pub answer_of_run_fault : RunFault → Answer
 answer_of_run_fault (RunFault.Elf Elf.Memory) = NoMemory
 answer_of_run_fault (RunFault.Elf fault) = BadImage (elf_number_of fault)
@@ -89,14 +93,14 @@ answer_of_run_fault RunFault.Read = ReadFault
 answer_of_run_fault RunFault.Write = WriteFault
 answer_of_run_fault RunFault.Memory = NoMemory
 
--- The limit that a full run reached, and its value.
+-- The limit that a full run reached, together with its value.
 abbrev pub ending_at : Option Limit → Bounds → Option Ending
 ending_at None limits = None
 ending_at (Some Limit.Calls) limits = Some (Ending.Calls limits.calls)
 ending_at (Some Limit.Pages) limits = Some (Ending.Pages limits.pages)
 
--- The reason why a run with these limits and this budget ended before its program did, by its report; none if it did not, or if there is no
--- report.
+-- The reason why a run with these limits and this budget ended before its program did, according to its report. The reason is `None` if the
+-- program ended, or if there is no report.
 abbrev pub ending_of : Answer → Option Report → Bounds → (budget : ℕ) → Option Ending
 ending_of (Uncaught exception value) (Some report) limits budget = Some (Ending.Uncaught exception)
 ending_of Full (Some report) limits budget = ending_at report.limit limits

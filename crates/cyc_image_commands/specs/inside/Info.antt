@@ -1,4 +1,5 @@
--- The text of `info` on an image. The text of `info` is this project's own choice.
+-- The text that the command `info` writes about an image. The text of `info` is this project's own
+-- choice.
 use Rattle.std.specs.Prelude.{◌≡◌, ℕ, ◌+◌, ◌/◌, ◌%◌, ◌^◌, ◌==◌, ◌&&◌, nat_le, nat_lt, Bool, false, List, [], ◌∷◌, ◌++◌, map, length, Option, Some, None, if◌then◌else◌, codes}
 use Rattle.std.specs.List.{flat_map}
 use Rattle.std.specs.Fmt.{decimal, digit_glyph}
@@ -7,7 +8,8 @@ use Rattle.cyc_elf.specs.declared.program_header.ProgramHeader.{ProgramHeader}
 use Rattle.cyc_elf.specs.Image.{SegmentContents, ImageContents}
 use Rattle.cyc_machine_model.specs.State.{text_base, text_end, data_base, data_end}
 
--- The data of a segment that is described: its first address, its flags, and its sizes in the file and in memory.
+-- The data of a segment that `info` describes: its first address, its flags, and its sizes in the file and in
+-- memory.
 pub record Extent : Type 0 where
   pub vaddr : ℕ
   pub flags : ℕ
@@ -17,25 +19,26 @@ pub record Extent : Type 0 where
 abbrev pub extent_of : SegmentContents → Extent
 extent_of s = record { vaddr = s.vaddr; flags = s.flags; stored = length s.bytes; size = s.size }
 
--- The extent of a segment, given its program header.
+-- The extent of a segment, computed from its program header.
 abbrev pub extent_in : ProgramHeader → Extent
 extent_in h = record { vaddr = h.vaddr; flags = h.flags; stored = h.file_size; size = h.memory_size }
 
--- An address or a byte as hexadecimal digits.
+-- The two hexadecimal digits of a byte; an address consists of four bytes.
 abbrev pub hex_of : ℕ → List ℕ
 hex_of b = digit_glyph false (b / 16) ∷ digit_glyph false (b % 16) ∷ []
 
 abbrev pub address_text : ℕ → List ℕ
 address_text a = hex_of (a / 2 ^ 24) ++ (hex_of (a / 2 ^ 16 % 256) ++ (hex_of (a / 2 ^ 8 % 256) ++ hex_of (a % 256)))
 
--- The range of the machine's memory in which a segment begins.
+-- The name of the machine's memory range in which a segment begins.
 abbrev pub range_of : Extent → List ℕ
 range_of s =
     if nat_le text_base s.vaddr && nat_lt s.vaddr text_end then codes "text"
     else if nat_le data_base s.vaddr && nat_lt s.vaddr data_end then codes "data"
     else codes "elsewhere"
 
--- The line of a segment: its range, its first address, its words in memory, its bytes in the file, and its flags.
+-- The text line about a segment: its range, its first address, its words in memory, its bytes in the file, and
+-- its flags.
 abbrev pub segment_line : Extent → List ℕ
 segment_line s = range_of s ++ (codes " at " ++ (address_text s.vaddr ++ (codes ", " ++ (decimal ((s.size + 3) / 4)
     ++ (codes " words, " ++ (decimal s.stored ++ (codes " bytes in the file, flags " ++ (decimal s.flags ++ codes "\n"))))))))
@@ -63,7 +66,7 @@ has_form entry segments = if entry == text_base then are_of_program segments els
 abbrev pub form_line : Bool → List ℕ
 form_line form = if form then codes "form of this compiler\n" else codes "form another\n"
 
--- The whole text of `info`.
+-- The complete text of `info`, from the entry address, the segments and the note.
 abbrev pub reported_of : (entry : ℕ) → List Extent → Option (ℕ × ℕ) → List ℕ
 reported_of entry segments note = codes "entry at " ++ (address_text entry ++ (codes "\n" ++ (flat_map segment_line segments
     ++ (limits_line note ++ form_line (has_form entry segments)))))
@@ -71,6 +74,6 @@ reported_of entry segments note = codes "entry at " ++ (address_text entry ++ (c
 abbrev pub info_text : ImageContents → List ℕ
 info_text image = reported_of image.entry (map extent_of image.segments) image.note
 
--- The whole text of `info`, given an outline of the image.
+-- The complete text of `info`, computed from an outline of the image.
 abbrev pub outline_text : Outline → List ℕ
 outline_text o = reported_of o.entry (map extent_in o.loads.items) o.note

@@ -1,4 +1,5 @@
--- The program's answer to a run, a listing and requests about an image, in terms of the results of the lower layers.
+-- The program's answers to the commands that run, list or describe an image, stated in terms of the results of the
+-- lower layers.
 use Rattle.std.specs.Prelude.{◌≡◌, ◌⊎◌, ℕ, Bool, true, false, IfSome, is_some, List, Option, Some, None, Result, Ok, Err}
 use Rattle.std.specs.Io.KnownBytes.{Appends, Keeps}
 use Rattle.cyc_words.specs.Device.{AppendsPrefix}
@@ -24,7 +25,7 @@ abbrev pub answer_of_run : Result Report RunFault → Answer
 answer_of_run (Ok report) = answer_of_stop report.stop
 answer_of_run (Err fault) = answer_of_run_fault fault
 
--- The report of a run, written besides its answer.
+-- The report of a run, if the run reached a stop.
 abbrev pub report_of_run : Result Report RunFault → Option Report
 report_of_run (Ok report) = Some report
 report_of_run (Err fault) = None
@@ -33,24 +34,24 @@ abbrev pub answer_of_listing : Result (Unit {0}) RunFault → Answer
 answer_of_listing (Ok done) = Done
 answer_of_listing (Err fault) = answer_of_run_fault fault
 
--- The limits of a run of the image: each is the given one, else the image's, else the default, but none is above its cap.
+-- Says that each limit of a run is the given limit, else the image's, else the default, but never above its cap.
 abbrev pub AreLimitsFor : List ℕ → (given caps : Given) → Bounds → Type 0
 AreLimitsFor image given caps limits = (read : ImageContents) × (reading image ≡ Ok read) × (limits ≡ capped_by caps (limits_by given read.note))
 
--- The answer for bytes that are no image, unless memory ran out.
+-- Says that the answer for bytes that are not an image names the fault, unless memory ran out.
 abbrev pub AnswersNoImage : List ℕ → Answer → Type 0
 AnswersNoImage image answer = (answer ≡ NoMemory) ⊎ ((fault : ElfFault) × (reading image ≡ Err fault) × (answer ≡ answer_of_run_fault (Elf fault)))
 
--- The store of a run grows: the array of words does, the pool of pages does not.
+-- True if the heap of a run grows on demand: the array of words grows, the pool of pages does not.
 abbrev pub grows_in : Manner → Bool
 grows_in manner = elim manner.store [ Plain ↦ true | Pages ↦ false ]
 
--- The peaks of a run are counted: over the pool of pages, if requested.
+-- True if the peaks of a run are counted: only with the pool of pages, and only if requested.
 abbrev pub counts_peaks : Manner → Bool
 counts_peaks manner = elim manner.store [ Plain ↦ false | Pages ↦ manner.counting ]
 
--- The image was run between the devices over the requested store, and the answer is that of the outcome, with its report if there is one.
--- The report contains peaks exactly if they were requested.
+-- Says that the image was run with the devices and the requested heap implementation, and that the answer and the report are those of the
+-- run's outcome. The report contains peaks exactly if they were requested.
 pub record AnswersRun (image : List ℕ) (limits : Bounds) (budget : ℕ) (manner : Manner) (old new : Devices) (answer : Answer) (report : Option Report) : Type 0 where
   pub outcome : Result Report RunFault
   pub runs : AnswersAnew (grows_in manner) (reading image) limits budget old new outcome
@@ -58,20 +59,22 @@ pub record AnswersRun (image : List ℕ) (limits : Bounds) (budget : ℕ) (manne
   pub reported : report ≡ report_of_run outcome
   pub counted : IfSome report (λ r. is_some r.peaks ≡ counts_peaks manner)
 
--- The image was listed to the device, and the answer is that of the outcome.
+-- Says that the image was listed to the device, and that the answer is that of the listing's
+-- outcome.
 pub record AnswersListing (image : List ℕ) (old new : Option (List ℕ)) (answer : Answer) : Type 0 where
   pub outcome : Result (Unit {0}) RunFault
   pub shows : Shows (reading image) old new outcome
   pub answered : answer ≡ answer_of_listing outcome
 
--- The description of an image is written completely, or a prefix of it if the device failed.
+-- Says that the description of an image is written completely, or that a prefix of the description
+-- is written if the device failed.
 abbrev pub Informs : ImageContents → (old new : Option (List ℕ)) → Answer → Type 0
 Informs image old new Done = Appends old new (info_text image)
 Informs image old new WriteFault = AppendsPrefix old new (info_text image)
 Informs image old new answer = ⊥
 
 -- The answer to a request about an image, where `read` is the meaning of its bytes: the fault of reading, or the description of the image;
--- or lack of memory. A fault and lack of memory are reported before anything is written.
+-- or a lack of memory. A fault or a lack of memory is reported before any byte is written.
 abbrev pub Describes : Result ImageContents ElfFault → (old new : Option (List ℕ)) → Answer → Type 0
 Describes (Err fault) old new answer = ((answer ≡ NoMemory) ⊎ (answer ≡ answer_of_run_fault (Elf fault))) × Keeps old new
 Describes (Ok image) old new answer = ((answer ≡ NoMemory) × Keeps old new) ⊎ Informs image old new answer
@@ -79,8 +82,8 @@ Describes (Ok image) old new answer = ((answer ≡ NoMemory) × Keeps old new) �
 abbrev pub AnswersInfo : (image : List ℕ) → (old new : Option (List ℕ)) → Answer → Type 0
 AnswersInfo image old new answer = Describes (reading image) old new answer
 
--- The final answers to a run, a listing and requests about an image. Flushing does not change the written bytes; `held` are the bytes in
--- the buffer, and `stuck` is true if some could not be flushed when they had to be.
+-- The final answers to the commands that run, list or describe an image. Flushing does not change the written bytes. `held` are the
+-- bytes in the buffer; `stuck` is true if some bytes could not be flushed when they had to be.
 abbrev pub EndsRun : (image : List ℕ) (limits : Bounds) (budget : ℕ) (manner : Manner) (old new : Devices) (held : List ℕ) (stuck : Bool) (last : Answer) (report : Option Report) → Type 0
 EndsRun image limits budget manner old new held stuck last report =
     (answer : Answer) × (written : Option (List ℕ))

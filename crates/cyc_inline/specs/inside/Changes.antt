@@ -1,4 +1,4 @@
--- A program some of whose functions are replaced.
+-- A program in which some functions are replaced.
 use Rattle.std.specs.Prelude.{◌≡◌, ℕ, zero, suc, ◌+◌, ◌<◌, ◌≤◌, List, [], ◌∷◌, length, map, Option, Some, None, slice_index_or, max, sum_by}
 use Rattle.cyc_plain.specs.declared.limits.TheConstants.{MOST_SIZE}
 use Rattle.cyc_plain.specs.declared.program.Function.{Function}
@@ -42,7 +42,7 @@ abbrev pub noted : List Function → List (Option Made) → List (Option Opened)
 noted [] changes = []
 noted (f ∷ functions) changes = note_of f (first_of changes) ∷ noted functions (others changes)
 
--- The function of a routine after its replacement.
+-- The function after its replacement, or the unchanged function if it has no replacement.
 abbrev pub routine_made : Routine → Option Made → Routine
 routine_made r (Some made) = routine_of made.function
 routine_made r None = r
@@ -51,12 +51,13 @@ abbrev pub changed : List Routine → List (Option Made) → List Routine
 changed [] changes = []
 changed (r ∷ routines) changes = routine_made r (first_of changes) ∷ changed routines (others changes)
 
--- The origins of `count` instructions from `index` on, if each instruction stays as it is.
+-- The origins of `count` instructions from `index` on, if each instruction is unchanged.
 abbrev pub own_origins : (number index count : ℕ) → List Origin
 own_origins number index zero = []
 own_origins number index (suc count) = origin_at number index ∷ own_origins number (suc index) count
 
--- The origins of the instructions of a function with `count` instructions, or of its replacement.
+-- The origins of the instructions of a function's replacement, or of the function's own `count`
+-- instructions if it is not replaced.
 abbrev pub origins_made : (number count : ℕ) → Option Made → List Origin
 origins_made number count (Some made) = made.origins.items
 origins_made number count None = own_origins number 0 count
@@ -67,12 +68,13 @@ all_origins number (r ∷ routines) changes = origins_made number (length r.code
 
 -- ---- how the replacement is made
 
--- The allowed changes of the functions of a program: only leaves are inlined.
+-- Says that the work on a program is allowed: if calls are inlined, all their callees are leaf
+-- functions.
 abbrev pub IsWork : Program → Work → Type 0
 IsWork program (works.Calls leafs) = AreLeafs program leafs.now
 IsWork program works.Duplicates = Unit {0}
 
--- The replacement (if there is one) correctly replaces function `number`.
+-- Says that the replacement of function `number`, if there is one, is correct.
 abbrev pub IsMadeFor : Program → (number : ℕ) → Option Made → Type 0
 IsMadeFor program number (Some made) = IsMade program number (routine_of made.function) made.origins.items
 IsMadeFor program number None = Unit {0}
@@ -81,12 +83,14 @@ abbrev pub left_of : Option Made → (spare : ℕ) → ℕ
 left_of (Some made) spare = made.spare
 left_of None spare = spare
 
--- A valid replacement that leaves `change.spare` words of growth for the remaining functions.
+-- Says that the replacement of a function is valid and leaves `change.spare` words of growth for
+-- the remaining functions.
 pub record IsChange (program : Program) (number spare : ℕ) (change : Option Made) : Type 0 where
   pub made : IsMadeFor program number change
   pub fits : size (routine_made (routine_at program number) change) + left_of change spare ≤ size (routine_at program number) + spare
 
--- The replacements of the first functions are made, and `spare` words of growth remain for the other functions.
+-- Says that the replacements of the first functions are correct, and that `spare` words of growth remain for
+-- the other functions.
 pub record AreBegun (program : Program) (room : ℕ) (changes : List (Option Made)) (spare : ℕ) : Type 0 where
   pub each : (k : ℕ) → k < length changes → IsMadeFor program k (change_at changes k)
   pub most : (sum_by size (changed program.functions changes) + spare ≤ max (sum_by size program.functions) room)
@@ -94,7 +98,7 @@ pub record AreBegun (program : Program) (room : ℕ) (changes : List (Option Mad
 
 -- ---- the origins reported for a function
 
--- The function that was given, and the number of instructions whose origins are reported.
+-- The source function, and the number of instructions whose origins are reported.
 pub record Note : Type 0 where
   pub given : Routine
   pub count : ℕ
@@ -106,7 +110,8 @@ note None = None
 abbrev pub notes_of : List (Option Opened) → List (Option Note)
 notes_of opened = map note opened
 
--- `s` is the given function `r`, or a replacement with one reported origin for each instruction.
+-- Says that `s` is the source function `r`, or a replacement of `r` with one reported origin for
+-- each instruction.
 abbrev pub IsReported : (r s : Routine) → Option Note → Type 0
 IsReported r s (Some reported) = (reported.given ≡ r) × (reported.count ≡ length s.code)
 IsReported r s None = s ≡ r

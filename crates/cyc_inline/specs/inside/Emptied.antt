@@ -1,4 +1,4 @@
--- A program in which each unreachable function keeps only a return.
+-- A program in which each unreachable function keeps only a return instruction.
 use Rattle.std.specs.Prelude.{◌≡◌, ℕ, suc, ◌<◌, Bool, true, false, if◌then◌else◌, List, [], ◌∷◌, length, Option, Some, None, slice_get, slice_index_or}
 use Rattle.cyc_plain.specs.declared.instruction.Instruction.{Instruction}
 use Rattle.cyc_plain.specs.declared.instruction.Instruction.TheVariants as instructions
@@ -7,41 +7,42 @@ use Rattle.cyc_plain.specs.inside.Straight.{At}
 use Rattle.cyc_inline.specs.declared.inlining.Inlined.{Inlined}
 use Rattle.cyc_inline.specs.inside.Changes.{Note, first_of, others, AreReported, notes_of}
 
--- Reachability of functions, by their numbers.
+-- Returns true if the function with number k is marked as reached.
 abbrev pub is_reached : List Bool → ℕ → Bool
 is_reached reached k = slice_index_or reached k false
 
--- The function that an instruction calls, if it calls one, is marked reached.
+-- Says that the function that an instruction calls, if it calls one, is marked as reached.
 abbrev pub LeadsTo : List Bool → Instruction → Type 0
 LeadsTo reached (instructions.Call function arguments count result) = is_reached reached function ≡ true
 LeadsTo reached i = Unit {0}
 
--- The function that an instruction calls, if it calls one, has a number below `count`.
+-- Says that the function that an instruction calls, if it calls one, has a number below `count`.
 abbrev pub LeadsBelow : (count : ℕ) → Instruction → Type 0
 LeadsBelow count (instructions.Call function arguments count_of_arguments result) = function < count
 LeadsBelow count i = Unit {0}
 
--- No function marked reached in `old` loses its mark in `new`.
+-- Says that each function marked as reached in `old` is also marked in `new`.
 abbrev pub StayReached : (old new : List Bool) → Type 0
 StayReached old new = (length new ≡ length old) × ((k : ℕ) → is_reached old k ≡ true → is_reached new k ≡ true)
 
--- `main` is marked reached, and so is every function that a reached one calls.
+-- Says that `main` is marked as reached, and so is every function that a reached function calls.
 pub record AreReached (program : Program) (reached : List Bool) : Type 0 where
   pub main : is_reached reached program.main ≡ true
   pub calls : (k : ℕ) → is_reached reached k ≡ true → (p : ℕ) (i : Instruction) → At (routine_at program k).code p i → LeadsTo reached i
 
--- An instruction at which the function returns.
+-- Returns true if the function returns at the instruction.
 abbrev pub returns : Instruction → Bool
 returns (instructions.Return value) = true
 returns (instructions.Finish value) = true
 returns instruction = false
 
--- The place of the first return, or the end of the code if it has none.
+-- The index of the first return in a code, or the code's length if it contains no return.
 abbrev pub first_return : List Instruction → ℕ
 first_return [] = 0
 first_return (i ∷ code) = if returns i then 0 else suc (first_return code)
 
--- The only instruction that an unreachable function keeps: its first return. A function without a return keeps all its code.
+-- The only instruction that an unreachable function keeps: its first return. A function without a return keeps all of its
+-- code.
 abbrev pub stub_of : Bool → List Instruction → Option Instruction
 stub_of true code = None
 stub_of false code = slice_get code (first_return code)
@@ -68,7 +69,7 @@ routines_kept (r ∷ routines) reached = routine_kept (first_flag reached) r ∷
 abbrev pub emptied : Program → (reached : List Bool) → Program
 emptied program reached = record program { functions = routines_kept program.functions reached }
 
--- The origins reported for emptied functions.
+-- The origins reported for a function whose code is removed except one instruction.
 abbrev pub note_with : Option Instruction → Routine → Option Note → Option Note
 note_with (Some i) r (Some note) = Some (record { given = note.given; count = 1 })
 note_with (Some i) r None = Some (record { given = r; count = 1 })
@@ -81,7 +82,8 @@ abbrev pub notes_kept : List Routine → List (Option Note) → List Bool → Li
 notes_kept [] notes reached = []
 notes_kept (r ∷ routines) notes reached = note_kept (first_flag reached) r (first_of notes) ∷ notes_kept routines (others notes) (other_flags reached)
 
--- The program is the given one without the code of unreachable functions; the reported origins are kept.
+-- Says that a program is the source program without the code of unreachable functions, and that its
+-- reported origins are correct.
 pub record IsEmptied (given made : Inlined) : Type 0 where
   pub reached : List Bool
   pub are : AreReached given.plain reached

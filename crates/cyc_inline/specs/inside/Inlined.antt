@@ -1,4 +1,4 @@
--- The promise of inlining: the inlined program behaves as the given one.
+-- The contract of inlining: the inlined program behaves as the source program.
 use Rattle.std.specs.Prelude.{◌≡◌, ℕ, ◌<◌, ◌≤◌, ◌⊎◌, List, [], length, sum_by}
 use Rattle.std.specs.List.{AllByRecursion}
 use Rattle.cyc_words.specs.Simulation.{NeverFails}
@@ -9,7 +9,8 @@ use Rattle.cyc_plain.specs.inside.Program.{Routine, Program, CodePlace, routine_
 use Rattle.cyc_plain.specs.inside.Step.{machine, start}
 use Rattle.cyc_plain.specs.inside.WellFormed.{IsPlain}
 
--- A function with the same name, parameters and results as the given one. The frame sizes are equal, or both exceed the maximum.
+-- Says that a function has the same name, parameters and results as the source function. The frame sizes of the two functions
+-- are equal, or both exceed the maximum.
 pub record IsLike (r s : Routine) : Type 0 where
   pub name : s.name ≡ r.name
   pub parameters : s.parameters ≡ r.parameters
@@ -17,9 +18,9 @@ pub record IsLike (r s : Routine) : Type 0 where
   pub slots : r.slots ≤ s.slots
   pub frame : (s.frame_count ≡ r.frame_count) ⊎ ((r.frame_count ≤ MOST_FRAME_WORDS) × (s.frame_count ≤ MOST_FRAME_WORDS))
 
--- A program with the functions, globals and `main` of the given one, some calls inlined. If no run of the given program fails, each of its
--- runs is one of the given program, within the same limits. Each place of the given program is replaced by some places, and these together
--- cost no more than the whole inlined program.
+-- Says that a program has the functions, globals and `main` of the source program, with some calls inlined. If no run of the source
+-- program fails, each run of the inlined program is a run of the source program, within the same limits. Each code position of the source
+-- program is replaced by some positions; together these cost no more than the whole inlined program.
 pub record IsInlined (program inlined : Program) : Type 0 where
   pub plain : IsPlain inlined
   pub as_many : length inlined.functions ≡ length program.functions

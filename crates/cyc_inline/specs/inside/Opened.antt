@@ -1,4 +1,4 @@
--- A function some of whose calls are inlined.
+-- The definition of a function in which some calls are inlined.
 use Rattle.std.specs.Prelude.{◌≡◌, ℕ, zero, suc, ◌+◌, ◌<◌, ◌≤◌, ◌⊎◌, Bool, true, false, not, if◌then◌else◌, List, [], ◌∷◌, ◌++◌, length, Option, Some, None, slice_get, slice_index_or}
 use Rattle.std.specs.List.{AllByRecursion}
 use Rattle.cyc_plain.specs.declared.instruction.Instruction.{Instruction}
@@ -14,8 +14,8 @@ use Rattle.cyc_plain.specs.inside.WellFormed.{leaves}
 use Rattle.cyc_inline.specs.declared.origin.Origin.{Origin}
 use Rattle.cyc_inline.specs.inside.Inlined.{IsLike}
 
--- An operand or an instruction with its slots shifted and its jump targets moved. A leaf's slots are shifted; a caller's are not (`shift`
--- 0).
+-- The next definitions shift the slots and move the jump targets of an operand or an instruction. A leaf's slots are shifted; a caller's
+-- are not (`shift` 0).
 abbrev pub shifted_operand : (shift : ℕ) → Operand → Operand
 shifted_operand shift (operands.Slot number) = operands.Slot (shift + number)
 shifted_operand shift (operands.Word word) = operands.Word word
@@ -42,7 +42,8 @@ moved shift place (instructions.Throw tag value) = instructions.Throw (shifted_o
 moved shift place (instructions.Try first handler) = instructions.Try first (place handler)
 moved shift place instruction = instruction
 
--- An instruction that a leaf may contain: it opens no handler, calls nothing, and takes no slot's address.
+-- Returns true if a leaf may contain the instruction: it opens no handler, calls no function, and takes no
+-- slot's address.
 abbrev pub is_of_leaf : Instruction → Bool
 is_of_leaf (instructions.Call function arguments count result) = false
 is_of_leaf (instructions.Enter function) = false
@@ -53,7 +54,8 @@ is_of_leaf (instructions.Leave first) = false
 is_of_leaf (instructions.Uncaught tag value) = false
 is_of_leaf instruction = true
 
--- The moves of `count` words from slots at `source` to slots at `destination`, one by one.
+-- The instructions that move `count` words from slots at `source` to slots at `destination`, one by
+-- one.
 abbrev pub passing : (destination source count : ℕ) → List Instruction
 passing destination source zero = []
 passing destination source (suc count) =
@@ -66,20 +68,21 @@ is_end instruction = None
 
 -- ---- the origins of the code
 
--- An instruction of the given program, from which one or more instructions are made.
+-- An instruction of the source program, as the origin of one or more instructions.
 abbrev pub origin_at : (function index : ℕ) → Origin
 origin_at function index = record { function = function; index = index }
 
--- The `count` instructions from place `from` on have this origin.
+-- Says that the `count` instructions from code position `from` on have the given origin.
 abbrev pub AreMadeOf : List Origin → (from count : ℕ) → Origin → Type 0
 AreMadeOf origins from count origin = (k : ℕ) → k < count → slice_get origins (from + k) ≡ Some origin
 
--- Control passes from one place to another: that is the next place, or a jump leads to it.
+-- Says that control passes from one code position to another: they are equal, or a jump leads from
+-- the first to the second.
 abbrev pub GoesTo : List Instruction → List Origin → (from to : ℕ) → Origin → Type 0
 GoesTo code origins from to origin = (from ≡ to) ⊎ (At code from (instructions.Jump to) × AreMadeOf origins from 1 origin)
 
--- The replacement of a leaf's instruction in the caller's code: the instruction with its slots shifted; for a return, moves of the results
--- and a jump after the call.
+-- Says that the caller's code contains the replacement of a leaf's instruction. The replacement is the instruction with its slots
+-- shifted; for a return it is moves of the results and a jump after the call.
 abbrev pub StandsInside : (code : List Instruction) → List Origin → (shift result results following callee : ℕ) → (place : ℕ → ℕ) → (index : ℕ) → Instruction → Option ℕ → Type 0
 StandsInside code origins shift result results following callee place index i (Some value) =
     HasAt code (place index) (passing result (shift + value) results)
@@ -90,7 +93,8 @@ StandsInside code origins shift result results following callee place index i No
     × AreMadeOf origins (place index) 1 (origin_at callee index)
     × (leaves i ≡ false → GoesTo code origins (place index + 1) (place (index + 1)) (origin_at callee index))
 
--- An inlined call: its arguments are moved to extra slots, stack room is checked, and the callee's code follows.
+-- Says that a call is inlined: its arguments are moved to extra slots, stack space is checked, and the callee's
+-- code follows.
 pub record IsSite (program : Program) (s : Routine) (origins : List Origin) (shift function index here following callee arguments count result : ℕ) : Type 0 where
   pub place : ℕ → ℕ
   pub room : shift + (routine_at program callee).slots ≤ s.slots
@@ -103,7 +107,8 @@ pub record IsSite (program : Program) (s : Routine) (origins : List Origin) (shi
 
 -- ---- duplicates
 
--- An instruction that computes or loads a word may be duplicated into an extra slot just before it. A division may not, since it can fail.
+-- An instruction that computes or loads a word may be duplicated just before it, with an extra slot as destination. A division may not be
+-- duplicated, because it can fail.
 abbrev pub is_division : BinaryOperator → Bool
 is_division binary.Divide = true
 is_division binary.Remainder = true
@@ -115,14 +120,15 @@ may_have_duplicate (instructions.LoadGlobal destination global) = true
 may_have_duplicate (instructions.Load destination address offset) = true
 may_have_duplicate instruction = false
 
--- A copy of the instruction with another destination slot.
+-- A copy of an instruction with another destination slot.
 abbrev pub duplicate : (slot : ℕ) → Instruction → Instruction
 duplicate slot (instructions.Binary operator destination left right) = instructions.Binary operator slot left right
 duplicate slot (instructions.LoadGlobal destination global) = instructions.LoadGlobal slot global
 duplicate slot (instructions.Load destination address offset) = instructions.Load slot address offset
 duplicate slot instruction = instruction
 
--- A hoisted instruction writes a slot that the given function does not have.
+-- Says that an instruction duplicates another one and writes a slot that the source function does
+-- not have.
 pub record IsDuplicate (given slots : ℕ) (i j : Instruction) : Type 0 where
   pub slot : ℕ
   pub further : given ≤ slot
@@ -132,7 +138,8 @@ pub record IsDuplicate (given slots : ℕ) (i j : Instruction) : Type 0 where
 
 -- ---- hoisted instructions
 
--- An instruction with a single origin may be preceded by hoisted instructions if control can continue after it.
+-- Returns true if hoisted instructions may precede an instruction with a single origin, that is, if control can
+-- continue after the instruction.
 abbrev pub may_follow_hoisted : Instruction → Bool
 may_follow_hoisted (instructions.Move destination source) = true
 may_follow_hoisted (instructions.MoveWords destination source count) = true
@@ -149,25 +156,26 @@ may_follow_hoisted (instructions.LoadByte destination address offset) = true
 may_follow_hoisted (instructions.StoreByte address offset source) = true
 may_follow_hoisted instruction = false
 
--- The slot that a hoisted instruction writes. A hoisted instruction cannot fail.
+-- The slot that an instruction writes if it may be hoisted. A hoisted instruction cannot fail.
 abbrev pub preceded_slot : Instruction → Option ℕ
 preceded_slot (instructions.Move destination source) = Some destination
 preceded_slot (instructions.Binary operator destination left right) = if is_division operator then None else Some destination
 preceded_slot (instructions.LoadGlobal destination global) = Some destination
 preceded_slot instruction = None
 
--- A hoisted instruction writes a slot that the given function does not have.
+-- Says that an instruction is hoisted: it cannot fail and writes a slot that the source function
+-- does not have.
 pub record IsHoisted (given slots : ℕ) (j : Instruction) : Type 0 where
   pub slot : ℕ
   pub further : given ≤ slot
   pub room : slot < slots
   pub is : preceded_slot j ≡ Some slot
 
--- An instruction that may stand before another: a hoisted one or a duplicate.
+-- Says that an instruction may precede another one: it is a hoisted instruction or a duplicate.
 abbrev pub MayPrecede : (given slots : ℕ) → (i j : Instruction) → Type 0
 MayPrecede given slots i j = IsHoisted given slots j ⊎ IsDuplicate given slots i j
 
--- An instruction preceded by hoisted instructions and possibly its duplicate.
+-- Says that an instruction is preceded by hoisted instructions and possibly by its duplicate.
 pub record IsPreceded (r s : Routine) (origins : List Origin) (function : ℕ) (place : ℕ → ℕ) (index : ℕ) (i : Instruction) : Type 0 where
   pub front : List Instruction
   pub each : AllByRecursion (MayPrecede r.slots s.slots i) front
@@ -176,7 +184,8 @@ pub record IsPreceded (r s : Routine) (origins : List Origin) (function : ℕ) (
   pub made : AreMadeOf origins (place index) (suc (length front)) (origin_at function index)
   pub next : place (index + 1) ≡ place index + suc (length front)
 
--- The replacement of an instruction of the caller: the instruction, perhaps after others, or for a call perhaps the callee's code.
+-- Says that the code contains the replacement of a caller's instruction: the instruction, perhaps after others, or for a call
+-- perhaps the callee's code.
 abbrev pub StandsFor : Program → (r s : Routine) → List Origin → (function : ℕ) → (place : ℕ → ℕ) → (index : ℕ) → Instruction → Type 0
 StandsFor program r s origins function place index (instructions.Call callee arguments count result) =
     (At s.code (place index) (instructions.Call callee arguments count result) × AreMadeOf origins (place index) 1 (origin_at function index)
@@ -187,21 +196,22 @@ StandsFor program r s origins function place index i =
     × (leaves i ≡ false → place (index + 1) ≡ place index + 1))
     ⊎ IsPreceded r s origins function place index i
 
--- A function with some of its calls inlined. Each instruction of the result has an origin in the function or in a leaf.
+-- Says that a function has some of its calls inlined. Each instruction of the result has an origin in the function or
+-- in a leaf.
 pub record IsOpened (program : Program) (function : ℕ) (r s : Routine) (origins : List Origin) : Type 0 where
   pub like : IsLike r s
   pub as_many : length origins ≡ length s.code
   pub place : ℕ → ℕ
   pub first : place 0 ≡ 0
   pub stands : (index : ℕ) (i : Instruction) → slice_get r.code index ≡ Some i → StandsFor program r s origins function place index i
-  -- Each slot whose address is taken has its address taken in the given function too.
+  -- Each slot whose address the new code takes has its address taken in the source function too.
   pub pinned : (p : ℕ) (i : Instruction) → At s.code p i → (slot : ℕ) → pins i slot ≡ true → is_pinned r.code slot ≡ true
 
--- The origins of the instructions of a function.
+-- The origins of the instructions of a function, by the function's number.
 abbrev pub origins_of : List (List Origin) → (function : ℕ) → List Origin
 origins_of origins function = slice_index_or origins function []
 
--- A program some of whose calls are inlined.
+-- Says that in a program some calls of the source program are inlined.
 pub record AreOpened (program inlined : Program) (origins : List (List Origin)) : Type 0 where
   pub as_many : length inlined.functions ≡ length program.functions
   pub all_reported : length origins ≡ length program.functions

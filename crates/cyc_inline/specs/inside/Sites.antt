@@ -1,4 +1,5 @@
--- The code that the crate emits for an inlined call: one part in the call's place, the remaining part out of line after the caller's code.
+-- The code that the crate emits for an inlined call: an in-line part in the place of the call, and an out-of-line part after the caller's
+-- code.
 use Rattle.std.specs.Prelude.{ℕ, suc, ◌+◌, ◌==◌, nat_lt, nat_le, if◌then◌else◌, Bool, true, false, List, [], ◌∷◌, ◌++◌, replicate, Option, Some, None, slice_index_or}
 use Rattle.cyc_plain.specs.declared.instruction.Instruction.{Instruction}
 use Rattle.cyc_plain.specs.declared.instruction.Instruction.TheVariants as instructions
@@ -7,7 +8,8 @@ use Rattle.cyc_inline.specs.declared.site.Call.{Call}
 use Rattle.cyc_inline.specs.declared.site.Site.{Site}
 use Rattle.cyc_inline.specs.inside.Opened.{moved, passing, is_end, origin_at}
 
--- Returns the call that the instruction is, if it is chosen: `line` instructions of the callee, more than 0, stand in line.
+-- Returns the call if an instruction is a call chosen for inlining; `line` (more than 0) is the number of the callee's
+-- in-line instructions.
 abbrev pub chosen_call : Instruction → (line : ℕ) → Option Call
 chosen_call (instructions.Call callee arguments count result) line =
     if line == 0
@@ -15,18 +17,20 @@ chosen_call (instructions.Call callee arguments count result) line =
     else Some (record { callee = callee; arguments = arguments; count = count; result = result; line = line })
 chosen_call instruction line = None
 
--- The place of an instruction, by a table.
+-- The code position of an instruction, from a table of positions.
 abbrev pub place_in : List ℕ → (index : ℕ) → ℕ
 place_in places index = slice_index_or places index 0
 
--- An instruction of the callee stands in line, or out of line.
+-- Returns true if the callee's instruction at `index` belongs to the in-line part, or to the
+-- out-of-line part if `in_line` is false.
 abbrev pub stands_in : (in_line : Bool) → (line index : ℕ) → Bool
 stands_in true line index = nat_lt index line
 stands_in false line index = nat_le line index
 
 -- ---- an instruction of the callee
 
--- The jump after an inlined return: none if the return is the last instruction in line.
+-- The jump after an inlined return; no jump is needed if the return is the last in-line
+-- instruction.
 abbrev pub way_following : (is_last : Bool) → (following : ℕ) → List Instruction
 way_following true following = []
 way_following false following = instructions.Jump following ∷ []
@@ -35,7 +39,8 @@ abbrev pub way_count : (is_last : Bool) → ℕ
 way_count true = 0
 way_count false = 1
 
--- The replacement of a callee's instruction: the instruction with its slots shifted; for a return, moves and the jump after the call.
+-- The replacement of a callee's instruction: the instruction with its slots shifted; for a return, moves of the results and the jump
+-- after the call.
 abbrev pub inside_part : Site → (place : ℕ → ℕ) → (index : ℕ) → Instruction → Option ℕ → List Instruction
 inside_part site place index i (Some value) =
     passing site.call.result (site.shift + value) site.results ++ way_following (index + 1 == site.call.line) site.following
@@ -46,7 +51,8 @@ abbrev pub inside_count : (results line index : ℕ) → Option ℕ → ℕ
 inside_count results line index (Some value) = results + way_count (index + 1 == line)
 inside_count results line index None = 1
 
--- The number of these instructions that stand in line, or out of line.
+-- The number of instructions that a callee's instruction contributes to the in-line part, or to the
+-- out-of-line part.
 abbrev pub count_in : (results line : ℕ) → (in_line : Bool) → (index : ℕ) → Option ℕ → ℕ
 count_in results line in_line index end = if stands_in in_line line index then inside_count results line index end else 0
 
@@ -67,7 +73,8 @@ abbrev pub inside_size : (results line : ℕ) → (in_line : Bool) → (index : 
 inside_size results line in_line index [] = 0
 inside_size results line in_line index (i ∷ code) = count_in results line in_line index (is_end i) + inside_size results line in_line (suc index) code
 
--- The places of the callee's instructions if the next one in line stands at `here` and the next one out of line at `there`.
+-- The code positions of the callee's instructions, if the next in-line instruction is at `here` and the next out-of-line
+-- instruction at `there`.
 abbrev pub inside_places : (results line index here there : ℕ) → List Instruction → List ℕ
 inside_places results line index here there [] = []
 inside_places results line index here there (i ∷ code) =
@@ -79,7 +86,8 @@ inside_places results line index here there (i ∷ code) =
 abbrev pub places_inside : Site → (here : ℕ) → List Instruction → (index : ℕ) → ℕ
 places_inside site here code = place_in (inside_places site.results site.call.line 0 (here + site.call.count + 1) site.rest code)
 
--- The code in the call's place: moves of the arguments, the check of stack room, and the in-line part of the callee's code.
+-- The code in the place of an inlined call: moves of the arguments, the check of stack space, and the in-line part of the
+-- callee's code.
 abbrev pub site_code : Site → (in_line : Bool) → (here : ℕ) → List Instruction → List Instruction
 site_code site true here code =
     passing site.shift site.call.arguments site.call.count ++ instructions.Enter site.call.callee ∷ inside_code site (places_inside site here code) true 0 code

@@ -1,4 +1,5 @@
--- The keyword that the first byte, the middle byte and the length of a name single out.
+-- This file finds the keyword that the first byte, the middle byte and the length of a name
+-- determine.
 use Rattle.std.specs.Prelude.{ℕ, ◌==◌, nat_lt, if◌then◌else◌, Option, Some, None}
 use Rattle.cyc_syntax.specs.declared.tokens.Keyword.{Keyword}
 use Rattle.cyc_syntax.specs.declared.tokens.Keyword.TheVariants as words

@@ -1,4 +1,5 @@
--- The code of statements, emitted piece by piece: blocks with their regions, and branches whose targets are set later.
+-- The code of statements is emitted piece by piece: blocks with their regions, and branches whose targets are set
+-- later.
 use Rattle.std.proofs.Common.{◌≡◌, ℕ, zero, suc, ◌+◌, ◌-◌, ◌<◌, ◌≤◌, Bool, true, false, List, [], ◌∷◌, ◌++◌, length, get_or, drop, set, refl, sym, ap, ◌∙◌, arith, append_assoc, append-nil}
 use Rattle.std.proofs.lemmas.List.{drop_all, drop_more, length-append, length-set}
 use Rattle.std.specs.declared.vec.Vec.{Vec}
@@ -30,8 +31,8 @@ use Rattle.cyc_lower_proof.proofs.emission.CodeLengths.{branch_same}
 
 -- ---- blocks
 
--- The code of items, without the code that closes their regions at the end. The state of an item is its exits and its first slot for
--- temporaries.
+-- Returns the code of one item, without the code that closes its regions at the end of the block. The state of an item is its exits
+-- and its first slot for temporaries.
 abbrev pub one_item : Starts → ItemCode → List ItemCode → (p : ℕ) → Exits × ℕ → List Instruction
 one_item starts j js p s = item_code starts j p s.0 s.1
 
@@ -42,7 +43,8 @@ abbrev pub opened_items : Starts → List ItemCode → (p : ℕ) → Exits × �
 opened_items starts [] p s = []
 opened_items starts (j ∷ js) p s = one_item starts j js p s ++ opened_items starts js (p + length (one_item starts j js p s)) (next_item j js s)
 
--- the code that closes these regions, newest first, whose marks are in the slots from t on
+-- Returns the code that closes `many` lexical regions, newest first; the numbers that close them
+-- are in the slots from `t` on.
 abbrev pub closed_items : (many t : ℕ) → List Instruction
 closed_items zero t = []
 closed_items (suc many) t = closed_items many (t + 1) ++ closed_code t
@@ -73,7 +75,7 @@ items_open_and_close starts (item.Open r n w k ∷ js) p exits t = after_one sta
 items_open_and_close starts (item.Alias r n ty w s ∷ js) p exits t = after_one starts (item.Alias r n ty w s) js p exits t (items_open_and_close starts js _ exits t)
 items_open_and_close starts (item.DynamicRegion w r n ∷ js) p exits t = after_one starts (item.DynamicRegion w r n) js p exits t (items_open_and_close starts js _ exits t)
 
--- the newest region is closed first
+-- Of several lexical regions, the newest is closed first.
 closed_first : (many t : ℕ) → closed_items (suc many) t ≡ closed_code (t + many) ++ closed_items many t
 closed_first zero t = let e : t + 0 ≡ t = omega arith in sym (append-nil _ ∙ ap closed_code e)
 closed_first (suc many) t =
@@ -82,8 +84,8 @@ closed_first (suc many) t =
     ∙ append_assoc (closed_code (t + 1 + many)) (closed_items many (t + 1)) (closed_code t)
     ∙ ap (λ (n : ℕ). closed_code n ++ closed_items (suc many) t) e
 
--- The code so far equals the whole when extended by the remaining items of the block. The exits and the first slot for temporaries are
--- those of the next item, and there is room for the values that the others keep.
+-- `ItemsRemain` says that the code so far, extended by the remaining items of the block, is the code of the whole block. The exits and
+-- the first slot for temporaries are those of the next item, and the frame has space for the values that the remaining items keep.
 abbrev pub ItemsRemain : Starts → (old : List Instruction) → List ItemCode → (first : Exits) → (free i : ℕ) → (code : List Instruction) → (inside : Exits) → (following : ℕ) → Type 0
 ItemsRemain starts old js first free i code inside following =
     Remains (opened_items starts) old js (first, free) i code (inside, following)
@@ -96,7 +98,7 @@ items_kept (item.Execute s) js = refl
 items_kept (item.Region w r n) js = refl
 items_kept j js = omega arith
 
--- a region takes one slot for its mark
+-- An item that opens a lexical region takes one slot, for the number that closes the region.
 one_region : (j : ItemCode) (js : List ItemCode) (t : ℕ) → free_after j t + regions_in js ≡ t + regions_in (j ∷ js)
 one_region (item.Region w r n) js t = omega arith
 one_region j js t = refl
@@ -133,7 +135,8 @@ module _ (starts : Starts) (old : List Instruction) (js : List ItemCode) (first 
         omega (arith, begun, longer, head),
       )
 
--- the code equals the whole when extended by the closing of the regions from slot `following` down to slot `free`
+-- `ClosesLeft` says that the code, extended by the closing of the regions from slot `following` down to slot
+-- `free`, is the whole code.
 abbrev pub ClosesLeft : (whole code : List Instruction) → (free following : ℕ) → Type 0
 ClosesLeft whole code free following = (many : ℕ) × (following ≡ free + many) × (code ++ closed_items many free ≡ whole)
 
@@ -176,8 +179,8 @@ module _ (starts : Starts) (value : Stmt) (region : ℕ) (v : Vec ItemCode Heap)
 
 -- ---- branches
 
--- A condition followed by two pieces, each after a jump whose target is set later. The first jump and the inner jumps of the condition lead
--- to the second piece.
+-- The module assumes a condition followed by two pieces of code, each after a jump whose target is set later. The first jump and the inner
+-- jumps of the condition go to the second piece.
 module _ (old : List Instruction) (condition : ℕ → List Instruction) (aim : ℕ → List Instruction → List Instruction) (aims : (rest : List Instruction) (target : ℕ) → aim target (old ++ (condition 0 ++ rest)) ≡ old ++ (condition target ++ rest)) (same : (target : ℕ) → length (condition target) ≡ length (condition 0)) (x y : Instruction) (first second : ℕ → List Instruction) (over : ℕ → Instruction) (out : ℕ → Instruction) (m0 m1 m2 m3 m4 m5 m6 : List Instruction) where
   pub branched : m0 ≡ old ++ condition 0 → m1 ≡ m0 ++ x ∷ [] → m2 ≡ m1 ++ first (length m1) → m3 ≡ m2 ++ y ∷ [] → m4 ≡ aim (length m3) (set m3 (length m0) (over (length m3)))
       → m5 ≡ m4 ++ second (length m4) → m6 ≡ set m5 (length m2) (out (length m5)) → (p : ℕ) → p ≡ length old + length (condition 0) + 1 → (q : ℕ) → q ≡ p + length (first p) + 1
@@ -217,7 +220,8 @@ nothing_is : (s : Statement) → is_nothing s ≡ true → s ≡ Empty
 nothing_is Empty is = refl
 nothing_is s is = absurd (let f : false ≡ true = is in cc)
 
--- a branch without an `else` part
+-- The code of an `if` without an `else` part, whose jump target is set after the statement is
+-- emitted.
 module _ (starts : Starts) (a : Expression) (s : Statement) (exits : Exits) (d : ℕ) (o : Condition) (early : List Pending) (o_is : o ≡ branch_of starts logical.AndThen a d) (old : List Instruction) (aims : Aims early (λ other. branch_code starts logical.AndThen a other (length old) d) (length old)) (x : Instruction) (m0 m1 m2 m3 : List Instruction) (over : ℕ) where
   pub made_then : m0 ≡ old ++ branch_code starts logical.AndThen a 0 (length old) d → over ≡ length m0 → m1 ≡ m0 ++ x ∷ [] → m2 ≡ m1 ++ statement_code starts s (length m1) exits d → m3 ≡ failed early (length m2) (set m2 over (failing_jump o (length m2)))
       → m3 ≡ old ++ then_code starts a s (length old) exits d

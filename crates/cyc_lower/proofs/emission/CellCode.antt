@@ -1,4 +1,4 @@
--- The code that moves values to the cells of an object, in a loop that is not finished.
+-- The loop that emits stores of values to the cells of an object, before it has finished.
 use Rattle.std.proofs.Common.{◌≡◌, ℕ, zero, suc, ◌+◌, ◌*◌, ◌<◌, ◌≤◌, List, [], ◌∷◌, ◌++◌, length, get_or, drop, refl, sym, ap, ◌∙◌, arith, append_assoc, append-nil}
 use Rattle.std.proofs.lemmas.List.{drop_more}
 use Rattle.cyc_types.specs.declared.typed.Kind.{Kind}
@@ -16,7 +16,8 @@ use Rattle.cyc_lower.proofs.emission.Emitting.{Remains, goes_on_by}
 
 -- ---- one cell
 
--- the code so far equals the whole when extended by the stores of the words from this number on
+-- `StoresLeft` says that the code so far, extended by the stores of the words from number `i` on,
+-- is the whole code.
 abbrev pub StoresLeft : (old code : List Instruction) → Kind → (many address offset first i : ℕ) → Type 0
 StoresLeft old code kind many address offset first i =
     (left : ℕ) × (i + left ≡ many) × (code ++ stores_code kind left address (offset + 4 * i) (first + i) ≡ old ++ stores_code kind many address offset first)
@@ -56,18 +57,19 @@ stores_end old code kind many address offset first i done (suc left, count, made
 next_kind : (ks : List Kind) (i : ℕ) (kind : Kind) → i < length ks → kind ≡ get_or ks i kind → drop i ks ≡ kind ∷ drop (i + 1) ks
 next_kind ks i kind inside at = drop_more ks i kind inside ∙ ap (λ (k : Kind). k ∷ drop (i + 1) ks) (sym at)
 
--- an existing item is found whatever the default is
+-- Looking up an existing element of a list does not depend on the default.
 pub same_item : (ks : List Kind) (i : ℕ) (other : Kind) → i < length ks → get_or ks i other ≡ get_or ks i (get_or ks i other)
 same_item ks i other inside =
     let kind : Kind = get_or ks i other in
     let e : get_or ks i other ∷ drop (i + 1) ks ≡ get_or ks i kind ∷ drop (i + 1) ks = sym (drop_more ks i other inside) ∙ drop_more ks i kind inside in
     cc
 
--- the kinds so far, extended by the kinds of the remaining fields, are all kinds
+-- `KindsLeft` says that the kinds collected so far, extended by those of the remaining fields, are
+-- all kinds.
 abbrev pub KindsLeft : List ConvertedCode → (i : ℕ) → List Kind → Type 0
 KindsLeft cs i ks = ks ++ kinds_passed (arguments_of (drop i cs)) ≡ kinds_passed (arguments_of cs)
 
--- the bytes so far and those of the remaining cells are the bytes of the object, which has at most as many words as a block
+-- `BytesLeft` says that the bytes counted so far and those of the remaining cells are the bytes of the object.
 abbrev pub BytesLeft : List Kind → (i bytes : ℕ) → Type 0
 BytesLeft ks i bytes = bytes_from bytes (drop i ks) ≡ bytes_from 0 ks
 
@@ -82,7 +84,8 @@ bytes_next ks i bytes begin new kind inside at few begin_is new_is left =
     let next : new ≡ following kind bytes = omega (arith, new_is, there) in
     (there, next, ap (λ (n : ℕ). bytes_from n rest) next ∙ all)
 
--- the sums of these numbers of bytes do not overflow
+-- The sums of the numbers of bytes of an object's cells do not overflow, since an object has at
+-- most 4000 bytes.
 pub bytes_low : (ks : List Kind) (i bytes : ℕ) (kind : Kind) → i < length ks → kind ≡ get_or ks i kind → bytes_from 0 ks ≤ 4000 → BytesLeft ks i bytes
     → begins_word kind bytes + bytes_of_kind kind ≤ 4000
 bytes_low ks i bytes kind inside at few left =
@@ -91,7 +94,8 @@ bytes_low ks i bytes kind inside at few left =
     let least : following kind bytes ≤ bytes_from (following kind bytes) rest = bytes-least (following kind bytes) rest in
     omega (arith, all, least, few, begins_is kind bytes (omega (arith, all, least, few)))
 
--- the slots so far and those of the remaining values are the slots of all values
+-- `SlotsLeft` says that the slots counted so far and those of the remaining values are the slots of
+-- all values.
 abbrev pub SlotsLeft : List Kind → (first i slot : ℕ) → Type 0
 SlotsLeft ks first i slot = slot + slots_of_kinds (drop i ks) ≡ first + slots_of_kinds ks
 
@@ -103,7 +107,8 @@ slots_next ks first i slot kind inside at left =
 
 -- ---- several cells
 
--- the code of all cells; the state is the number of bytes before the next cell, and the slot of its value
+-- Returns the code that fills all cells; its state is the number of bytes before the next cell, and the
+-- slot of the cell's value.
 abbrev pub all_cells : (address : ℕ) → List Kind → ℕ → ℕ × ℕ → List Instruction
 all_cells address ks p s = cells_code ks address s.0 s.1
 

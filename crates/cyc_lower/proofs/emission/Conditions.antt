@@ -1,4 +1,4 @@
--- Code of conditions that is emitted piece by piece.
+-- The code of conditions is emitted piece by piece.
 use Rattle.std.proofs.Common.{◌≡◌, ℕ, suc, ◌+◌, ◌≤◌, ◌<◌, Bool, true, false, drop, set, get_or, length-append, append_assoc, List, [], ◌∷◌, ◌++◌, length, Option, None, Some, slice_get, refl, sym, ap, subst, ◌∙◌, arith, append-nil}
 use Rattle.std.proofs.lemmas.Option.{same_Some, none-some}
 use Rattle.std.proofs.lemmas.List.{drop_all, drop_more, length-set}
@@ -53,7 +53,7 @@ not_single first (operation.Compute w o e ∷ operation.Test u x ∷ os) ty many
 not_single first (operation.Compute w o e ∷ operation.Pointer u x ∷ os) ty many = refl
 not_single first (operation.Compute w o e ∷ operation.PointerPeek u n x ∷ os) ty many = refl
 
--- a chain of several operators is not a single comparison
+-- A chain of several operators is not a single comparison.
 pub compares_alone : (starts : Starts) (first : Expression) (os : List Operation) → (length os ≡ 1 → ⊥) → compares_light starts first (operations_of os) ≡ false
 compares_alone starts first [] many = refl
 compares_alone starts first (operation.Test o e ∷ os) many = refl
@@ -68,7 +68,7 @@ compares_alone starts first (operation.Compute w o e ∷ operation.PointerPeek u
 -- ---- the first slots of locals
 
 module _ (starts : Starts) where
-  -- true if the code of a condition is emitted, and the condition is returned
+  -- `IsMade` says that the code of a condition is emitted and that the condition is returned.
   abbrev IsMade : (whole : Expression) → (answer : Condition) → (old new : List Instruction) → (t : ℕ) → Type 0
   IsMade whole answer old new t = (answer ≡ condition_of starts whole t) × (new ≡ old ++ condition_code starts whole (length old) t)
 
@@ -83,7 +83,8 @@ module _ (starts : Starts) where
         ∙ sym (ap (λ (x : Compared). old ++ pair_code starts x.left x.right (length old) t) is),
   )
 
-  -- a pointer is compared with null by the only operator of a chain
+  -- If the only operator of a chain compares a pointer with null, emitting the pointer and
+  -- comparing its word with 0 emits the condition.
   made_nulled : (whole a : Expression) (failing : Comparison) (answer : Condition) (old new : List Instruction) (t : ℕ) → compared_of whole ≡ record { failing = failing; left = a; right = Number 0 }
       → (answer ≡ null_condition starts failing a t) × (new ≡ old ++ value_code starts a (length old) t) → IsMade whole answer old new t
   made_nulled whole a failing answer old new t is (answers, made) = (
@@ -111,7 +112,8 @@ module _ (starts : Starts) where
       subst (λ (w : Expression). IsMade w answer old new t) (sym chain)
       (made_nulled (Binary first (operations_of (y ∷ [])) ty) first failing answer old new t (null_chain first y ty failing here) made)
 
-  -- two operands are compared by the only operator of a chain
+  -- If the only operator of a chain compares two operands, the condition of the chain compares
+  -- these operands.
   pair_chain : (first : Expression) (x : Operation) (ty : Ty) (failing : Comparison) → null_operation x ≡ None → pair_operation x ≡ Some failing
       → compared_of (Binary first (operations_of (x ∷ [])) ty) ≡ record { failing = failing; left = first; right = right_of x }
   pair_chain first (operation.Compute w o e) ty failing none is =
@@ -143,7 +145,7 @@ module _ (starts : Starts) where
       subst (λ (w : Expression). IsMade w answer old new t) (sym (chain ∙ ap (λ (z : Operation). Binary first (operations_of (z ∷ [])) ty) (sym same)))
       (made_paired (Binary first (operations_of (x ∷ [])) ty) first (right_of x) failing answer old new t (pair_chain first x ty failing none is) made)
 
-  -- the operands of a pair are emitted one after the other
+  -- The two operands of a comparison are emitted one after the other.
   pub pair_made : (a b : Expression) (failing : Comparison) (l r : Operand) (old m1 m2 : List Instruction) (t following : ℕ) → following ≡ t + 1
       → l ≡ first_operand starts a b t → m1 ≡ old ++ first_code starts a b (length old) t → r ≡ value_operand starts b following → m2 ≡ m1 ++ value_code starts b (length m1) following
       → (record { failing = failing; left = l; right = r } ≡ pair_condition starts failing a b t) × (m2 ≡ old ++ pair_code starts a b (length old) t)
@@ -158,7 +160,8 @@ module _ (starts : Starts) where
 -- ---- conditions with several operands
 
 module _ (starts : Starts) where
-  -- the operands after the first one; the state is the condition of the previous operand
+  -- Returns the code of the operands of a chain after the first one; its state is the condition of
+  -- the previous operand.
   abbrev pub all_others : LogicalOperator → (following t : ℕ) → List Operation → ℕ → Condition → List Instruction
   all_others u following t os p c = others_code starts u (operations_of os) c following p t
 
@@ -178,7 +181,8 @@ module _ (starts : Starts) where
   pub others_lower : (u : LogicalOperator) (following t : ℕ) → Lowers (all_others u following t) (one_other u following t) (next_other t)
   others_lower u following t = record { none = λ p c. refl; more = other_more u following t }
 
-  -- the operands so far have been emitted, and this is the condition of the last one
+  -- `OthersRemain` says that the operands visited so far have been emitted, and that `c` is the
+  -- condition of the last one.
   abbrev pub OthersRemain : LogicalOperator → Expression → List Operation → (following t : ℕ) → (old : List Instruction) → (i : ℕ) → (code : List Instruction) → Condition → Type 0
   OthersRemain u a os following t old i code c =
       Remains (all_others u following t) (old ++ condition_code starts a (length old) t) os (condition_of starts a t) i code c
@@ -193,7 +197,7 @@ module _ (starts : Starts) where
     omega (arith, low, no_shorter_than old _ code made),
   )
 
-  -- the condition of the last operand is unchanged if no test is skipped
+  -- An operation of a chain that is not skipped does not change which condition is the last one.
   last_more : (o : Operation) (os : List Operation) (c : Condition) (t : ℕ) → last_condition starts (operations_of (o ∷ os)) c t ≡ last_condition starts (operations_of os) (next_other t o os c) t
   last_more (operation.Test o e) os c t = refl
   last_more (operation.Compute w o e) os c t = refl
@@ -221,7 +225,8 @@ module _ (starts : Starts) where
             ∙ append_assoc old first (others_code starts u (operations_of os) (condition_of starts a t) following (length old + length first) t),
       )
 
-  -- a condition that is a chain of tests, and one that is not
+  -- A condition that is a chain of tests is emitted as tests, and any other chain as a value or a
+  -- comparison.
   pub chain_chosen : (u : LogicalOperator) (a : Expression) (os : Operations) (ty : Ty) (whole : Expression) (answer : Condition) (old new : List Instruction) (t : ℕ) → whole ≡ Binary a os ty → are_tests u os ≡ true
       → (answer ≡ last_condition starts os (condition_of starts a t) t) × (new ≡ old ++ tests_code starts u a os (after_tests starts u a os (length old) t) (length old) t)
       → (answer ≡ choice_of starts u whole t) × (new ≡ old ++ choice_code starts u whole (length old) t)
@@ -254,7 +259,8 @@ pub failed_long : (js : List Pending) (target : ℕ) (code : List Instruction) �
 failed_long [] target code = refl
 failed_long (j ∷ js) target code = failed_long js target (set code j.place (failing_jump j.condition target)) ∙ length-set code j.place (failing_jump j.condition target)
 
--- the remaining pending jumps get the target that the others have
+-- `FailedRest` says that the jumps not visited yet still have to get the target that the other ones
+-- have.
 abbrev pub FailedRest : List Pending → (target : ℕ) → (old : List Instruction) → (i : ℕ) → (code : List Instruction) → Type 0
 FailedRest js target old i code =
     (failed (drop i js) target code ≡ failed js target old) × (length code ≡ target) × AreBefore (drop i js) target
@@ -279,7 +285,7 @@ failed_place js target old i code none inside (rest, long, before) =
 pub failed_done : (js : List Pending) (target : ℕ) (old : List Instruction) (i : ℕ) (code : List Instruction) → length js ≤ i → FailedRest js target old i code → code ≡ failed js target old
 failed_done js target old i code done (rest, long, before) = sym (ap (λ (l : List Pending). failed l target code) (drop_all i js done)) ∙ rest
 
--- the result for a condition is the result for another condition whose code is equal
+-- The emitted result for a condition is also that for another condition whose code is equal.
 same_tested : (last again : Condition) (code other : ℕ → List Instruction) (old new : List Instruction) (tested : Tested) → again ≡ last → ((x : ℕ) → other x ≡ code x) → IsTested last code old new tested → IsTested again other old new tested
 same_tested last again code other old new tested answers same (last_is, aims, before, made) = (
   last_is ∙ sym answers,
@@ -291,12 +297,13 @@ same_tested last again code other old new tested answers same (last_is, aims, be
   made ∙ ap (λ (l : List Instruction). old ++ l) (sym (same 0)),
 )
 
--- without pending jumps, the code has no inner jumps
+-- If no jump waits for its target, the code has no inner jumps.
 pub none_wait : (code : List Instruction) (early : List Pending) (place : ℕ) → early ≡ [] → Aims early (λ x. code) place
 none_wait code early place none = λ old rest target here. ap (λ (l : List Pending). failed l target (old ++ (code ++ rest))) none
 
 module _ (starts : Starts) where
-  -- the pending jumps so far, extended by those of the remaining operands, are all pending jumps
+  -- `EarlyRemain` says that the collected jumps without a target, extended by those of the
+  -- remaining operands, are all of them.
   abbrev pub EarlyRemain : LogicalOperator → Expression → List Operation → (t : ℕ) → (old : List Instruction) → (i : ℕ) → (code : List Instruction) → Condition → List Pending → Type 0
   EarlyRemain u a os t old i code c early =
       OthersRemain starts u a os 0 t old i code c
@@ -337,7 +344,7 @@ module _ (starts : Starts) where
       let (last, made) = others_end starts u a os 0 t old i code c done remains in
       (last, sym (append-nil early) ∙ sym (ap (λ (l : List Operation). early ++ early_jumps starts u l c (length code) t) (drop_all i os done)) ∙ jumps, made)
 
-  -- they are the jumps of the code, which gets other targets through them
+  -- The collected jumps of a chain of tests are exactly those whose target must be set.
   others_aim : (u : LogicalOperator) (os : List Operation) (c : Condition) (t : ℕ) (old rest : List Instruction) (target : ℕ) → all_test u (operations_of os) ≡ true
       → failed (early_jumps starts u os c (length old) t) target (old ++ (others_code starts u (operations_of os) c 0 (length old) t ++ rest)) ≡ old ++ (others_code starts u (operations_of os) c target (length old) t ++ rest)
   others_aim u [] c t old rest target all = refl
@@ -376,7 +383,8 @@ module _ (starts : Starts) where
   others_before u (operation.Pointer o e ∷ os) c p t all = absurd (let z : false ≡ true = all in cc)
   others_before u (operation.PointerPeek n o e ∷ os) c p t all = absurd (let z : false ≡ true = all in cc)
 
-  -- the condition of a branch that is a chain of such tests, and one that is not
+  -- The condition of a branch is emitted in two ways: for a chain of tests by one operator, and for
+  -- any other expression.
   tests_all : (u : LogicalOperator) (os : List Operation) → are_tests u (operations_of os) ≡ true → all_test u (operations_of os) ≡ true
   tests_all u [] tests = refl
   tests_all u (operation.Test o e ∷ os) tests = tests
@@ -427,7 +435,8 @@ module _ (starts : Starts) where
       (λ x. ap (λ (z : Expression). branch_code starts u z x p t) is ∙ ap (λ (b : Bool). if b then tests_code starts u a os x p t else choice_code starts (turned_test u) (Binary a os ty) p t) other ∙ ap (λ (z : Expression). choice_code starts (turned_test u) z p t) (sym is))
       made
 
-  -- a condition that is neither a chain nor a negation is emitted as for the other operator
+  -- `IsBare` says that an expression is neither a chain of tests nor a negation, so that a branch
+  -- emits it as a condition for the other operator.
   abbrev pub IsBare : LogicalOperator → Expression → (t : ℕ) → Type 0
   IsBare u a t = (branch_of starts u a t ≡ choice_of starts (turned_test u) a t) × ((x p : ℕ) → branch_code starts u a x p t ≡ choice_code starts (turned_test u) a p t)
 

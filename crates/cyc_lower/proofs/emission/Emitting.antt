@@ -1,4 +1,4 @@
--- Code that is emitted piece by piece: lists of nodes, nodes with lists, and jumps whose targets are set later.
+-- Code is emitted piece by piece: lists of nodes, nodes with lists, and jumps whose targets are set later.
 use Rattle.std.proofs.Common.{◌≡◌, ℕ, zero, suc, ◌+◌, ◌-◌, ◌<◌, ◌≤◌, Bool, true, false, List, [], ◌∷◌, ◌++◌, length, get_or, drop, set, refl, sym, ap, ◌∙◌, arith, append_assoc, append-nil}
 use Rattle.std.specs.Prelude.{if◌then◌else◌}
 use Rattle.std.proofs.lemmas.List.{drop_all, drop_more, length-append, length-drop}
@@ -58,13 +58,14 @@ operates starts o l r d = omega arith
 
 -- ---- lists
 
--- A list is lowered one node after the other. Each node has a place and a state, such as the next slot. The code of a node may depend on
--- the remaining nodes of the list.
+-- `Lowers` says that a list is lowered one node after the other. Each node has a code position and a state, such as the next slot. The
+-- code of a node may depend on the remaining nodes of the list.
 pub record Lowers {X S : Type 0} (all : List X → ℕ → S → List Instruction) (one : X → List X → ℕ → S → List Instruction) (next : X → List X → S → S) : Type 0 where
   pub none : (p : ℕ) (s : S) → all [] p s ≡ []
   pub more : (x : X) (xs : List X) (p : ℕ) (s : S) → all (x ∷ xs) p s ≡ one x xs p s ++ all xs (p + length (one x xs p s)) (next x xs s)
 
--- the code so far, extended by the code of the rest of the list, is the old code extended by the code of the whole list
+-- `Remains` says that the code so far, extended by the code of the rest of the list, is the old code extended by the
+-- code of the whole list.
 abbrev pub Remains : {X S : Type 0} → (all : List X → ℕ → S → List Instruction) → (old : List Instruction) → (xs : List X) → (first : S) → (i : ℕ) → (code : List Instruction) → S → Type 0
 Remains all old xs first i code s = code ++ all (drop i xs) (length code) s ≡ old ++ all xs (length old) first
 
@@ -96,7 +97,8 @@ module _ {X S : Type 0} (all : List X → ℕ → S → List Instruction) (one :
       ∙ ap (λ (ys : List X). code ++ all ys (length code) s) (sym (drop_all i xs done))
       ∙ r
 
--- The result of the last operator goes to d, and that of any other operator to t.
+-- The result of the last operator of a chain goes to slot `d`, and that of any other operator to
+-- slot `t`.
 next_slot_some : (o : Operation) (os : List Operation) (d t : ℕ) → next_slot (operations_of (o ∷ os)) d t ≡ t
 next_slot_some (operation.Compute w o e) os d t = refl
 next_slot_some (operation.Test o e) os d t = refl
@@ -111,7 +113,7 @@ pub slot_at_end : (os : List Operation) (d t : ℕ) → length os ≡ 0 → next
 slot_at_end [] d t none = refl
 slot_at_end (o ∷ os) d t none = absurd (omega (arith, none))
 
--- the words passed so far and those of the remaining arguments are all passed words
+-- The words passed so far and those of the remaining arguments are all passed words.
 pub passed_on : (cs : List ConvertedCode) (i slot first : ℕ) (c : ConvertedCode) → i < length cs → c ≡ get_or cs i c → slot + all_passed (arguments_of (drop i cs)) ≡ first + all_passed (arguments_of cs)
     → slot + words_of_kind c.to + all_passed (arguments_of (drop (i + 1) cs)) ≡ first + all_passed (arguments_of cs)
 passed_on cs i slot first c inside at left =
@@ -132,7 +134,8 @@ binary_viewed value b v t is first at items same =
 
 -- ---- targets that are set later
 
--- an instruction whose target is the place after the body that follows it
+-- The module assumes an instruction that jumps over the body after it, and whose target is set once
+-- the body is emitted.
 module _ (old : List Instruction) (x : Instruction) (body : ℕ → List Instruction) (jump : ℕ → Instruction) (begun made patched : List Instruction) where
   pub written_back : begun ≡ old ++ x ∷ [] → made ≡ begun ++ body (length begun) → patched ≡ set made (length old) (jump (length made))
       → patched ≡ old ++ jump (length old + 1 + length (body (length old + 1))) ∷ body (length old + 1)
@@ -147,7 +150,8 @@ module _ (old : List Instruction) (x : Instruction) (body : ℕ → List Instruc
       ∙ ap (λ (l : List Instruction). set l (length old) (jump (length old + 1 + length (body (length old + 1))))) inside
       ∙ set-append_seam old x (body (length old + 1)) (jump (length old + 1 + length (body (length old + 1))))
 
--- a test: the jump, the operand, the target of the jump, and the truth value of the operand
+-- The module assumes the code of a test: the jump, the operand, the target of the jump, and the
+-- truth value of the operand.
 module _ (old : List Instruction) (x : Instruction) (body : ℕ → List Instruction) (jump : ℕ → Instruction) (begun made patched new last : List Instruction) (place : ℕ) (here : place ≡ length old) (target : ℕ) where
   pub tested : begun ≡ old ++ x ∷ [] → made ≡ begun ++ body (length begun) → target ≡ length made → patched ≡ set made place (jump target) → new ≡ patched ++ last
       → new ≡ old ++ (jump (length old + 1 + length (body (length old + 1))) ∷ (body (length old + 1) ++ last))
@@ -158,24 +162,26 @@ module _ (old : List Instruction) (x : Instruction) (body : ℕ → List Instruc
       (written_back old x body jump begun made patched b m (p ∙ ap (λ (k : ℕ). set made k (jump target)) here ∙ ap (λ (k : ℕ). set made (length old) (jump k)) t))
       ∙ append_assoc old all last
 
--- the second piece is emitted for the place after the first one
+-- If two pieces of code are emitted one after the other, the second is emitted for the position
+-- after the first.
 pub emitted_joined : (old x : List Instruction) (y : ℕ → List Instruction) (m1 m2 : List Instruction) → m1 ≡ old ++ x → m2 ≡ m1 ++ y (length m1) → m2 ≡ old ++ (x ++ y (length old + length x))
 emitted_joined old x y m1 m2 e1 e2 =
     let place = length old + length x in
     e2 ∙ ap (λ (n : ℕ). m1 ++ y n) (ap length e1 ∙ length-append old x) ∙ ap (λ (l : List Instruction). l ++ y place) e1 ∙ append_assoc old x (y place)
 
--- adding instructions to code does not make the code shorter
+-- Appending instructions to code does not make the code shorter.
 pub no_shorter_than : (old more new : List Instruction) → new ≡ old ++ more → length old ≤ length new
 no_shorter_than old more new is = let e : length new ≡ length (old ++ more) = ap length is in omega (arith, e, length-append old more)
 
--- the slot for the result of an operator, by the number of following operators
+-- The slot for the result of an operator is determined by the number of operators that follow in
+-- the chain.
 pub slot_by_count : (xs : List Operation) (i many to d t : ℕ) → many + (i + 1) ≡ length xs → (many ≡ 0 → to ≡ d) → (0 < many → to ≡ t) → to ≡ next_slot (operations_of (drop (i + 1) xs)) d t
 slot_by_count xs i zero to d t counted none some = none refl ∙ sym (slot_at_end (drop (i + 1) xs) d t (omega (arith, length-drop (i + 1) xs, counted)))
 slot_by_count xs i (suc many) to d t counted none some = some (omega arith) ∙ sym (slot_after (drop (i + 1) xs) d t (omega (arith, length-drop (i + 1) xs, counted)))
 
 -- ---- new objects
 
--- the code that counts the elements of a fat pointer in a slot
+-- Returns the code that counts the elements of a fat pointer into a slot.
 abbrev counting_code : (d length index none past : ℕ) → List Instruction
 counting_code d length index none past =
     instructions.Branch comparisons.LessUnsigned (operands.Slot length) (operands.Slot index) none
@@ -218,7 +224,7 @@ made_begun starts old m1 m2 handle kind following t is e1 e2 =
     ∙ ap (λ (l : List Instruction). l ++ asked_code handle kind (t + 3) t) (e1 ∙ ap (λ (n : ℕ). old ++ measured_code starts kind n (following - 1) t) x ∙ ap (λ (n : ℕ). old ++ measured_code starts kind (t + 1) n t) y)
     ∙ append_assoc old (measured_code starts kind (t + 1) (t + 2) t) (asked_code handle kind (t + 3) t)
 
--- the elements of an array, whose loop begins at place `head`
+-- The code of a new array's elements is emitted as a loop that begins at position `head`.
 pub made_elements : (starts : Starts) (counters : List ℕ) (a : Expression) (old begun made filled patched new : List Instruction) (x : Instruction) (last : Condition) (kind : Kind) (head following d t : ℕ) → following ≡ t + 3
     → counters ≡ starts.counters ++ (following - 1) ∷ [] → head ≡ length old → begun ≡ old ++ x ∷ []
     → made ≡ begun ++ expression_code (record { locals = starts.locals; tag_slot = starts.tag_slot; structs = starts.structs; raises = starts.raises; counters = counters; globals = starts.globals; scopes = starts.scopes }) a (length begun) following following
@@ -250,7 +256,8 @@ made_elements starts counters a old begun made filled patched new i last kind he
 
 -- ---- words of globals
 
--- the instructions so far, extended by those for the remaining words, are all instructions
+-- `WordsLeft` says that the instructions so far, extended by those for the remaining words, are all
+-- instructions.
 abbrev pub WordsLeft : (each : (global slot : ℕ) → Instruction) → (old code : List Instruction) → (words first slot i : ℕ) → Type 0
 WordsLeft each old code words first slot i =
     (left : ℕ) × (i + left ≡ words) × (code ++ word_by_word each left (first + i) (slot + i) ≡ old ++ word_by_word each words first slot)

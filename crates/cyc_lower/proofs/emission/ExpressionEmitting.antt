@@ -149,7 +149,7 @@ module _ (starts : Starts) where
         initial_by (converts_there from to) (source_of starts (Convert from to a)) (brought_code starts (Convert from to a) p d t) (brought_code starts (Convert from to a) p slot t) from to (span_of a) (converted_operand starts (Convert from to a) t) p d
         (brought_by_some (masks from to) (operand_of starts a) (expression_code starts a p d t) (expression_code starts a p (value_slot starts a t) t) (value_operand starts a t) d (expression_some a p d t))
 
-  -- the code of arguments; the state is the slot of the next one
+  -- Returns the code of the arguments of a call; its state is the slot of the next argument.
   abbrev pub all_arguments : List ConvertedCode → (p t : ℕ) → List Instruction
   all_arguments cs p t = arguments_code starts (arguments_of cs) p t
 
@@ -162,7 +162,8 @@ module _ (starts : Starts) where
   pub arguments_lower : Lowers all_arguments one_argument next_argument
   arguments_lower = record { none = λ p t. refl; more = λ x xs p t. refl }
 
-  -- the code of the argument of `putchar`; the state is the operand of its value
+  -- Returns the code of the argument of `putchar`; its state is the operand of the argument's
+  -- value.
   abbrev pub all_printed : ℕ → List ConvertedCode → ℕ → Operand → List Instruction
   all_printed t cs p o = printed_code starts (arguments_of cs) p t
 
@@ -175,14 +176,15 @@ module _ (starts : Starts) where
   pub printed_lower : (t : ℕ) → Lowers (all_printed t) (one_printed t) (next_printed t)
   printed_lower t = record { none = λ p o. refl; more = λ x xs p o. refl }
 
-  -- the operand of the value at the end
+  -- `PrintedLeft` says that the operand `o` becomes the operand of the printed value after the
+  -- remaining arguments.
   abbrev pub PrintedLeft : List ConvertedCode → (i : ℕ) → Operand → ℕ → Type 0
   PrintedLeft cs i o t = printed_operand starts (arguments_of (drop i cs)) o t ≡ printed_operand starts (arguments_of cs) (operands.Slot t) t
 
   pub printed_done : (cs : List ConvertedCode) (i : ℕ) (o : Operand) (t : ℕ) → length cs ≤ i → PrintedLeft cs i o t → o ≡ printed_operand starts (arguments_of cs) (operands.Slot t) t
   printed_done cs i o t done left = sym (ap (λ (ys : List ConvertedCode). printed_operand starts (arguments_of ys) o t) (drop_all i cs done)) ∙ left
 
-  -- the code of a chain; the state is the left operand
+  -- Returns the code of a chain of operators; its state is the left operand of the next operator.
   abbrev pub all_operations : (d t : ℕ) → List Operation → ℕ → Operand → List Instruction
   all_operations d t os p l = operations_code starts (operations_of os) p l d t
 
@@ -204,7 +206,7 @@ module _ (starts : Starts) where
 
   -- ---- nodes with lists
 
-  -- the type of the result of a call does not affect its code
+  -- The type of a call's result does not affect the code of the call.
   pub call_alike : (f : Callee) (cs : Arguments) (ty other : ValueType) (p d t : ℕ) → expression_code starts (Call f cs ty) p d t ≡ expression_code starts (Call f cs other) p d t
   call_alike callees.Putchar cs ty other p d t = refl
   call_alike callees.Getchar cs ty other p d t = refl
@@ -238,14 +240,14 @@ module _ (starts : Starts) where
         emitted_joined old (arguments_code starts (arguments_of items) (length old) t) (λ p. instructions.Call n t all d ∷ []) m1 m2 e1 (e2 ∙ ap (λ k. m1 ++ instructions.Call n t k d ∷ []) counted)
         ∙ ap (λ (g : Callee). old ++ expression_code starts (Call g (arguments_of items) Void) (length old) d t) (sym is)
 
-  -- a call as an expression
+  -- The code emitted for a call is the code of the call as an expression.
   pub made_called : (value : Expr) {w : Span} (f : Callee) (v : Vec ConvertedCode Heap) (ty : ValueTypeCode) (items : List ConvertedCode) (old new : List Instruction) (d t : ℕ) → value ≡ expr.Call w f v ty → items ≡ v.items
       → new ≡ old ++ expression_code starts (Call f (arguments_of items) Void) (length old) d t → new ≡ old ++ expression_code starts (view_expression value) (length old) d t
   made_called value f v ty items old new d t is same made =
       made ∙ ap (λ (l : List Instruction). old ++ l) (call_alike f (arguments_of items) Void (view_value_type ty) (length old) d t)
       ∙ ap (λ (a : Expression). old ++ expression_code starts a (length old) d t) (sym (call_viewed value f v ty is items same))
 
-  -- a new struct with its fields
+  -- The code of a new struct consists of the code of its fields and the code that allocates it.
   pub made_fields : (value : InitialCode) (v : Vec ConvertedCode Heap) (items : List ConvertedCode) (ks : List Kind) (old m1 m2 : List Instruction) (handle : Operand) (d t : ℕ) → value ≡ initial.Fields v → items ≡ v.items → ks ≡ kinds_passed (arguments_of items)
       → m1 ≡ old ++ arguments_code starts (arguments_of items) (length old) t → m2 ≡ m1 ++ object_code handle ks d t → m2 ≡ old ++ made_code starts (view_initial value) handle (length old) d t
   made_fields value v items ks old m1 m2 handle d t is same ks_are first second =
@@ -271,11 +273,12 @@ module _ (starts : Starts) where
       (e2 ∙ ap (λ (os' : List Operation). m1 ++ operations_code starts (operations_of os') (length m1) l d t) (same_others ∙ sym same) ∙ ap (λ (o : Operand). m1 ++ operations_code starts os (length m1) o d t) l_is)
       ∙ ap (λ (x : Expression). old ++ expression_code starts x (length old) d t) (sym (binary_viewed value b v ty is first at items same))
 
-  -- after a left operand there is room for the chain
+  -- After the left operand of a chain is emitted, the number of the next free slot is still within
+  -- the limit.
   pub room_following : (a : Expression) (os : Operations) (old new : List Instruction) (d t : ℕ) → t ≤ most_locals + length old → new ≡ old ++ left_code starts a os (length old) d t → t ≤ most_locals + length new
   room_following a os old new d t low is = omega (arith, low, no_shorter_than old _ new is)
 
-  -- a left operand with code
+  -- If the left operand of a chain needs code, its value is moved to the slot `left_slot`.
   left_plain : (a : Expression) (os : List Operation) (d t to : ℕ) → takes_operand starts (operations_of os) ≡ false → (length os ≡ 0 → to ≡ d) → (0 < length os → to ≡ t)
       → (left_of starts a (operations_of os) ≡ None) × (to ≡ left_slot starts a (operations_of os) d t)
   left_plain a [] d t to plain none some = (refl, none refl)
@@ -298,7 +301,7 @@ module _ (starts : Starts) where
         is ∙ ap (λ (n : ℕ). old ++ expression_code starts a (length old) n t) slot ∙ sym (ap (λ (k : Option Operand). old ++ code_unless k (expression_code starts a (length old) there t)) unknown),
       )
 
-  -- a left operand without code
+  -- If the left operand of a chain needs no code, it is used as an operand directly.
   pub made_left_operand : (a : Expression) (os : Operations) (old : List Instruction) (d t : ℕ) → takes_operand starts os ≡ true
       → (value_operand starts a t ≡ operand_or (left_of starts a os) (left_slot starts a os d t)) × (value_code starts a (length old) t ≡ left_code starts a os (length old) d t)
   made_left_operand a (ThenCompute o b os) old d t takes = by (is_simple starts b) takes
@@ -333,11 +336,12 @@ module _ (starts : Starts) where
       (e2 ∙ ap (λ (x : Operand). m1 ++ operator_code starts o l x d) (r_is ∙ ap (value_operand starts a) next))
       ∙ ap (λ (x : Operation). old ++ operation_code starts x (length old) l d t) (sym is)
 
-  -- after one operator there is room for the following ones
+  -- After one operator of a chain is emitted, the number of the next free slot is still within the
+  -- limit.
   pub room_after : (x : Operation) (old new : List Instruction) (l : Operand) (d t : ℕ) → t ≤ most_locals + length old → new ≡ old ++ operation_code starts x (length old) l d t → t ≤ most_locals + length new
   room_after x old new l d t low is = omega (arith, low, no_shorter_than old _ new is)
 
-  -- the byte that `putchar` prints
+  -- After its argument, the code of `putchar` prints the low byte of the argument's operand.
   pub made_print : (items : List ConvertedCode) (old code new : List Instruction) (i : ℕ) (byte : Operand) (t : ℕ) → length items ≤ i
       → Remains (all_printed t) old items (operands.Slot t) i code byte → PrintedLeft items i byte t → new ≡ code ++ instructions.WriteByte byte ∷ []
       → (byte ≡ printed_operand starts (arguments_of items) (operands.Slot t) t) × (new ≡ old ++ print_code starts (arguments_of items) (length old) t)
@@ -349,7 +353,7 @@ module _ (starts : Starts) where
         emitted_joined old (printed_code starts (arguments_of items) (length old) t) (λ p. instructions.WriteByte o ∷ []) code new made (is ∙ ap (λ (b : Operand). code ++ instructions.WriteByte b ∷ []) byte_is),
       )
 
-  -- a call whose value is dropped, as an expression
+  -- The type of a call's result does not affect the code of a call whose value is dropped.
   discarded_alike : (f : Callee) (cs : Arguments) (ty other : ValueType) (p t : ℕ) → discarded_code starts (Call f cs ty) p t ≡ discarded_code starts (Call f cs other) p t
   discarded_alike callees.Putchar cs ty other p t = refl
   discarded_alike callees.Getchar cs ty other p t = refl
@@ -367,7 +371,7 @@ module _ (starts : Starts) where
   assigned_code (Local w n) c ty p d t = refl
   assigned_code (Global n) c ty p d t = refl
 
-  -- an assignment whose value is moved to a slot afterwards
+  -- The code of an assignment expression assigns the value and then moves it to a slot.
   pub made_assigned : (value : Expr) (l : LvalueCode) (b : Box ConvertedCode Heap) (ty : ValueTypeCode) → value ≡ expr.Assign l b ty → (x : ConvertedCode) → x ≡ b.value → (old m1 m2 : List Instruction) (o : Operand) (d t : ℕ)
       → o ≡ assigned_operand starts (view_lvalue l) (view_converted x) t → m1 ≡ old ++ assignment_code starts (view_lvalue l) (view_converted x) (length old) t → m2 ≡ m1 ++ copy_code (words_of_kind x.to) o d
       → m2 ≡ old ++ expression_code starts (view_expression value) (length old) d t
@@ -383,7 +387,8 @@ module _ (starts : Starts) where
 
   -- ---- written cells
 
-  -- the address of a place is in a slot, so there are as many instructions as slots
+  -- The code that puts an address into a slot has at least one instruction, so the next slot is
+  -- within the limit.
   pub room_for_right : (x : Dereference) (old new : List Instruction) (t : ℕ) → t ≤ most_locals + length old
       → new ≡ old ++ addressed_by (place_code starts x (length old) t) (place_operand starts x t) (place_offset starts x) t → t < most_locals + length new
   room_for_right x old new t low made =
@@ -398,7 +403,8 @@ module _ (starts : Starts) where
       ∙ ap (λ (z : DereferenceCode). Store (view_dereference z) (view_converted b'.value) (view_value_type ty)) (sym x_at)
       ∙ ap (λ (z : ConvertedCode). Store (view_dereference x) (view_converted z) (view_value_type ty)) (sym y_at)
 
-  -- an index is compared with a length, and a jump skips the code that chooses the exception
+  -- The code that checks an index compares it with a length, and a jump skips the code that chooses
+  -- the exception.
   pub made_inside : (old new : List Instruction) (n m following here : ℕ) → following ≡ n + 3 → here ≡ length old
       → new
       ≡ old
@@ -413,7 +419,8 @@ module _ (starts : Starts) where
       ∙ ap (λ (x : ℕ). old ++ instructions.Branch comparisons.LessUnsigned (operands.Slot m) (operands.Slot x) (here + 3) ∷ question ∷ jump ∷ []) bound
       ∙ ap (λ (x : ℕ). old ++ instructions.Branch comparisons.LessUnsigned (operands.Slot m) (operands.Slot (n + 1)) (x + 3) ∷ question ∷ jump ∷ []) here_is
 
-  -- an access, whose index is scaled first
+  -- The code of an access through a fat pointer scales the index, checks it and adds it to the
+  -- address.
   pub made_reached : (span : Option ℕ) (old m1 m2 m3 : List Instruction) (n m t distance : ℕ) → distance ≡ t + 3 → m1 ≡ old ++ scaled_code span m distance → m2 ≡ m1 ++ inside_code starts n m (length m1)
       → m3 ≡ m2 ++ summed_code span n distance t → m3 ≡ old ++ reached_code starts span n m t (length old)
   made_reached span old m1 m2 m3 n m t distance distance_is e1 e2 e3 =
@@ -423,7 +430,8 @@ module _ (starts : Starts) where
       let last : m3 ≡ m2 ++ summed = e3 ∙ ap (λ (x : ℕ). m2 ++ summed_code span n x t) distance_is in
       emitted_joined old scaled (λ p. inside_code starts n m p ++ summed) m1 m3 first (emitted_joined m1 (inside_code starts n m (length m1)) (λ p. summed) m2 m3 e2 last)
 
-  -- the third word of a fat pointer changes, and the access follows
+  -- The code of an element access changes the third word of the fat pointer and then accesses its
+  -- cell.
   pub made_element : (span : Option ℕ) (old m1 m2 : List Instruction) (o : Operand) (n past following t : ℕ) → past ≡ n + 3 → following ≡ t + 3
       → m1 ≡ old ++ instructions.Binary plain_binary.Add (following - 1) (operands.Slot (past - 1)) o ∷ []
       → m2 ≡ m1 ++ reached_code starts span n (following - 1) t (length m1)
@@ -438,14 +446,14 @@ module _ (starts : Starts) where
       ∙ ap (λ (x : ℕ). old ++ instructions.Binary plain_binary.Add (t + 2) (operands.Slot x) o ∷ []) third in
       emitted_joined old (sum ∷ []) (λ p. reached_code starts span n (t + 2) t p) m1 m2 summed (e2 ∙ ap (λ (x : ℕ). m1 ++ reached_code starts span n x t (length m1)) less)
 
-  -- the code of the address, followed by that of the stored value
+  -- The code of a store consists of the code of the address, followed by that of the stored value.
   made_store : (x : Dereference) (c : Converted) (old m1 m2 : List Instruction) (t : ℕ)
       → m1 ≡ old ++ addressed_by (place_code starts x (length old) t) (place_operand starts x t) (place_offset starts x) t
       → m2 ≡ m1 ++ (converted_operand_code starts c (length m1) (t + 1) ++ saved_code (kind_passed c) t (converted_operand starts c (t + 1))) → m2 ≡ old ++ store_code starts x c (length old) t
   made_store x c old m1 m2 t e1 e2 =
       emitted_joined old (store_address_code starts x (length old) t) (λ p. converted_operand_code starts c p (t + 1) ++ saved_code (kind_passed c) t (converted_operand starts c (t + 1))) m1 m2 e1 e2
 
-  -- a value that is stored in a cell and then moved to a slot
+  -- The code of a store expression stores the value in a cell and then moves it to a slot.
   pub made_stored : (value : Expr) (b : Box DereferenceCode Heap) (b' : Box ConvertedCode Heap) (ty : ValueTypeCode) → value ≡ expr.Store b b' ty → (x : DereferenceCode) → x ≡ b.value → (y : ConvertedCode) → y ≡ b'.value
       → (old m1 m2 m3 : List Instruction) (o : Operand) (d t : ℕ) → o ≡ converted_operand starts (view_converted y) (t + 1)
       → m1 ≡ old ++ addressed_by (place_code starts (view_dereference x) (length old) t) (place_operand starts (view_dereference x) t) (place_offset starts (view_dereference x)) t
@@ -457,7 +465,7 @@ module _ (starts : Starts) where
       ∙ ap (λ (q : Operand). old ++ (front ++ copy_code (words_of_kind y.to) q d)) o_is
       ∙ ap (λ (z : Expression). old ++ expression_code starts z (length old) d t) (sym (stored_viewed value b b' ty is x x_at y y_at))
 
-  -- a value that is stored in a cell and then dropped
+  -- The code of a store whose value is dropped only stores the value in a cell.
   pub made_stored_only : (value : Expr) (b : Box DereferenceCode Heap) (b' : Box ConvertedCode Heap) (ty : ValueTypeCode) → value ≡ expr.Store b b' ty → (x : DereferenceCode) → x ≡ b.value → (y : ConvertedCode) → y ≡ b'.value
       → (old m1 m2 : List Instruction) (t : ℕ)
       → m1 ≡ old ++ addressed_by (place_code starts (view_dereference x) (length old) t) (place_operand starts (view_dereference x) t) (place_offset starts (view_dereference x)) t

@@ -1,5 +1,5 @@
--- Code of loops that is emitted piece by piece, with two jumps whose targets are set later. One of these jumps leads to the end, and the
--- other to a condition that is only after the body.
+-- The code of loops is emitted piece by piece, with two jumps whose targets are set later. One jump goes to the end of the loop, the
+-- other to the condition after the body.
 use Rattle.std.proofs.Common.{◌≡◌, ℕ, ◌+◌, Bool, true, false, List, [], ◌∷◌, ◌++◌, length, set, refl, sym, ap, ◌∙◌, arith, append_assoc, subst}
 use Rattle.std.specs.Prelude.{if◌then◌else◌}
 use Rattle.std.proofs.lemmas.List.{length-append, length-set}
@@ -24,7 +24,7 @@ use Rattle.cyc_types.specs.declared.typed.Stmt.{Stmt}
 use Rattle.cyc_types.specs.declared.typed.Stmt.TheVariants as stmt
 use Rattle.cyc_types.specs.TypedTreeView.{view_expression, view_statement}
 
--- setting the place of the condition of a loop does not change the length of its code
+-- Setting the target of a loop's entry does not change the length of the code.
 pub entering_keeps : (starts : Starts) (a : Expression) (code : List Instruction) (head : ℕ) (new : List Instruction) → new ≡ entered_loop starts a code head → length new ≡ length code
 entering_keeps starts a code head new is = ap length is ∙ by (is_guard starts a)
   where
@@ -32,7 +32,7 @@ entering_keeps starts a code head new is = ap length is ∙ by (is_guard starts 
     by true = refl
     by false = length-set code head (instructions.Jump (length code))
 
--- a condition that may be emitted twice leads into a loop
+-- If the condition of a loop may be emitted twice, its first copy enters the loop.
 pub entered_first : (starts : Starts) (a : Expression) (t : ℕ) (o : Condition) (old m1 m2 : List Instruction) (body : ℕ) → is_guard starts a ≡ true → o ≡ choice_of starts logical.AndThen a t
     → m1 ≡ old ++ choice_code starts logical.AndThen a (length old) t → body ≡ length m1 + 2 → m2 ≡ m1 ++ holding_jump o body ∷ [] → m2 ≡ old ++ begun_loop starts a (length old) t
 entered_first starts a t o old m1 m2 body guarded is made there jumps =
@@ -47,7 +47,7 @@ entered_first starts a t o old m1 m2 body guarded is made there jumps =
     ∙ append_assoc old condition (holding_jump answer (p + length condition + 1 + 1) ∷ [])
     ∙ ap (λ (s : Bool). old ++ entry_code s condition (holding_jump answer) 0 p) (sym guarded)
 
--- code whose first piece leads into a loop, with the following pieces
+-- The module assumes the code of a loop's entry, with the pieces that follow it.
 module _ (guarded : Bool) (old condition : List Instruction) (jump : ℕ → Instruction) (y test : Instruction) (body again : List Instruction) (m1 m2 m3 m4 m5 m6 m7 : List Instruction) where
   abbrev entry : (place : ℕ) → List Instruction
   entry place = entry_code guarded condition jump place (length old)
@@ -86,7 +86,7 @@ module _ (guarded : Bool) (old condition : List Instruction) (jump : ℕ → Ins
       ∙ set-append_seam before y whole (instructions.Jump (length m6))
       ∙ append_assoc old first (instructions.Jump (length m6) ∷ whole)
 
-  -- the places of the parts
+  -- The parts of a loop begin at the positions computed from the lengths of the parts before them.
   pub parts_long : m1 ≡ old ++ entry 0 → m2 ≡ m1 ++ y ∷ [] → m3 ≡ m2 ++ body → m4 ≡ (if guarded then m3 else set m3 (length old) (instructions.Jump (length m3))) → m5 ≡ m4 ++ again → m6 ≡ m5 ++ test ∷ []
       → (leaving : ℕ) → leaving ≡ length old + entry_length guarded condition
       → (length m1 ≡ leaving) × (length m2 ≡ body_target leaving) × (length m3 ≡ body_target leaving + length body) × (length m4 ≡ body_target leaving + length body) × (length m6 ≡ body_target leaving + length body + length again + 1)
@@ -143,7 +143,7 @@ module _ (starts : Starts) (a : Expression) (s : Statement) (exits : Exits) (d :
       ∙ ap (λ (c : List Instruction). old ++ (entry_code guarded condition jump r begin ++ (instructions.Jump (r + length (choice_code starts logical.AndThen a r d) + 1) ∷ ((final ++ c) ++ test ∷ [])))) after_is
       ∙ ap (λ (i : Instruction). old ++ (entry_code guarded condition jump r begin ++ (instructions.Jump (r + length (choice_code starts logical.AndThen a r d) + 1) ∷ ((final ++ choice_code starts logical.AndThen a r d) ++ i ∷ [])))) test_is
 
--- a loop whose first copy of the condition leads to its end
+-- The module concerns a loop whose first copy of the condition jumps to the loop's end if it fails.
 module _ (starts : Starts) (a : Expression) (s : Statement) (exits : Exits) (d : ℕ) (first last : Condition) (first_is : first ≡ choice_of starts logical.OrElse a d) (last_is : last ≡ choice_of starts logical.AndThen a d) (old : List Instruction) (y : Instruction) (m0 m1 m2 m3 m4 m5 m6 : List Instruction) (head over again end : ℕ) (here : head ≡ length old) where
   pub made_through : m0 ≡ old ++ choice_code starts logical.OrElse a (length old) d → over ≡ length m0 → m1 ≡ m0 ++ y ∷ [] → again ≡ length m1 → m2 ≡ m1 ++ statement_code starts s (length m1) (inside_loop head head exits) d
       → m3 ≡ m2 ++ choice_code starts logical.AndThen a (length m2) d → m4 ≡ m3 ++ holding_jump last again ∷ [] → m5 ≡ set m4 over (failing_jump first (length m4)) → end ≡ length m5 + 1 → m6 ≡ m5 ++ instructions.Jump end ∷ []
@@ -199,7 +199,8 @@ module _ (starts : Starts) (a : Expression) (s : Statement) (exits : Exits) (d :
       ∙ ap (λ (l : List Instruction). l ++ (leave ∷ ((body ++ condition) ++ (back ∷ tail)))) e0
       ∙ append_assoc old front (leave ∷ ((body ++ condition) ++ (back ∷ tail)))
 
--- the choice between the two kinds of loops
+-- The code of a `while` statement is one of two kinds of loops, chosen by its condition and its
+-- body.
 module _ (starts : Starts) (value : Stmt) {w : Span} (e : Expr) (b : Box Stmt Heap) (is : value ≡ stmt.While w e b) (body : Stmt) (at : body ≡ b.value) (exits : Exits) (d : ℕ) (old new : List Instruction) where
   while_viewed : (p : ℕ) → statement_code starts (While (place_of_span w) (view_expression e) (view_statement body)) p exits d ≡ statement_code starts (view_statement value) p exits d
   while_viewed p = sym (ap (λ (x : Stmt). statement_code starts (view_statement x) p exits d) is ∙ ap (λ (z : Stmt). statement_code starts (While (place_of_span w) (view_expression e) (view_statement z)) p exits d) (sym at))

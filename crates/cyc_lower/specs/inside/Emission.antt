@@ -1,4 +1,4 @@
--- The contract of the code emitter: how its functions extend the code emitted so far.
+-- The contracts of the code emitter state how its functions extend the code emitted so far.
 use Rattle.std.specs.Prelude.{◌≡◌, ℕ, suc, ◌+◌, ◌^◌, ◌≤◌, ◌<◌, Bool, false, if◌then◌else◌, Option, IfOk, List, [], ◌∷◌, ◌++◌, length, map, set, Some, None, option_map, Result, OnOk, slice_get}
 use Rattle.std.specs.declared.alloc.AllocError.{AllocError}
 use Rattle.cyc_types.specs.declared.typed.Operation.{Operation}
@@ -36,108 +36,115 @@ use Rattle.cyc_lower.specs.declared.conditions.Pending.{Pending}
 use Rattle.cyc_lower.specs.declared.conditions.Tested.{Tested}
 use Rattle.cyc_lower_proof.specs.declared.exits.Exits.{Exits}
 
--- true if the function adds this code after the old code, unless memory runs out
+-- `Appends` says that a function appends this code to the old code, unless memory runs out.
 abbrev pub Appends : {T : Type 0} → Result T AllocError → (old new : Emitter) → List Instruction → Type 0
 Appends result old new code = OnOk result (new.code.items ≡ old.code.items ++ code)
 
--- true if the function adds this code after the old code and returns this value, unless memory runs out
+-- `Gives` says that a function appends this code to the old code and returns this value, unless memory
+-- runs out.
 abbrev pub Gives : {T : Type 0} → T → Result T AllocError → (old new : Emitter) → List Instruction → Type 0
 Gives answer result old new code = IfOk result (λ given. (given ≡ answer) × (new.code.items ≡ old.code.items ++ code))
 
--- the first slots, words and places, as the code represents them
+-- Returns the mathematical form of the record `Starts`: the first slots of locals, words of globals
+-- and code positions.
 abbrev pub view_starts : StartsCode → Starts
 view_starts starts = record { locals = starts.locals.now; tag_slot = starts.tag_slot; structs = map view_struct starts.structs.now; raises = starts.raises; counters = starts.counters.now; globals = starts.globals.now; scopes = starts.scopes }
 
--- Slots are numbers that fit in a word. A function has fewer locals than this. A function uses at most as many temporaries at a time as
--- there are previous instructions.
+-- The limit of slot numbers, so that they fit a word. A function has fewer locals than this limit, and at most as many temporaries at a
+-- time as instructions before them.
 abbrev pub most_locals : ℕ
 most_locals = 2 ^ 32
 
--- true if an item of a block may leave the enclosing loop by a `break`
+-- Returns true if an item of a block may leave the enclosing loop by a `break`.
 abbrev pub item_breaks : Item → Bool
 item_breaks (item.Execute s) = breaks (view_statement s)
 item_breaks i = false
 
--- true if this expression is a chain of these operators
+-- `IsChain` says that an expression is the chain of these operators after the first operand.
 abbrev pub IsChain : (whole first : Expression) → Operations → Type 0
 IsChain whole first os = (ty : Ty) × (whole ≡ Binary first os ty)
 
--- true if the operation is a test by this operator
+-- Returns true if an operation is a test by this logical operator.
 abbrev pub is_test : LogicalOperator → Operation → Bool
 is_test u (operation.Test o e) = is_same u o
 is_test u o = false
 
--- for an operator that compares with null, the comparison that holds if it fails
+-- Returns, for an operator that compares with null, the comparison with 0 that holds if the
+-- operator's comparison fails.
 abbrev pub null_operation : Operation → Option Comparison
 null_operation (operation.Pointer o e) = null_compared o (view_expression e)
 null_operation (operation.PointerPeek n o e) = null_compared o (view_expression e)
 null_operation o = None
 
--- for an operator that compares its two operands, the comparison that holds if it fails
+-- Returns, for an operator that compares its two operands, the comparison that holds if the
+-- operator's comparison fails.
 abbrev pub pair_operation : Operation → Option Comparison
 pair_operation (operation.Compute w o e) = failing_comparison o
 pair_operation (operation.Pointer o e) = pointers_failing o
 pair_operation (operation.PointerPeek n o e) = pointers_failing o
 pair_operation (operation.Test o e) = None
 
--- the right operand of an operation
+-- Returns the right operand of an operator in a chain.
 abbrev pub right_of : Operation → Expression
 right_of (operation.Compute w o e) = view_expression e
 right_of (operation.Test o e) = view_expression e
 right_of (operation.Pointer o e) = view_expression e
 right_of (operation.PointerPeek n o e) = view_expression e
 
--- the code after pending jumps have got this target, which they take if their conditions fail
+-- Returns the code in which the reserved jumps, which are taken if their conditions fail, have this
+-- target.
 abbrev pub failed : List Pending → (target : ℕ) → List Instruction → List Instruction
 failed [] target code = code
 failed (j ∷ js) target code = failed js target (set code j.place (failing_jump j.condition target))
 
--- true if the pending jumps are before a place
+-- `AreBefore` says that all reserved jumps are before a code position.
 abbrev pub AreBefore : List Pending → (place : ℕ) → Type 0
 AreBefore [] place = Unit {0}
 AreBefore (j ∷ js) place = (j.place < place) × AreBefore js place
 
--- Setting the targets of these jumps turns code for target 0 into code for any other target, if the code begins at this place.
+-- `Aims` says that setting the targets of these jumps turns code for target 0 into code for any other target, if the code
+-- begins at this position.
 abbrev pub Aims : List Pending → (code : ℕ → List Instruction) → (place : ℕ) → Type 0
 Aims early code place =
     (old rest : List Instruction) (target : ℕ) → length old ≡ place → failed early target (old ++ (code 0 ++ rest)) ≡ old ++ (code target ++ rest)
 
--- The condition of a branch is emitted, with target 0 for its inner jumps, and these jumps are returned.
+-- `IsTested` says that the condition of a branch is emitted, with target 0 for its inner jumps, and that
+-- these jumps are returned.
 abbrev pub IsTested : Condition → (code : ℕ → List Instruction) → (old new : List Instruction) → Tested → Type 0
 IsTested last code old new tested =
     (tested.last ≡ last) × Aims tested.early.items code (length old) × AreBefore tested.early.items (length new) × (new ≡ old ++ code 0)
 
 module _ (starts : Starts) where
-  -- the code of an expression that is an operand
+  -- Returns the code of an expression that is used as an operand.
   abbrev pub value_code : Expression → (p t : ℕ) → List Instruction
   value_code a p t = code_unless (operand_of starts a) (expression_code starts a p (value_slot starts a t) t)
 
-  -- the condition that compares an operand without a comparison with 0
+  -- Returns the condition that compares an operand, which is not a comparison itself, with 0.
   abbrev pub zero_condition : Expression → (t : ℕ) → Condition
   zero_condition a t = record { failing = comparisons.Equal; left = value_operand starts a t; right = Word 0 }
 
-  -- the condition that compares such an operand with 0 by another comparison
+  -- Returns the condition that compares an operand with 0 by the comparison `failing`.
   abbrev pub null_condition : Comparison → Expression → (t : ℕ) → Condition
   null_condition failing a t = record { failing = failing; left = value_operand starts a t; right = Word 0 }
 
-  -- the condition that compares two operands
+  -- Returns the condition that compares two operands.
   abbrev pub pair_condition : Comparison → (a b : Expression) → (t : ℕ) → Condition
   pair_condition failing a b t = record { failing = failing; left = first_operand starts a b t; right = value_operand starts b (suc t) }
 
-  -- the code of `putchar` with its argument
+  -- Returns the code of `putchar` with its argument.
   abbrev pub print_code : Arguments → (p t : ℕ) → List Instruction
   print_code cs p t = printed_code starts cs p t ++ WriteByte (printed_operand starts cs (Slot t) t) ∷ []
 
-  -- the code of a value that will be converted
+  -- Returns the code of a value before its conversion.
   abbrev pub source_code : Converted → (p t : ℕ) → List Instruction
   source_code (Convert from to a) p t =
       code_unless (source_of starts (Convert from to a)) (brought_code starts (Convert from to a) p (source_slot starts (Convert from to a) t) t)
 
-  -- the code of a value that must be in a slot
+  -- Returns the code of a value that must be in a slot.
   abbrev pub slot_code : Converted → (p t : ℕ) → List Instruction
   slot_code (Convert from to a) p t = code_unless_slot (source_of starts (Convert from to a)) (brought_code starts (Convert from to a) p t t)
 
-  -- the slot of a returned value after its conversion
+  -- Returns the slot of a returned value after its conversion.
   abbrev pub converted_slot : Converted → (t : ℕ) → ℕ
   converted_slot c t = slot_or (source_of starts c) t
 
@@ -146,25 +153,25 @@ module _ (starts : Starts) where
       code_unless_slot (source_of starts (Convert from to a)) (brought_code starts (Convert from to a) p t t)
       ++ conversion_code starts from to (span_of a) (Slot (slot_or (source_of starts (Convert from to a)) t)) (p + length (code_unless_slot (source_of starts (Convert from to a)) (brought_code starts (Convert from to a) p t t)))
 
-  -- the code that moves the left operand of a chain to its place
+  -- Returns the code that moves the left operand of a chain to its slot.
   abbrev pub left_code : Expression → Operations → (p d t : ℕ) → List Instruction
   left_code a os p d t = code_unless (left_of starts a os) (expression_code starts a p (left_slot starts a os d t) t)
 
-  -- true if a chain of these operators is simple after a simple operand
+  -- Returns true if a chain of these operators is simple, provided that its first operand is.
   abbrev pub is_simple_chain : Operations → Bool
   is_simple_chain (ThenCompute o b os) = are_simple starts (ThenCompute o b os)
   is_simple_chain os = false
 
-  -- true if the first of these operators has a simple right operand
+  -- Returns true if the first of these operators has a simple right operand.
   abbrev pub takes_operand : Operations → Bool
   takes_operand (ThenCompute o b os) = is_simple starts b
   takes_operand os = false
 
-  -- the code of an operator on pointers and its right operand
+  -- Returns the code of an operator on pointers and of its right operand.
   abbrev pub pointer_operation_code : PointerOperator → Expression → (p : ℕ) → (l : Operand) → (d t : ℕ) → List Instruction
   pointer_operation_code o b p l d t = pointer_code o l (value_operand starts b (after_left o t)) (value_code b p (after_left o t)) d
 
-  -- the code of one operator of a chain and its right operand, with l as its left operand
+  -- Returns the code of one operator of a chain and of its right operand; `l` is its left operand.
   abbrev pub operation_code : Operation → (p : ℕ) → (l : Operand) → (d t : ℕ) → List Instruction
   operation_code (operation.Compute w o e) p l d t =
       compute_code starts o l (value_operand starts (view_expression e) (suc t)) (value_code (view_expression e) p (suc t)) d
@@ -172,7 +179,7 @@ module _ (starts : Starts) where
   operation_code (operation.Pointer o e) p l d t = pointer_operation_code o (view_expression e) p l d t
   operation_code (operation.PointerPeek n o e) p l d t = pointer_operation_code o (view_expression e) p l d t
 
-  -- the code of the right operand of a test and its condition, after a jump that is taken if the left operand decides
+  -- Returns the code of the right operand of a test, after a jump that is taken if the left operand decides the test.
   abbrev pub other_code : LogicalOperator → Operation → Condition → (following p t : ℕ) → List Instruction
   other_code u (operation.Test o e) c following p t = deciding_jump u c following ∷ condition_code starts (view_expression e) (p + 1) t
   other_code u o c following p t = []
@@ -181,36 +188,38 @@ module _ (starts : Starts) where
   other_condition (operation.Test o e) c t = condition_of starts (view_expression e) t
   other_condition o c t = c
 
-  -- The jumps of tests by an operator after the first operand. Each jump is at the place after the operand that it tests.
+  -- Returns the jumps of a chain of tests by one operator. Each jump is at the position after the operand that it tests.
   abbrev pub early_jumps : LogicalOperator → List Operation → Condition → (p t : ℕ) → List Pending
   early_jumps u [] c p t = []
   early_jumps u (o ∷ os) c p t =
       record { place = p; condition = deciding_condition u c }
       ∷ early_jumps u os (other_condition o c t) (p + length (other_code u o c 0 p t)) t
 
-  -- the code of such tests is emitted while the target of the deciding jumps is unknown
+  -- `IsEarly` says that the code of a chain of tests is emitted while the target of the deciding
+  -- jumps is unknown.
   abbrev pub IsEarly : LogicalOperator → Expression → List Operation → (t : ℕ) → (old new : List Instruction) → Tested → Type 0
   IsEarly u a os t old new tested =
       (tested.last ≡ last_condition starts (operations_of os) (condition_of starts a t) t)
       × (tested.early.items ≡ early_jumps u os (condition_of starts a t) (length old + length (condition_code starts a (length old) t)) t)
       × (new ≡ old ++ tests_code starts u a (operations_of os) 0 (length old) t)
 
-  -- the condition of a branch is emitted, and so is one whose jumps all have their targets
+  -- `IsBranch` says that the condition of a branch is emitted and that its jumps without a target
+  -- are returned.
   abbrev pub IsBranch : LogicalOperator → Expression → (t : ℕ) → (old new : List Instruction) → Tested → Type 0
   IsBranch u a t old new tested = IsTested (branch_of starts u a t) (λ other. branch_code starts u a other (length old) t) old new tested
 
   abbrev pub IsSettled : LogicalOperator → Expression → (t : ℕ) → (old new : List Instruction) → Tested → Type 0
   IsSettled u a t old new tested = IsTested (choice_of starts u a t) (λ other. choice_code starts u a (length old) t) old new tested
 
-  -- the code that throws an exception
+  -- Returns the code that throws an exception.
   abbrev pub throw_code : (tag : ℕ) → Option Expression → (p t : ℕ) → List Instruction
   throw_code tag v p t = thrown_code starts v p t ++ Throw (tag_operand tag) (thrown_operand starts v t) ∷ []
 
-  -- the code after the jump over a clause
+  -- Returns the code of a catch clause after the jump over the clause.
   abbrev pub caught_items_code : (number : Option ℕ) → Items → (p : ℕ) → Exits → (t : ℕ) → List Instruction
   caught_items_code x js p exits t = caught_code starts x t ++ items_code starts js (p + length (caught_code starts x t)) exits t
 
-  -- the code of one item of a block
+  -- Returns the code of one item of a block.
   abbrev pub item_code : Item → (p : ℕ) → Exits → (t : ℕ) → List Instruction
   item_code (item.Execute s) p exits t = statement_code starts (view_statement s) p exits t
   item_code (item.Local w n ty v) p exits t = declaration_code starts n (view_ty ty) (option_map view_converted v) p t
@@ -219,39 +228,41 @@ module _ (starts : Starts) where
   item_code (item.Alias r n ty w s) p exits t = named_code starts (words_of (view_ty ty)) n (Slot (slot_of starts s))
   item_code (item.DynamicRegion w r n) p exits t = dynamic_code starts n t
 
-  -- the code of a clause of a `try`
+  -- Returns the code of a catch clause of a `try`.
   abbrev pub case_code : (tag : ℕ) → (number : Option ℕ) → Items → (p out : ℕ) → Exits → (t : ℕ) → List Instruction
   case_code tag x js p out exits t = clause_code tag t (caught_items_code x js (p + 1) exits t) p out
 
-  -- clauses were added after the old code, before the default, which may be any
+  -- `BeginClauses` says that clauses were appended to the old code, before the default clause,
+  -- which may be any.
   abbrev pub BeginClauses : List Clause → (out : ℕ) → Exits → (t : ℕ) → (old new : List Instruction) → Type 0
   BeginClauses cs out exits t old new =
       (default : Clauses)
       → new ++ clauses_code starts default (length new) out exits t ≡ old ++ clauses_code starts (clauses_of cs default) (length old) out exits t
 
-  -- the beginning of a loop while the place of the condition after its body is unknown
+  -- Returns the beginning of a loop while the position of the condition after its body is unknown.
   abbrev pub begun_loop : Expression → (p t : ℕ) → List Instruction
   begun_loop a p t = entry_code (is_guard starts a) (choice_code starts logical.AndThen a p t) (holding_jump (choice_of starts logical.AndThen a t)) 0 p
 
-  -- the beginning of the loop at this place, once the place of its condition is known to be the next one
+  -- Returns the code in which the entry of the loop at `head` jumps to the next instruction, where its
+  -- condition begins.
   abbrev pub entered_loop : Expression → (code : List Instruction) → (head : ℕ) → List Instruction
   entered_loop a code head = if is_guard starts a then code else set code head (Jump (length code))
 
-  -- the code of a branch without an `else` part
+  -- Returns the code of an `if` without an `else` part.
   abbrev pub then_code : Expression → Statement → (p : ℕ) → Exits → (t : ℕ) → List Instruction
   then_code a s p exits t = statement_code starts (If a s Empty) p exits t
 
-  -- the code of a loop with a light condition and without a `break`
+  -- Returns the code of a loop with a light condition and without a `break`.
   abbrev pub through_loop : Expression → Statement → (p : ℕ) → Exits → (t : ℕ) → List Instruction
   through_loop a s p exits t =
       through_code (choice_code starts logical.OrElse a p t) (failing_jump (choice_of starts logical.OrElse a t)) (λ q. statement_code starts s q (inside_loop p p exits) t) (λ q. choice_code starts logical.AndThen a q t) (holding_jump (choice_of starts logical.AndThen a t)) p
 
-  -- the code of any other loop
+  -- Returns the code of a loop that has a `break` or no light condition.
   abbrev pub loop_code : Expression → Statement → (p : ℕ) → Exits → (t : ℕ) → List Instruction
   loop_code a s p exits t =
       looped_code (is_guard starts a) (λ q. choice_code starts logical.AndThen a q t) (λ leaving. statement_code starts s (body_target leaving) (inside_loop p leaving exits) t) (holding_jump (choice_of starts logical.AndThen a t)) p
 
--- the exits and the first slot for temporaries after an item of a block
+-- Returns the exits after an item of a block.
 abbrev pub exits_after : Item → Exits → (t : ℕ) → Exits
 exits_after (item.Region w r n) exits t = inside_region exits t
 exits_after i exits t = exits

@@ -1,5 +1,5 @@
--- An accepted program can be lowered. The typed tree of a text within the limits has valid numbers, and its constants are words. The
--- globals of such a tree have at most as many words as the text has tokens.
+-- An accepted program can be lowered. The typed tree of a text within the limits has valid numbers, and the constants of the tree
+-- fit in 32-bit words. The globals of the typed tree have at most as many words as the text has tokens.
 use Rattle.std.proofs.Common.{◌≡◌, ℕ, ◌+◌, ◌*◌, ◌≤◌, ◌<◌, Bool, true, false, ◌&&◌, List, [], ◌∷◌, ◌++◌, length, map, Option, Some, None, inl, inr, subst, arith}
 use Rattle.std.specs.Prelude.{if◌then◌else◌, ◌==◌, nat_le, IsTrue}
 use Rattle.std.specs.List.{AllByRecursion}
@@ -34,7 +34,7 @@ use Rattle.cyc_meaning.specs.Values.{kind_of}
 use Rattle.cyc_lower_proof.specs.inside.Slots.{global_types}
 use Rattle.cyc_lower_proof.proofs.slots.Widths.{kind_few, type_words}
 
--- a global has at most three words
+-- The type of a global takes at most three words.
 globals_few : (gs : List GlobalVariable) → words_of_all (global_types gs) ≤ 3 * length gs
 globals_few [] = omega arith
 globals_few (g ∷ gs) = omega (arith, type_words g.of_type, kind_few (kind_of g.of_type), globals_few gs)
@@ -56,7 +56,7 @@ can_be_lowered texts symbols tree p has small words short typed =
 
 -- ---- the constants of a text's tokens
 
--- a character constant is a byte
+-- The value of a character constant is a byte.
 abbrev IsByteKind : Kind → Type 0
 IsByteKind (kinds.Identifier x) = Unit {0}
 IsByteKind (kinds.RegionName r) = Unit {0}
@@ -122,7 +122,7 @@ symbol_constants : (texts : List (List ℕ)) (tokens : List Token) → AllByRecu
 symbol_constants texts [] h b = tt
 symbol_constants texts (t ∷ ts) (h, hs) (b, bs) = (terminal_constants texts t.kind h b, symbol_constants texts ts hs bs)
 
--- the constants of the symbols of a text within the limits are words
+-- The constants in the symbols of a text within the limits are 32-bit words.
 pub text_constants : (text : List ℕ) (tokens : List Token) → HasTokens text tokens → IsWithinLimits tokens → AreOfWordsSymbols (symbols_of tokens)
 text_constants text tokens (parts, cut, e) within =
     symbol_constants (distinct_texts (texts_in tokens)) tokens (recursion_from_All (λ t. IsSmall t.kind) tokens within.numbers) (subst AreByteTokens e (cut_bytes [] parts text [] cut))

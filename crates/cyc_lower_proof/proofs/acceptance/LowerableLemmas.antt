@@ -1,4 +1,5 @@
--- The parts of a well-typed tree can be lowered: its conversions, and pointers of one word.
+-- This file proves that the parts of a well-typed tree can be lowered: its conversions, and
+-- pointers of one word.
 use Rattle.std.proofs.Common.{◌≡◌, ◌*◌, ◌≤◌, true, refl, ap, arith}
 use Rattle.cyc_syntax.specs.declared.tree.PointerKind.{PointerKind}
 use Rattle.cyc_syntax.specs.declared.tree.PointerKind.TheVariants as marks
@@ -15,7 +16,7 @@ use Rattle.cyc_lower_proof.proofs.slots.Widths.{kind_few}
 
 -- ---- objects
 
--- a value has at most three words
+-- A passed value takes at most three words.
 pub all_few : (cs : Arguments) → all_passed cs ≤ 3 * argument_count cs
 all_few NoArguments = omega arith
 all_few (MoreArguments (Convert from to a) cs) =

@@ -1,4 +1,4 @@
--- The steps of calls.
+-- This file proves that the lowered code follows the source steps of calls.
 use Rattle.std.proofs.Common.{◌≡◌, ℕ, zero, suc, ◌+◌, ◌-◌, ◌<◌, ◌^◌, ◌%◌, Bool, true, false, List, [], ◌∷◌, ◌++◌, length, reverse, drop, Option, None, Some, slice_get, unwrap_or, bit_and, refl, sym, ap, subst, ◌∙◌, arith, inl, inr, length-append, append_assoc}
 use Rattle.std.specs.Prelude.{◌==◌, nat_le, if◌then◌else◌}
 use Rattle.std.proofs.lemmas.Bool.{cases_lt, false_from_ne_true, leb-true, and_right}
@@ -57,7 +57,7 @@ use Rattle.cyc_lower_proof.proofs.relation.places.Rows.{row-fits, row-variable, 
 module _ (source : Program) (pages calls : ℕ) where
   -- ---- built-in functions
 
-  -- both machines read the same byte
+  -- In a call of `getchar`, the source machine and the plain machine read the same input byte.
   reads : (k : List Entry) (e : Environment) (w : World) (c : Configuration) → IsStep source pages calls (Calling callees.Getchar []) k e w c
   reads k e w c well (shared, facts, (d, q, (here, end), holds, lands)) =
       let next : World = record w { input = drop 1 w.input } in
@@ -94,7 +94,7 @@ module _ (source : Program) (pages calls : ℕ) where
     counters = shared.counters;
   }
 
-  -- the byte is printed, and then its value is dropped or moved to a slot
+  -- In a call of `putchar`, the byte is printed, and then its value is dropped or moved to a slot.
   prints : (i : Kind) (a : ℕ) (o : Operand) (k : List Entry) (e : Environment) (w : World) (c : Configuration)
       → (shared : SharedAt source pages calls k e w c) → DataIn source shared.tables c.active.slots k e w c → operand_word c.active.slots o ≡ a → Holds shared.tables c.active.slots (floor source c.active.function k) (held k)
       → PrintsStack source c.active.function e.locals o c.active.next c.frames k
@@ -135,7 +135,7 @@ module _ (source : Program) (pages calls : ℕ) where
       )
       (omega arith)
 
-  -- a parameter is a local, whose slots come after those of the earlier parameters
+  -- A parameter is a local, and its slots come after the slots of the earlier parameters.
   parameter_in : (h : Option Function) (first rest : List Ty) (t : Ty) → parameters_in source h ≡ first ++ t ∷ rest
       → (length first < length (types_in source h).locals) × (slot_of (starts_of (types_in source h)) (length first) ≡ words_of_all first) × (words_in (types_in source h).locals (length first) ≡ words_of t)
       × (kind_in (types_in source h).locals (length first) ≡ kind_of t)
@@ -198,7 +198,7 @@ module _ (source : Program) (pages calls : ℕ) where
 
   -- ---- functions
 
-  -- the code of each function is at its place
+  -- Says that the code of each function contains the lowered instructions of the function's body.
   abbrev pub FunctionsStand : Type 0
   FunctionsStand = (n : ℕ) (h : Function) → slice_get source.functions n ≡ Some h
       → (m : ℕ) × ItemsAt (code_of source n) (bounds_at source n) (types_at source n) h.body outside_loops (base_of source n + 1) 0 m
@@ -207,7 +207,7 @@ module _ (source : Program) (pages calls : ℕ) where
   parameters_fit : (n : ℕ) (h : Function) → slice_get source.functions n ≡ Some h → parameters_at source n ≡ h.parameters
   parameters_fit n h there = ap (parameters_in source) there
 
-  -- a caller expects from a function the words that it returns
+  -- A caller expects from each function the number of words that the function returns.
   functions_in : (h : Option Function) → (bounds_in source h).functions ≡ signatures_of source.functions
   functions_in None = refl
   functions_in (Some h) = refl
@@ -223,7 +223,8 @@ module _ (source : Program) (pages calls : ℕ) where
       ∙ signature_at source.functions n h there
       ∙ sym (ap (λ (f : Option Function). kind_of_result (bounds_in source f).result) there)
 
-  -- a function has been called, with its arguments in the first slots
+  -- The state after a function has been called, with its arguments in the first slots of the new
+  -- frame.
   pub entered : FunctionsStand → (n base : ℕ) (h : Function) (arguments : List Kinded) (k : List Entry) (w : World) (slots globals : Words) (handlers : List Handler) (frames : List Frame) (store : StoreState) (output input : List ℕ)
       → slice_get source.functions n ≡ Some h
       → (shared : Shared pages calls w (no_locals.home ∷ homes k) (CountsBy source None no_locals k store (scopes w.regions)) output input store (length frames))
@@ -239,7 +240,8 @@ module _ (source : Program) (pages calls : ℕ) where
         (m, subst (λ t. ItemsAt g (bounds_at source n) (types_at source n) h.body outside_loops t 0 m) (sym least) items, stack m end, holds, parameters_fit n h there),
       )
 
-  -- no further call fits, so both runs are full
+  -- If no further call fits in the call stack, then the source run and the plain run both end as
+  -- full.
   full : (k : List Entry) (e : Environment) (w : World) (c : Configuration) (focus : Focus) (next : State) (n first many into : ℕ)
       → step source (Running focus k e w) ≡ next → is_within pages calls next ≡ false
       → (shared : SharedAt source pages calls k e w c) → At (code_of source c.active.function) c.active.next (instructions.Call n first many into)
@@ -327,7 +329,7 @@ module _ (source : Program) (pages calls : ℕ) where
                 (λ m at_end. (base_of source n, at_end, (refl, refl), back)))
           ]
 
-  -- `putchar` with one argument too many
+  -- A call of `putchar` with one argument too many has a step that the source semantics rejects.
   prints_more : (i : Kind) (v : Value) (u : Kinded) (before : List Kinded) (k : List Entry) (e : Environment) (w : World) (c : Configuration) → IsStep source pages calls (Calling callees.Putchar (record { kind = i; value = v } ∷ u ∷ before)) k e w c
   prints_more i (Int a) u before k e w c well related = absurd (well refl)
   prints_more i v u before k e w c well related = absurd (well refl)

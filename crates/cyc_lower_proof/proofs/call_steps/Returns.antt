@@ -1,4 +1,4 @@
--- The steps of returns, and of the end of a call.
+-- This file proves the steps of returns and of the end of a call.
 use Rattle.std.proofs.Common.{◌≡◌, ℕ, zero, suc, ◌≤◌, false, List, [], ◌∷◌, length, map, slice_index_or, Option, None, Some, slice_get, refl, sym, ap, subst, ◌∙◌, arith, inr}
 use Rattle.cyc_words.specs.Word.{signed}
 use Rattle.cyc_words.specs.Ending.{Returned}
@@ -40,7 +40,7 @@ use Rattle.cyc_lower_proof.proofs.relation.simulation.Matched.{IsMatched, silent
 use Rattle.cyc_lower_proof.proofs.value_steps.Landings.{IsStep}
 
 module _ (source : Program) (pages calls : ℕ) where
-  -- the shared invariant with one waiting call less
+  -- The shared invariant of source and lowered run holds after a return with one waiting call less.
   abbrev pub shared_returned : (w : World) (regions : List ℕ) (counting : Type 0) (output input : List ℕ) (store : StoreState) (home waiting : ℕ) → Shared pages calls w (home ∷ regions) counting output input store (suc waiting)
       → Shared pages calls w regions counting output input store waiting
   shared_returned w regions counting output input store home waiting s = record {
@@ -56,11 +56,11 @@ module _ (source : Program) (pages calls : ℕ) where
     counters = s.counters;
   }
 
-  -- the invariant of a caller, which waits after its call
+  -- The invariant of a caller that waits for the return of its callee.
   abbrev pub Waits : Kind → Environment → List Entry → Frame → List Frame → Type 0
   Waits kind outer k f rest = LandsStack source f.caller.function outer.locals kind f.result f.caller.next rest k
 
-  -- the caller continues after the call, with a temporary written
+  -- After a call returns, the caller continues, with the returned words written to a temporary.
   comes_back : (t : Tables) (g from value results : ℕ) (slots globals : Words) (f : Frame) (frames : List Frame) (k : List Entry) (locals : ℕ → Option ℕ) (outer : Environment) (w : World)
       → DataAt source t g from w.objects locals (callers (Caller outer ∷ k)) slots globals (f ∷ frames)
       → HandlersStand source f.caller.function f.caller.slots f.caller.handlers frames k
@@ -82,14 +82,14 @@ module _ (source : Program) (pages calls : ℕ) where
             (λ n less. copied-below slots f.caller.slots value results f.result n (omega (arith, less, least))) holds,
       )
 
-  -- at the return, no handler of the call is open
+  -- When a call returns, no exception handler of this call is open.
   finished : (next : State) (c : Configuration) (s : ℕ) (choice : Choice) → c.active.handlers ≡ []
       → Matches source pages calls next (plain_step.returns c s (routine_at (lower_program source) c.active.function).results c.frames)
       → Matches source pages calls next (performed (lower_program source) choice c (instructions.Finish s))
   finished next c s choice none m =
       subst (λ (handlers : List plain.Handler). Matches source pages calls next (plain_step.finishes c s (routine_at (lower_program source) c.active.function).results handlers)) (sym none) m
 
-  -- a return without a value
+  -- The step of a return without a value.
   pub leaves_call : (focus : Focus) (active : Activation) (frames : List Frame) (globals : Words) (store : StoreState) (output input : List ℕ) (k : List Entry) (e outer : Environment) (w : World) (s : ℕ)
       → step source (Running focus (Caller outer ∷ k) e w) ≡ Running Proceeding k outer w
       → (shared : SharedAt source pages calls (Caller outer ∷ k) e w (record { active = active; frames = frames; globals = globals; store = store; output = output; input = input }))
@@ -111,7 +111,7 @@ module _ (source : Program) (pages calls : ℕ) where
       (λ choice. finished (Running Proceeding k outer w) c s choice none
       (shared_returned w (outer.home ∷ homes k) (CountsBy source None outer k store (scopes w.regions)) output input store e.home (length frames) shared, following_wrong (returned_at source active.function) f.result (calls_counted source f.caller.function f.caller.slots f.caller.handlers frames k stand) stack))
 
-  -- a return with a value
+  -- The step of a return with a value.
   hands_back : (v : Kinded) (active : Activation) (frames : List Frame) (globals : Words) (store : StoreState) (output input : List ℕ) (k : List Entry) (e outer : Environment) (w : World) (s : ℕ)
       → (shared : SharedAt source pages calls (Caller outer ∷ k) e w (record { active = active; frames = frames; globals = globals; store = store; output = output; input = input }))
       → DataAt source shared.tables active.function active.base w.objects e.locals (callers (Caller outer ∷ k)) active.slots globals frames × HandlersStand source active.function active.slots active.handlers frames (Caller outer ∷ k)
@@ -153,7 +153,7 @@ module _ (source : Program) (pages calls : ℕ) where
             stack,
       ))
 
-  -- the number of words that a function's code returns is the one in its signature
+  -- The code of a function returns as many words as the function's signature says.
   results_in : (hs : List Function) (g : ℕ) → (slice_index_or (map (lower_function source.structs (globals_of source) (scopes_of source)) hs) g no_routine).results ≡ results_of (bounds_in source (slice_get hs g)).result
   results_in [] g = refl
   results_in (h ∷ hs) zero = refl
@@ -162,7 +162,7 @@ module _ (source : Program) (pages calls : ℕ) where
   results_at : (g : ℕ) → (routine_at (lower_program source) g).results ≡ results_of (bounds_at source g).result
   results_at g = results_in source.functions g
 
-  -- `main` returns while no call waits
+  -- The run ends when `main` returns while no other call waits.
   ends_main : (i : Kind) (v : Value) (active : Activation) (frames : List Frame) (globals : Words) (store : StoreState) (output input : List ℕ) (k : List Entry) (e : Environment) (w : World) (s : ℕ)
       → IsWell (step source (Running (Returning (Some (record { kind = i; value = v }))) (Main ∷ k) e w))
       → (shared : SharedAt source pages calls (Main ∷ k) e w (record { active = active; frames = frames; globals = globals; store = store; output = output; input = input }))

@@ -1,4 +1,4 @@
--- The steps of statements, and of exits from loops.
+-- This file proves the steps of statements and of exits from loops.
 use Rattle.std.proofs.Common.{◌≡◌, ◌≢◌, ℕ, ◌<◌, Bool, true, false, List, [], ◌∷◌, length, Option, None, Some, slice_get, refl, sym, ap, subst, ◌∙◌, arith, inl, inr}
 use Rattle.std.specs.Prelude.{if◌then◌else◌}
 use Rattle.std.proofs.lemmas.Option.{same_Some, none-some}
@@ -57,7 +57,7 @@ use Rattle.cyc_lower_proof.proofs.call_steps.Returns.{leaves_call}
 module _ (source : Program) (pages calls : ℕ) where
   -- ---- statements
 
-  -- a returned value is moved to a slot, or is already in that of a local
+  -- A returned value is moved to a slot, or it is already in the slot of a local.
   returned : (tables : Tables) (from to : Kind) (a : Expression) (locals : ℕ → Option ℕ) (g p : ℕ) (slots : Words) (frames : List Frame) (k : List Entry) (s m q : ℕ)
       → ReturnedAt (code_of source g) (bounds_at source g) (types_on source g k) (source_of (starts_on source g k) (Convert from to a))
       (BroughtAt (code_of source g) (bounds_at source g) (types_on source g k) (Convert from to a) (top source g k) (top source g k) p m) (top source g k) s p m
@@ -93,7 +93,7 @@ module _ (source : Program) (pages calls : ℕ) where
       by true keeps at = by_operand (operand_of (starts_on source g k) a) refl keeps at
       by false changes (is, at) = brought is at
 
-  -- the condition of a loop is evaluated, before its body or after it
+  -- The code evaluates the condition of a loop before the body or after it.
   tries : (a : Expression) (s : Statement) (k : List Entry) (g : ℕ) (exits outer : Exits) (p q : ℕ) (frames : List Frame) (t : Tables) (slots : Words) (locals : ℕ → Option ℕ)
       → LoopAt source g (floor source g k) a s exits outer p q → StatementStack source g outer q frames k → EvaluatingAt source t a locals g p slots frames (Needs (Test a s) ∷ k)
   tries a s k g exits outer p q frames t slots locals (b, loop_is, function_is, entry, leave, at_s, (f, again, over), after) stack =
@@ -225,7 +225,7 @@ module _ (source : Program) (pages calls : ℕ) where
           )
           (omega arith)
 
-  -- the code reaches the place where another statement continues
+  -- The lowered code reaches the instruction at which the next source statement begins.
   arrives : (old k : List Entry) (e e0 : Environment) (w w0 : World) (c : Configuration) (exits : Exits) (q : ℕ)
       → step source (Running Proceeding old e0 w0) ≡ Running Proceeding k e w → SharedAt source pages calls old e0 w0 c → weight (Running Proceeding k e w) < weight (Running Proceeding old e0 w0)
       → (shared : SharedAt source pages calls k e w c) → DataIn source shared.tables c.active.slots k e w c
@@ -240,7 +240,8 @@ module _ (source : Program) (pages calls : ℕ) where
   arrives old k e e0 w w0 c exits q does before lighter shared facts (by_jumps m less first second) stack =
       by_two source pages calls (at c m) does before before first (λ choice. refl) second (λ same. omega (arith, less, same)) (λ choice. (shared, following_statement exits facts stack))
 
-  -- a local receives its initial value: directly in its slots, or moved there after its conversion
+  -- A local receives its initial value directly in its slots, or the value is converted first and
+  -- then moved to these slots.
   initial_by : (there : Bool) (n : ℕ) (ty : Ty) (from to : Kind) (a : Expression) (js : Items) (k : List Entry) (e : Environment) (w : World) (c : Configuration) (exits : Exits) (m q : ℕ)
       → converts_there from to ≡ there
       → (shared : SharedAt source pages calls k e w c) → DataIn source shared.tables c.active.slots k e w c
@@ -333,7 +334,7 @@ module _ (source : Program) (pages calls : ℕ) where
 
   -- ---- breaks
 
-  -- a jump to another jump leads to that jump's target
+  -- If a jump goes to a second jump, then control continues at the target of the second jump.
   jumps_apart : (code : List Instruction) (p q r : ℕ) → At code p (instructions.Jump q) → At code q (instructions.Jump r) → q < r → p ≢ q
   jumps_apart code p q r first second on same =
       let jumps : r ≡ q = ap (λ (i : Instruction). target_of i) (same_Some (instructions.Jump r) (instructions.Jump q) (sym second ∙ ap (slice_get code) (sym same) ∙ first)) in

@@ -1,4 +1,5 @@
--- After a function's body come the blocks that raise exceptions, up to the last one that is a jump target.
+-- A function's body is followed by the blocks that raise exceptions, up to the last block that is a jump
+-- target.
 use Rattle.std.proofs.Common.{◌≡◌, ℕ, zero, suc, ◌+◌, ◌-◌, ◌≤◌, ◌<◌, List, [], ◌∷◌, ◌++◌, length, take, refl, ap, subst, ◌∙◌, arith, append_assoc}
 use Rattle.std.specs.Prelude.{min}
 use Rattle.std.proofs.lemmas.Option.{same_Some, none-some}
@@ -30,7 +31,7 @@ taken_after [] more n = ap (λ (m : ℕ). take m more) (let e : 0 + n ≡ n = om
 taken_after (i ∷ old) more n =
     ap (λ (m : ℕ). take m (i ∷ (old ++ more))) (let e : suc (length old) + n ≡ suc (length old + n) = omega arith in e) ∙ ap (λ (l : List Instruction). i ∷ l) (taken_after old more n)
 
--- all blocks are made, and those past the last target are removed again
+-- All exception blocks are emitted, and the blocks after the last jump target are removed again.
 pub some_blocks : (body ended all code : List Instruction) (slot count kept end : ℕ) → ended ≡ body ++ instructions.Finish slot ∷ [] → all ≡ ended ++ blocks slot → kept ≡ blocks_kept (min count 6) → end ≡ length ended + kept → code ≡ take end all
     → code ≡ with_blocks body slot (blocks_kept count)
 some_blocks body ended all code slot count kept end ended_is all_is kept_is end_is code_is =
@@ -49,7 +50,7 @@ target_least [] p i there = absurd (none-some i there)
 target_least (j ∷ code) zero i there = let e = ap target_of (same_Some j i there) in omega (arith, e)
 target_least (j ∷ code) (suc p) i there = omega (arith, target_least code p i there)
 
--- blocks contain no jumps
+-- The blocks that raise exceptions contain no jumps.
 module _ (slot n : ℕ) where
   abbrev end : List Instruction
   end = instructions.Finish slot ∷ take n (blocks slot)
@@ -68,19 +69,20 @@ module _ (slot n : ℕ) where
   body_leads [] = let e = end_leads n in omega (arith, e)
   body_leads (i ∷ body) = let e = body_leads body in omega (arith, e)
 
-  -- an instruction that jumps is before the blocks
+  -- An instruction that jumps comes before the blocks that raise exceptions.
   leads_before : (body : List Instruction) (p : ℕ) (i : Instruction) → At (body ++ end) p i → 1 ≤ target_of i → p < length body
   leads_before [] p i there some = let e = end_leads n in absurd (omega (arith, e, some, target_least end p i there))
   leads_before (j ∷ body) zero i there some = omega arith
   leads_before (j ∷ body) (suc p) i there some = omega (arith, leads_before body p i there some)
 
--- Each jump to the place of a block leads to that block, and each jump is before the blocks.
+-- Each jump to the position of an exception block reaches that block, and each jump comes before
+-- the exception blocks.
 pub record BlocksStand (code : List Instruction) (raises slot : ℕ) : Type 0 where
   pub each : (p tag : ℕ) (i : Instruction) → 1 ≤ tag → tag ≤ 4 → At code p i → target_of i ≡ raises + 2 + tag → At code (raises + 2 + tag) (raising tag)
   pub reported : (p : ℕ) (i : Instruction) → At code p i → target_of i ≡ raises + 1 → HasAt code (raises + 1) (telling slot)
   pub within : (p : ℕ) (i : Instruction) → At code p i → 1 ≤ target_of i → p < raises
 
--- the block of this number, if that many blocks exist
+-- The exception block with a number exists if more blocks than this number exist.
 block_there : (code : List Instruction) (p slot n number : ℕ) (i : Instruction) → HasAt code p (take n (blocks slot)) → number < n → At (blocks slot) number i → At code (p + number) i
 block_there code p slot n number i has some is = taken_there (blocks slot) p n number has some is
   where

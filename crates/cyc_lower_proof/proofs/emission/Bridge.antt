@@ -1,4 +1,4 @@
--- The code of a construct is where its list of instructions is placed.
+-- The code of a construct is found at the position where its list of instructions was emitted.
 use Rattle.std.proofs.Common.{◌≡◌, ℕ, zero, suc, ◌+◌, false, List, [], ◌∷◌, ◌++◌, length, map, take, ◌-◌, Option, Some, slice_get, refl, sym, ap, subst, ◌∙◌}
 use Rattle.std.proofs.lemmas.Option.{same_Some, none-some, get_or_from_slice_get, slice_get-map}
 use Rattle.std.specs.Prelude.{option_map}
@@ -36,7 +36,7 @@ module _ (source : Program) where
   pub routine_there : (n : ℕ) (h : Function) → slice_get source.functions n ≡ Some h → routine_at (lower_program source) n ≡ lower_function source.structs (globals_of source) (scopes_of source) h
   routine_there n h there = get_or_from_slice_get (map (lower_function source.structs (globals_of source) (scopes_of source)) source.functions) n (lower_function source.structs (globals_of source) (scopes_of source) h) no_routine (slice_get-map (lower_function source.structs (globals_of source) (scopes_of source)) source.functions n ∙ ap (option_map (lower_function source.structs (globals_of source) (scopes_of source))) there)
 
-  -- the code of a function: its body at the beginning, followed by a return
+  -- Says that the code of a function begins with its body, followed by a return.
   abbrev BodyStands : Function → List Instruction → Option Function → Type 0
   BodyStands h code o =
       (m : ℕ) × ItemsAt code (bounds_in source o) (types_in source o) h.body outside_loops (words_of_all (types_in source o).locals + 1) 0 m

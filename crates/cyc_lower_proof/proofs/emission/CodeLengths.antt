@@ -1,4 +1,4 @@
--- The length of code does not depend on its jump targets.
+-- This file proves that the length of code does not depend on its jump targets.
 use Rattle.std.proofs.Common.{◌≡◌, ℕ, suc, ◌+◌, Bool, true, false, length-append, List, [], ◌∷◌, length, refl, arith}
 use Rattle.std.specs.Prelude.{if◌then◌else◌}
 use Rattle.cyc_types.specs.declared.typed.UnaryOperator.TheVariants as unary
@@ -19,7 +19,8 @@ over_length_is true target = refl
 over_length_is false target = refl
 
 module _ (starts : Starts) where
-  -- the length of the code of the further operands does not depend on their targets
+  -- The length of the code for the further operands of a logical chain does not depend on the jump
+  -- targets.
   others_same : (u : LogicalOperator) (os : Operations) (c : Condition) (x y p t : ℕ) → length (others_code starts u os c x p t) ≡ length (others_code starts u os c y p t)
   others_same u NoOperations c x y p t = refl
   others_same u (ThenTest o b os) c x y p t =

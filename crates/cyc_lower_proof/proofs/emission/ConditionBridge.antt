@@ -1,4 +1,4 @@
--- Conditions: the code of a condition is where the relation reads it.
+-- This file proves that the code of a condition is where the simulation relation requires it.
 use Rattle.std.specs.Prelude.{if◌then◌else◌}
 use Rattle.std.proofs.Common.{◌≡◌, ℕ, suc, ◌+◌, Bool, true, false, inl, inr, List, ◌∷◌, length, Option, None, Some, refl, sym, ap, subst, arith}
 use Rattle.cyc_types.specs.declared.typed.UnaryOperator.TheVariants as unary
@@ -29,7 +29,7 @@ use Rattle.cyc_lower_proof.proofs.emission.OperandBridge.{cut, operand_by, right
 use Rattle.cyc_lower_proof.proofs.emission.ExpressionBridge.{expression_stands}
 
 module _ (code : List Instruction) (b : Numbering) (types : Types) (raised : BlocksStand code types.raises (words_of_all types.locals)) where
-  -- the two compared operands
+  -- The code of the two compared operands is where the simulation relation requires it.
   pair_stands : (a c : Expression) (t p q : ℕ) → Fits b types a → Fits b types c → p + length (pair_code (starts_of types) a c p t) ≡ q → HasAt code p (pair_code (starts_of types) a c p t)
       → PairAt code b types a c (first_operand (starts_of types) a c t) (value_operand (starts_of types) c (suc t)) t p q
   pair_stands a c t p q numbered_a numbered_c end has =
@@ -43,7 +43,7 @@ module _ (code : List Instruction) (b : Numbering) (types : Types) (raised : Blo
             (cut p q front back end) (has_back code p front back has) (λ e h. expression_stands code b types raised c (value_slot (starts_of types) c (suc t)) (suc t) m q numbered_c e h),
       )
 
-  -- the operands of a condition's comparison
+  -- The operands of a condition's comparison contain only valid numbers of locals and functions.
   sides_numbered : (null beside : Option Comparison) (a c whole : Expression) → Fits b types a → Fits b types c → Fits b types whole
       → Fits b types (nulled_or null beside a c whole).left × Fits b types (nulled_or null beside a c whole).right
   sides_numbered (Some failing) beside a c whole first second all = (first, tt)
@@ -66,7 +66,7 @@ module _ (code : List Instruction) (b : Numbering) (types : Types) (raised : Blo
       let (first, second) = compared_numbered a numbered in
       pair_stands (compared_of a).left (compared_of a).right t p q first second end has
 
-  -- after tests by `||`, control continues at the next place if one holds
+  -- In a chain of tests by `||`, control continues at the next instruction if one operand holds.
   all_through : (os : Operations) (f h t : ℕ) → all_test logical.OrElse os ≡ true → TestsAt code b types os false t h (Ends code b types f h)
   all_through NoOperations f h t all = refl
   all_through (ThenTest logical.OrElse c os) f h t all = all_through os f h t all
@@ -75,7 +75,8 @@ module _ (code : List Instruction) (b : Numbering) (types : Types) (raised : Blo
   all_through (ThenPointer o c os) f h t all = absurd (let z : false ≡ true = all in cc)
   all_through (ThenPointerPeek n o c os) f h t all = absurd (let z : false ≡ true = all in cc)
 
-  -- the code of a condition: its further operands from place p on, and the jump for the last operand at place q
+  -- The code of a condition: the code of its further operands begins at position p, and the jump for the last
+  -- operand is at position q.
   others_stand : (os : Operations) (ty : Ty) (words : ℕ) (o : Condition) (f t p q : ℕ) → all_test logical.OrElse os ≡ true → FitOperations b types words ty os
       → p + length (others_code (starts_of types) logical.OrElse os o (q + 1) p t) ≡ q → HasAt code p (others_code (starts_of types) logical.OrElse os o (q + 1) p t)
       → At code q (failing_jump (last_condition (starts_of types) os o t) f)
@@ -114,7 +115,8 @@ module _ (code : List Instruction) (b : Numbering) (types : Types) (raised : Blo
   tests_stand a (ThenPointer u c os) ty f t p q all fits end has jump = absurd (let z : false ≡ true = all in cc)
   tests_stand a (ThenPointerPeek n u c os) ty f t p q all fits end has jump = absurd (let z : false ≡ true = all in cc)
 
-  -- tests by `&&` with the jump that is taken if the last one holds; if one fails, control continues after them
+  -- A chain of tests by `&&` with the jump that is taken if the last operand holds; if an operand fails,
+  -- control continues after the chain.
   all_over : (os : Operations) (f h t : ℕ) → all_test logical.AndThen os ≡ true → TestsAt code b types os true t f (Ends code b types f h)
   all_over NoOperations f h t all = refl
   all_over (ThenTest logical.AndThen c os) f h t all = all_over os f h t all
@@ -161,7 +163,8 @@ module _ (code : List Instruction) (b : Numbering) (types : Types) (raised : Blo
   tests_follow a (ThenPointer u c os) ty h t p q all fits end has jump = absurd (let z : false ≡ true = all in cc)
   tests_follow a (ThenPointerPeek n u c os) ty h t p q all fits end has jump = absurd (let z : false ≡ true = all in cc)
 
-  -- a condition that is one comparison, with the jump that is taken if it fails, or if it holds
+  -- A condition that is one comparison has a jump that is taken if the comparison fails, or one
+  -- that is taken if it holds.
   whole_stands : (a : Expression) (f t p q : ℕ) → Fits b types a → p + length (condition_code (starts_of types) a p t) ≡ q → HasAt code p (condition_code (starts_of types) a p t)
       → At code q (failing_jump (condition_of (starts_of types) a t) f) → BranchesAt code b types a f (q + 1) t p
   whole_stands a f t p q fits end has jump =
@@ -173,7 +176,7 @@ module _ (code : List Instruction) (b : Numbering) (types : Types) (raised : Blo
       compared_whole code b types a (q + 1) h t p ((condition_of (starts_of types) a t).left, (condition_of (starts_of types) a t).right, q, condition_stands a t p q fits end has, inr (jump, refl))
 
   mutual
-    -- a condition that may be a chain of tests, with the jump that is taken if it fails
+    -- A condition that may be a chain of tests has a jump that is taken if the condition fails.
     pub choice_stands : (a : Expression) (f t p q : ℕ) → Fits b types a → p + length (choice_code (starts_of types) logical.OrElse a p t) ≡ q → HasAt code p (choice_code (starts_of types) logical.OrElse a p t)
         → At code q (failing_jump (choice_of (starts_of types) logical.OrElse a t) f) → BranchesAt code b types a f (q + 1) t p
     choice_stands (Unary unary.Not a) f t p q fits end has jump = inr (choice_follows a f t p q fits end has jump)
@@ -191,7 +194,7 @@ module _ (code : List Instruction) (b : Numbering) (types : Types) (raised : Blo
             tests_stand a os ty f t p q is fits (subst (λ x. p + length (made x) ≡ q) there end) (subst (λ x. HasAt code p (made x)) there has) jump
     choice_stands a f t p q fits end has jump = whole_stands a f t p q fits end has jump
 
-    -- a condition that may be a chain of tests, with the jump that is taken if it holds
+    -- A condition that may be a chain of tests has a jump that is taken if the condition holds.
     pub choice_follows : (a : Expression) (h t p q : ℕ) → Fits b types a → p + length (choice_code (starts_of types) logical.AndThen a p t) ≡ q → HasAt code p (choice_code (starts_of types) logical.AndThen a p t)
         → At code q (holding_jump (choice_of (starts_of types) logical.AndThen a t) h) → BranchesAt code b types a (q + 1) h t p
     choice_follows (Unary unary.Not a) h t p q fits end has jump =
@@ -211,8 +214,8 @@ module _ (code : List Instruction) (b : Numbering) (types : Types) (raised : Blo
             tests_follow a os ty h t p q is fits (subst (λ x. p + length (made x) ≡ q) there end) (subst (λ x. HasAt code p (made x)) there has) jump
     choice_follows a h t p q fits end has jump = whole_follows a h t p q fits end has jump
 
-  -- The condition of a branch with the jump that is taken if it fails. Each failing operand of `&&` leads to the place to which the jump
-  -- leads.
+  -- The condition of a branch with the jump that is taken if the condition fails. Each failing operand of `&&` jumps to the target of
+  -- this jump.
   others_fail : (os : Operations) (ty : Ty) (words : ℕ) (o : Condition) (f t p q : ℕ) → all_test logical.AndThen os ≡ true → FitOperations b types words ty os
       → p + length (others_code (starts_of types) logical.AndThen os o f p t) ≡ q → HasAt code p (others_code (starts_of types) logical.AndThen os o f p t)
       → At code q (failing_jump (last_condition (starts_of types) os o t) f)
@@ -251,7 +254,8 @@ module _ (code : List Instruction) (b : Numbering) (types : Types) (raised : Blo
   tests_fail a (ThenPointer u c os) ty f t p q all fits end has jump = absurd (let z : false ≡ true = all in cc)
   tests_fail a (ThenPointerPeek n u c os) ty f t p q all fits end has jump = absurd (let z : false ≡ true = all in cc)
 
-  -- the condition of a branch with the jump that is taken if it holds, for tests by `||`
+  -- The condition of a branch that is a chain of `||`, with the jump that is taken if the condition
+  -- holds.
   others_hold : (os : Operations) (ty : Ty) (words : ℕ) (o : Condition) (h t p q : ℕ) → all_test logical.OrElse os ≡ true → FitOperations b types words ty os
       → p + length (others_code (starts_of types) logical.OrElse os o h p t) ≡ q → HasAt code p (others_code (starts_of types) logical.OrElse os o h p t)
       → At code q (holding_jump (last_condition (starts_of types) os o t) h)

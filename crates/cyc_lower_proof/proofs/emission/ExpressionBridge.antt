@@ -1,4 +1,4 @@
--- Expressions: the code of an expression is where the relation reads it.
+-- This file proves that the code of an expression is where the simulation relation requires it.
 use Rattle.std.proofs.Common.{◌≡◌, ℕ, suc, ◌+◌, List, [], ◌∷◌, ◌++◌, length, Option, refl, sym, ap, subst, ◌∙◌, arith, length-append}
 use Rattle.std.specs.Prelude.{unwrap_or, ◌==◌}
 use Rattle.cyc_words.proofs.Lists.{slice_get_below}

@@ -1,4 +1,4 @@
--- If no `break` leaves a loop, no code is reached only by a `break`.
+-- If no `break` leaves a loop, then no code is reachable only by a `break`.
 use Rattle.std.proofs.Common.{◌≡◌, ℕ, ◌+◌, true, false, List, None, Some}
 use Rattle.cyc_words.proofs.Booleans.{or_false_parts}
 use Rattle.cyc_types.specs.Numbered.{Numbering}

@@ -1,4 +1,5 @@
--- Operands, and the code that changes them: their code is where the relation reads it.
+-- This file proves that operands, and the code that converts them, are where the simulation
+-- relation requires them.
 use Rattle.std.proofs.Common.{◌≡◌, ℕ, zero, suc, ◌+◌, ◌<◌, ◌≤◌, Bool, true, false, List, [], ◌∷◌, ◌++◌, length, Option, None, Some, slice_get, refl, sym, ap, subst, ◌∙◌, arith, length-append, ◌⊎◌, ◌≢◌, inl, inr}
 use Rattle.std.specs.Prelude.{if◌then◌else◌, ◌==◌}
 use Rattle.cyc_meaning.specs.Operators.{array_size, null_exception, division_by_zero, array_bounds}
@@ -46,14 +47,14 @@ use Rattle.cyc_plain.specs.declared.instruction.UnaryOperator.TheVariants as pla
 use Rattle.cyc_plain.specs.declared.instruction.Request.TheVariants as requests
 use Rattle.cyc_meaning.specs.FrameCount.{words_of_all}
 
--- the place of the end of the second part
+-- The position of the end of the second of two concatenated pieces of code.
 pub cut : (p q : ℕ) (a b : List Instruction) → p + length (a ++ b) ≡ q → p + length a + length b ≡ q
 cut p q a b end = omega (arith, end, length-append a b)
 
 module _ (code : List Instruction) (b : Numbering) (types : Types) (raised : BlocksStand code types.raises (words_of_all types.locals)) where
   -- ---- operands
 
-  -- an operand without code, or code at this place
+  -- An operand either needs no code, or its code is at this position.
   pub operand_by : (known : Option Operand) (computed : Type 0) (x : List Instruction) (slot p q : ℕ) → p + length (code_unless known x) ≡ q → HasAt code p (code_unless known x)
       → (p + length x ≡ q → HasAt code p x → computed) → OperandBy code b types known computed slot (operand_or known slot) p q
   operand_by (Some o) computed x slot p q end has stands = (refl, omega (arith, end))
@@ -65,7 +66,8 @@ module _ (code : List Instruction) (b : Numbering) (types : Types) (raised : Blo
   returned_by (Some (operands.Word n)) computed x slot p q end has stands = (refl, stands end has)
   returned_by None computed x slot p q end has stands = (refl, stands end has)
 
-  -- a right operand beside a left one
+  -- The right operand of an operator either needs no code, or its code is at this position beside a
+  -- left operand.
   pub right_by : (known : Option Operand) (left computed : Type 0) (x : List Instruction) (slot p q : ℕ) → left → p + length (code_unless known x) ≡ q → HasAt code p (code_unless known x)
       → (p + length x ≡ q → HasAt code p x → computed) → OperandBy code b types known (left × computed) slot (operand_or known slot) p q
   right_by (Some o) left computed x slot p q there end has stands = (refl, omega (arith, end))
@@ -155,7 +157,7 @@ module _ (code : List Instruction) (b : Numbering) (types : Types) (raised : Blo
         summed_stands span n (t + 3) t u q (cut s q inside summed (cut p q scaled (inside ++ summed) end)) (has_back code s inside summed last),
       )
 
-  -- a fat pointer is always in slots
+  -- Says that a fat pointer is always in slots, and never a constant word.
   abbrev IsInSlots : (thin : Bool) → Operand → Type 0
   IsInSlots true o = Unit {0}
   IsInSlots false (operands.Slot n) = Unit {0}
@@ -189,7 +191,7 @@ module _ (code : List Instruction) (b : Numbering) (types : Types) (raised : Blo
   tested_stands kinds.NonNull o p q end has = check_stands null_exception o p q (omega arith) (omega arith) end has
   tested_stands to o p q end has = omega (arith, end)
 
-  -- a value whose conversion changes its words is in slot t
+  -- Says that a value whose conversion changes its words is in slot t.
   abbrev IsBrought : (to : Kind) → Operand → (t : ℕ) → Type 0
   IsBrought to (operands.Slot n) t = n ≡ t
   IsBrought to (operands.Word w) t = ⊥
@@ -265,7 +267,7 @@ module _ (code : List Instruction) (b : Numbering) (types : Types) (raised : Blo
   operator_stands operators.Remainder l r d p q end has = checked_stands operators.Remainder l r d p q end has
   operator_stands o l r d p q end (here, none) = (here, end)
 
-  -- a pointer operator whose left operand is in slot t
+  -- The code of a pointer operator whose left operand is in slot t.
   first_two_by : (there : Bool) (t d p q : ℕ) → p + length (if there then [] else instructions.MoveWords d t 2 ∷ []) ≡ q → HasAt code p (if there then [] else instructions.MoveWords d t 2 ∷ []) → FirstTwoAt code b types there t d p q
   first_two_by true t d p q end has = omega (arith, end)
   first_two_by false t d p q end (here, none) = (here, end)
@@ -298,7 +300,7 @@ module _ (code : List Instruction) (b : Numbering) (types : Types) (raised : Blo
   global_stands words first (operands.Slot n) p q end has = each_stands store_word words first n p q end has
   global_stands words first (operands.Word n) p q end (here, none) = (here, end)
 
-  -- the third of the four instructions jumps past the last one
+  -- The third of the four instructions that count a pointer's elements jumps past the last one.
   pub count_stands : (o : Operand) (d p q : ℕ) → p + length (count_code o p d) ≡ q → HasAt code p (count_code o p d) → CountAt code b types o d p q
   count_stands (operands.Word n) d p q end (move, none) = (move, end)
   count_stands (operands.Slot n) d p q end (past, (subtract, (jump, (move, none)))) = (
@@ -411,7 +413,7 @@ module _ (code : List Instruction) (b : Numbering) (types : Types) (raised : Blo
   words_kept : (from to : Kind) (a : Expression) → from ≡ given b.functions a → converts_there from to ≡ true → words_of_kind (given b.functions a) ≡ words_of_kind to
   words_kept from to a kind lands = ap words_of_kind (sym kind) ∙ as_wide from to lands
 
-  -- an int that becomes a char is an operand, and its low byte is moved to a slot
+  -- An int that becomes a char is an operand, and the code moves its low byte to a slot.
   pub brought_by : (masking : Bool) (a : Expression) (d t p q : ℕ)
       → ((slot r : ℕ) → p + length (expression_code (starts_of types) a p slot t) ≡ r → HasAt code p (expression_code (starts_of types) a p slot t) → ExpressionAt code b types a slot t p r)
       → p + length (if masking then masked_by (operand_of (starts_of types) a) (expression_code (starts_of types) a p (value_slot (starts_of types) a t) t) (value_operand (starts_of types) a t) d else expression_code (starts_of types) a p d t) ≡ q

@@ -1,4 +1,4 @@
--- Statements: the code of a statement is where the relation reads it.
+-- This file proves that the code of a statement is where the simulation relation requires it.
 use Rattle.std.proofs.Common.{◌≡◌, ℕ, suc, ◌+◌, ◌<◌, Bool, true, false, inl, inr, List, [], ◌∷◌, ◌++◌, length, Option, None, Some, refl, sym, ap, subst, ◌∙◌, arith, length-append}
 use Rattle.cyc_types.specs.declared.typed.Kind.{Kind}
 use Rattle.cyc_types.specs.declared.typed.Kind.TheVariants as kinds
@@ -90,7 +90,7 @@ module _ (code : List Instruction) (b : Numbering) (types : Types) (raised : Blo
 
   -- ---- statements
 
-  -- the entry of a loop
+  -- The code that enters a loop is where the simulation relation requires it.
   entry_stands : (guarded : Bool) (a : Expression) (exits : Exits) (t p l r : ℕ) → Fits b types a → l ≡ p + entry_length guarded (choice_code (starts_of types) logical.AndThen a p t) → p < r
       → HasAt code p (entry_code guarded (choice_code (starts_of types) logical.AndThen a p t) (holding_jump (choice_of (starts_of types) logical.AndThen a t)) r p)
       → EntryAt code b types a (inside_loop p l exits) (body_target l) t r
@@ -103,7 +103,7 @@ module _ (code : List Instruction) (b : Numbering) (types : Types) (raised : Blo
       inl (subst (λ n. BranchesAt code b types a n (n + 1) t p) next (choice_follows code b types raised a (m + 1 + 1) t p m numbered refl (has_front code p first (jump ∷ []) has) here))
   entry_stands false a exits t p l r numbered at before (enter, none) = inr (enter, before)
 
-  -- a returned value has the words that the function returns
+  -- A returned value has as many words as the function returns.
   returns_kind : (result : Option Ty) (c : Converted) → FitsReturn b types result (Some c) → (results_of result ≡ words_of_kind (kind_passed c)) × (kind_passed c ≡ kind_of_result result)
   returns_kind None c numbered = absurd numbered
   returns_kind (Some t) c (kind, numbered) = (sym (type_words t) ∙ ap words_of_kind (sym kind), kind)
@@ -130,7 +130,8 @@ module _ (code : List Instruction) (b : Numbering) (types : Types) (raised : Blo
       let r = p + length front in
       (r, handlers_stand opened.handler p r refl (has_front code p front back has), marks_stand opened.mark r q (cut p q front back end) (has_back code p front back has))
 
-  -- a region is opened, and its handle is declared
+  -- The code that opens a region and declares its handle is where the simulation relation requires
+  -- it.
   opened_stands : (n place t p q : ℕ) → types.scopes ≡ Some place → n < b.locals → HasLocal types n kinds.Handle → p + length (opened_code (starts_of types) n t) ≡ q → HasAt code p (opened_code (starts_of types) n t)
       → OpenedAt code b types n t p q
   opened_stands n place t p q counts few room end (ask, (move, (named, none))) = (place, counts, ask, move, (few, room, named, omega (arith, end)))
@@ -260,7 +261,7 @@ module _ (code : List Instruction) (b : Numbering) (types : Types) (raised : Blo
   caught_stands None t p q numbered end has = omega (arith, end)
   caught_stands (Some n) t p q (few, room) end (here, none) = (few, room, here, end)
 
-  -- one of two alternative codes
+  -- The emitted code is one of two alternatives, chosen by a boolean.
   either_stands : (chosen : Bool) (x y : List Instruction) (p q : ℕ) (stands : Type 0) → p + length (if chosen then x else y) ≡ q → HasAt code p (if chosen then x else y)
       → (chosen ≡ true → p + length x ≡ q → HasAt code p x → stands) → (p + length y ≡ q → HasAt code p y → stands) → stands
   either_stands true x y p q stands end has first second = first refl end has

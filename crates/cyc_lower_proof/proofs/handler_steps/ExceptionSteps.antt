@@ -1,4 +1,5 @@
--- The steps of exceptions: entering a `try`, throwing, and reaching the clauses of a handler.
+-- This file proves the steps of exceptions: entering a `try`, throwing, and reaching the clauses of
+-- a handler.
 use Rattle.std.proofs.Common.{◌≡◌, ◌≢◌, ℕ, suc, ◌+◌, ◌≤◌, ◌<◌, Bool, true, false, List, [], ◌∷◌, length, Option, None, Some, refl, sym, ap, subst, ◌∙◌, arith, inl, inr}
 use Rattle.std.specs.List.{AllByRecursion}
 use Rattle.cyc_words.specs.Distinct.{IsDistinct}
@@ -79,7 +80,8 @@ module _ (source : Program) (pages calls : ℕ) where
   opens_one choice c first p (plain.Open index other contents ∷ handlers) g slots frames k stand = refl
   opens_one choice c first p (plain.Caught ∷ handlers) g slots frames k stand = absurd (never_caught g slots handlers frames k stand)
 
-  -- The slots after the number of open lexical regions is stored after the record.
+  -- The slots after entering a `try`: the number of open lexical regions is stored after the
+  -- handler's record.
   abbrev kept_slots : (scopes : Option ℕ) → Configuration → (slot : ℕ) → Words
   kept_slots None c slot = c.active.slots
   kept_slots (Some place) c slot = put c.active.slots slot (lexical_count c.store.regions % 2 ^ 32)
@@ -96,7 +98,7 @@ module _ (source : Program) (pages calls : ℕ) where
   kept_same None slots after slot many same kept = tt
   kept_same (Some place) slots after slot many same kept = same ∙ kept
 
-  -- the handler is opened; the words of its record are arbitrary
+  -- Entering a `try` opens its handler; the words of the handler's record are arbitrary.
   pub begins : (s : Statement) (handler : Clauses) (k : List Entry) (e : Environment) (w : World) (c : Configuration) → IsNested k e w → IsStep source pages calls (Executing (typed.Try s handler)) k e w c
   begins s handler k e w c nested well (shared, facts, (exits, q, (r, m, u, keeping, opening, body, leave, over, restoring, clauses), stack)) =
       by_keeping (scopes_of source) refl keeping
@@ -132,7 +134,7 @@ module _ (source : Program) (pages calls : ℕ) where
         recorded_at choice 3 (omega arith),
       )
 
-      -- the configuration in which the handler is opened
+      -- The configuration after a `try` has opened its handler.
       begun : Configuration
       begun = with_slots (at c r) kept
 
@@ -162,7 +164,8 @@ module _ (source : Program) (pages calls : ℕ) where
           ∙ ap (λ (o : Option ℕ). with_slots (at c r) (kept_slots o c slot)) (sym some)))
           opening (λ equal. omega (arith, equal, following)) (λ choice. opens_here choice)
 
-  -- the body is complete: the handler is closed, and the clauses are skipped
+  -- When the body of a `try` is complete, its handler is closed, and the `catch` clauses are
+  -- skipped.
   pub ends : (handler : Clauses) (k : List Entry) (e : Environment) (w : World) (c : Configuration) (exits : Exits) → (shared : SharedAt source pages calls k e w c)
       → DataIn source shared.tables c.active.slots (Handler handler ∷ k) e w c → StatementStack source c.active.function exits c.active.next c.frames (Handler handler ∷ k)
       → IsMatched source pages calls (Running Proceeding (Handler handler ∷ k) e w) (plain.Running c)
@@ -192,7 +195,7 @@ module _ (source : Program) (pages calls : ℕ) where
 
   -- ---- the clauses of a handler
 
-  -- a local is declared with the value of an operand
+  -- A local is declared, and its value is the value of an operand.
   pub naming : (n : ℕ) (v : Kinded) (js : Items) (k : List Entry) (e : Environment) (w : World) (c : Configuration) → IsStep source pages calls (Naming n v js) k e w c
   naming n v js k e w c well (shared, facts, (exits, q, o, here, is, local, (room, of_type), items, stack)) =
       let g = c.active.function in
@@ -219,7 +222,7 @@ module _ (source : Program) (pages calls : ℕ) where
 
   -- ---- unwinding by an exception
 
-  -- the effect of the throwing instruction
+  -- The state that results from the instruction that throws an exception.
   thrown : (tag value : ℕ) (c : Configuration) (x o : Operand) (choice : Choice) → operand_word c.active.slots x ≡ tag → operand_word c.active.slots o ≡ value
       → performed (lower_program source) choice c (instructions.Throw x o) ≡ throws c tag value c.active c.frames
   thrown tag value c x o choice x_is o_is = ap (λ n. throws c n (operand_word c.active.slots o) c.active c.frames) x_is ∙ ap (λ n. throws c tag n c.active c.frames) o_is
@@ -228,7 +231,8 @@ module _ (source : Program) (pages calls : ℕ) where
   beyond_all tag value c a rest none last =
       ap (throws c tag value a) last ∙ ap (λ (handlers : List plain.Handler). lands c tag value a [] (plain.Ended (Uncaught tag (signed value)) c.output c.input) handlers) none
 
-  -- The exception reaches the newest handler, whose record then contains its number and its int.
+  -- The exception reaches the newest handler; the record of this handler then contains the
+  -- exception's number and int.
   abbrev catching_in : (tag value index first : ℕ) → List plain.Handler → Configuration → Activation → List Frame → Configuration
   catching_in tag value index first later c a rest = record c {
     active = record a { next = index; slots = put (put a.slots first tag) (suc first) value; handlers = plain.Caught ∷ later };
@@ -250,7 +254,8 @@ module _ (source : Program) (pages calls : ℕ) where
   both_elsewhere slots first tag value m (inr above) =
       put-other (put slots first tag) (suc first) m value (λ equal. omega (arith, equal, above)) ∙ put-other slots first m tag (λ equal. omega (arith, equal, above))
 
-  -- An exception reaches the newest handler of a call: first by the instruction that throws it, then by the handler's own instructions.
+  -- An exception reaches the newest handler of a call: first by the instruction that throws the exception, then by the handler's own
+  -- instructions.
   module _ (tag value : ℕ) (handler : Clauses) (k : List Entry) (e : Environment) (w : World) (c : Configuration) (x o : Operand) (a : Activation) (rest : List Frame)
       (index first : ℕ) (contents : Words) (later : List plain.Handler) (exits : Exits) (m p out q : ℕ) (word : IsNumber tag)
       (here : At (code_of source c.active.function) c.active.next (instructions.Throw x o)) (x_is : operand_word c.active.slots x ≡ tag) (o_is : operand_word c.active.slots o ≡ value)
@@ -265,7 +270,7 @@ module _ (source : Program) (pages calls : ℕ) where
     abbrev reported_slots : Words
     reported_slots = put (put a.slots first tag) (suc first) value
 
-    -- the configuration after the handler is closed and its record is read
+    -- The configuration after the handler is closed and the record of the handler is read.
     abbrev resumed : Configuration
     resumed = record c { active = record a { next = m; slots = reported_slots; handlers = later }; frames = rest }
 
@@ -281,7 +286,7 @@ module _ (source : Program) (pages calls : ℕ) where
     value_is : reported_slots (floor source a.function k + 1) ≡ value
     value_is = ap reported_slots (let z : floor source a.function k + 1 ≡ suc first = omega (arith, first_is) in z) ∙ put-same (put a.slots first tag) (suc first) value
 
-    -- the shared invariant with one handler less
+    -- The shared invariant holds with one open handler less.
     abbrev shared_fewer : (closing : Option ℕ) → SharedBy source closing pages calls (Handler handler ∷ k) e w c → SharedBy source closing pages calls k e w resumed
     shared_fewer closing s = record {
       tables = s.tables;
@@ -301,7 +306,8 @@ module _ (source : Program) (pages calls : ℕ) where
     written t facts others =
         data_written source t a.function a.base w.objects e.locals k a.slots reported_slots later c.globals rest first 2 (omega (arith, first_is)) (λ n away. both_elsewhere a.slots first tag value n away) (facts, others)
 
-    -- two instructions, followed by those at these places
+    -- A step is matched by two instructions, followed by the instructions at the given code
+    -- positions.
     by_handler : (places : List CodePlace) → Inside source pages calls w resumed → plain.seen_of (plain.Running c) ≡ seen_in w
         → AllByRecursion (λ r. place_in source pages calls c ≢ r) places → AllByRecursion (λ r. place_in source pages calls thrown_to ≢ r) places → IsDistinct places
         → AllByRecursion (Contains (places_of (lower_program source))) places
@@ -325,7 +331,7 @@ module _ (source : Program) (pages calls : ℕ) where
     inside_resumed : Inside source pages calls w c → Inside source pages calls w resumed
     inside_resumed (seen, few, fits, asked) = (seen, few, omega (arith, fits, less), asked)
 
-    -- the lexical regions opened inside the `try` are closed
+    -- The lexical regions that were opened inside the `try` are closed.
     by_restoring : (scopes : Option ℕ) → scopes_of source ≡ scopes → objects.scopes w.regions ≡ scopes_in k → (shared : SharedBy source scopes pages calls (Handler handler ∷ k) e w c)
         → DataAt source shared.tables a.function a.base w.objects e.locals (callers k) a.slots c.globals rest → HandlersStand source a.function a.slots later rest k
         → RestoredAt (code_of source a.function) (bounds_at source a.function) (types_at source a.function) scopes (floor source a.function k + RECORD_WORDS) m p
@@ -446,7 +452,7 @@ module _ (source : Program) (pages calls : ℕ) where
 
   -- ---- the clauses of a handler
 
-  -- a clause catches the exception
+  -- A `catch` clause catches the exception, and its local receives the exception's int.
   caught_at : (value : ℕ) (x : Option ℕ) (js : Items) (k : List Entry) (e : Environment) (w : World) (c : Configuration) (exits : Exits) (m u q : ℕ)
       → (shared : SharedAt source pages calls k e w c) → DataIn source shared.tables c.active.slots k e w c
       → CaughtAt (code_of source c.active.function) (bounds_at source c.active.function) (types_at source c.active.function) x (floor source c.active.function k) c.active.next m

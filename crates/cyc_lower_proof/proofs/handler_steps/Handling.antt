@@ -1,4 +1,5 @@
--- The effect on the open handlers of a statement that leaves some of these handlers.
+-- This file proves the effect that a statement has on the open handlers when it leaves some of
+-- them.
 use Rattle.std.proofs.Common.{◌≡◌, ℕ, suc, ◌+◌, ◌<◌, Bool, true, false, List, [], ◌∷◌, Option, None, Some, refl, sym, ap, subst, ◌∙◌, arith}
 use Rattle.std.specs.Prelude.{◌==◌, if◌then◌else◌}
 use Rattle.std.proofs.lemmas.Bool.{eq-eqb, eqb-true, and_from, false_from_ne_true}
@@ -33,7 +34,7 @@ intact slots first contents (zeroth, second, third, fourth) =
     (and_from _ _ (eq-eqb (slots (first + 1)) (contents 1) second)
     (and_from _ _ (eq-eqb (slots (first + 2)) (contents 2) third) (eq-eqb (slots (first + 3)) (contents 3) fourth)))
 
--- the handler with this record is closed
+-- Closes the handler whose record begins at the given slot.
 pub closes_here : (c : Configuration) (target index first : ℕ) (contents : Words) (handlers : List plain.Handler) → first ≡ target → IsIntact c.active.slots first contents
     → closes c target (plain.Open index first contents ∷ handlers) ≡ plain.Running (advanced (record c { active = record c.active { handlers = handlers } }))
 closes_here c target index first contents handlers is same =
@@ -54,7 +55,8 @@ newest_open (plain.Caught ∷ handlers) P is = absurd is
 newest_open (plain.Open index first contents ∷ handlers) P is = (index, first, contents, handlers, refl, is)
 
 module _ (source : Program) where
-  -- the exits agree with the open handlers
+  -- The exits recorded for a loop or function agree with the exception handlers that are open
+  -- inside it.
   pub record_left : (g : ℕ) (exits : Exits) (p : ℕ) (frames : List Frame) (k : List Entry) → StatementStack source g exits p frames k
       → (exits.in_loop ≡ opened_by source true g k) × (exits.in_function ≡ opened_by source false g k)
   record_left g exits p frames (Rest items ∷ k) (q, at, stack) = record_left g exits q frames k stack
@@ -76,7 +78,7 @@ module _ (source : Program) where
   record_left g exits p frames (Main ∷ k) (s, at, outside, last) = outside
   record_left g exits p frames k stack = absurd stack
 
-  -- the outermost open record ends before the temporaries
+  -- The outermost open handler record comes before the temporaries.
   record_there : (loop : Bool) (g : ℕ) (k : List Entry) (first : ℕ) → (opened_by source loop g k).handler ≡ Some first → first < floor source g k
   record_there loop g [] first is = absurd (none-some first is)
   record_there true g (Loop condition body ∷ k) first is = absurd (none-some first is)
@@ -91,7 +93,7 @@ module _ (source : Program) where
   record_there loop g (Main ∷ k) first is = absurd (none-some first is)
   record_there loop g (entry ∷ k) first is = record_there loop g k first is
 
-  -- if no record is open, no handlers are left
+  -- If no handler record is open inside a loop or call, then an exit from it leaves no handlers.
   none_left : (loop : Bool) (g : ℕ) (slots : Words) (handlers : List plain.Handler) (frames : List Frame) (k : List Entry) → (opened_by source loop g k).handler ≡ None
       → HandlersStand source g slots handlers frames k → HandlersStand source g slots handlers frames (left_by loop k)
   none_left loop g slots handlers frames [] none stand = stand
@@ -107,7 +109,7 @@ module _ (source : Program) where
   none_left loop g slots handlers frames (CloseLexical region ∷ k) none (marked, stand) = none_left loop g slots handlers frames k none stand
   none_left loop g slots handlers frames (entry ∷ k) none stand = none_left loop g slots handlers frames k none stand
 
-  -- closing the outermost handler also closes the inner ones
+  -- Says that closing the outermost handler also closes the inner ones.
   abbrev IsClosed : (loop : Bool) → Configuration → List plain.Handler → (first : ℕ) → List Entry → Type 0
   IsClosed loop c handlers first k =
       (later : List plain.Handler) × (closes c first handlers ≡ plain.Running (advanced (record c { active = record c.active { handlers = later } })))
@@ -141,7 +143,8 @@ module _ (source : Program) where
   left_closed loop c handlers first (CloseLexical region ∷ k) is (marked, stand) = left_closed loop c handlers first k is stand
   left_closed loop c handlers first (entry ∷ k) is stand = left_closed loop c handlers first k is stand
 
-  -- if no mark is left, no lexical regions are open
+  -- If an exit has no saved region count to restore, then no lexical regions are open that the exit
+  -- must close.
   pub unmarked : (loop : Bool) (g : ℕ) (k : List Entry) → (opened_by source loop g k).mark ≡ None → scopes_in (left_by loop k) ≡ scopes_in k
   unmarked loop g [] none = refl
   unmarked true g (Loop condition body ∷ k) none = refl
@@ -155,7 +158,7 @@ module _ (source : Program) where
   unmarked loop g (Main ∷ k) none = refl
   unmarked loop g (entry ∷ k) none = unmarked loop g k none
 
-  -- a mark belongs to an open region
+  -- If an exit has a saved region count, then at least one lexical region is open.
   marked_some : (loop : Bool) (g : ℕ) (k : List Entry) (mark : ℕ) → (opened_by source loop g k).mark ≡ Some mark → 0 < scopes_in k
   marked_some loop g [] mark is = absurd (none-some mark is)
   marked_some true g (Loop condition body ∷ k) mark is = absurd (none-some mark is)
@@ -165,7 +168,7 @@ module _ (source : Program) where
   marked_some loop g (Main ∷ k) mark is = absurd (none-some mark is)
   marked_some loop g (entry ∷ k) mark is = marked_some loop g k mark is
 
-  -- if there is a mark, the program may open lexical regions
+  -- If an exit has a saved region count, then the program may open lexical regions.
   pub marked_reported : (loop : Bool) (g : ℕ) (k : List Entry) → MayBeOpen (scopes_of source) (scopes_in k) → (mark : ℕ) → (opened_by source loop g k).mark ≡ Some mark → HasScopes (scopes_of source)
   marked_reported loop g k may mark is = by (scopes_of source) may
     where
@@ -173,7 +176,7 @@ module _ (source : Program) where
       by None none = omega (arith, none, marked_some loop g k mark is)
       by (Some place) may = tt
 
-  -- The mark is the number of lexical regions that stay open.
+  -- The saved region count is the number of lexical regions that stay open after the exit.
   pub marked_by : (loop : Bool) (g : ℕ) (slots : Words) (handlers : List plain.Handler) (frames : List Frame) (k : List Entry) (mark : ℕ) → (opened_by source loop g k).mark ≡ Some mark
       → HandlersStand source g slots handlers frames k → slots mark ≡ scopes_in (left_by loop k)
   marked_by loop g slots handlers frames [] mark is stand = absurd stand
@@ -205,13 +208,14 @@ module _ (source : Program) where
   caught_by a rest (entry ∷ k) stand = stand
 
 module _ (source : Program) (pages calls : ℕ) where
-  -- the shared invariant while entries are popped
+  -- The shared invariant while stack entries are popped.
   abbrev pub shared_leaving : (loop : Bool) (k : List Entry) (e : Environment) (w : World) (c : Configuration) → SharedAt source pages calls k e w c
       → SharedBy source (opened_by source loop c.active.function k).mark pages calls k e w c
   shared_leaving loop k e w c shared =
       shared_ahead source (opened_by source loop c.active.function k).mark pages calls k e w c (marked_reported source loop c.active.function k shared.counters.1) shared
 
-  -- A step that begins to pop entries: one instruction closes their handlers, or there are none. Lexical regions are closed later.
+  -- A step begins to pop stack entries: one instruction closes the handlers of these entries, or they have no handlers. Lexical
+  -- regions are closed later.
   pub leaving : (loop : Bool) (from next : Focus) (old k : List Entry) (e : Environment) (w : World) (c : Configuration) (opened : Opened) (r q : ℕ)
       → step source (Running from old e w) ≡ Running next k e w → SharedAt source pages calls old e w c → weight (Running next k e w) < weight (Running from old e w)
       → opened ≡ opened_by source loop c.active.function k
@@ -249,7 +253,7 @@ module _ (source : Program) (pages calls : ℕ) where
           (λ choice. subst (Matches source pages calls (Running next k e w)) (sym gone)
           (subst (λ n. Related source pages calls next k e w (record c { active = record c.active { next = n; handlers = later } })) (sym following) (goes_on later rest)))
 
-  -- an exception is raised by this instruction
+  -- The instruction raises an exception.
   pub raised : (tag value : ℕ) (k : List Entry) (e : Environment) (w : World) (c : Configuration) (x o : Operand) → IsNumber tag → (shared : SharedAt source pages calls k e w c) → DataIn source shared.tables c.active.slots k e w c
       → At (code_of source c.active.function) c.active.next (instructions.Throw x o) → operand_word c.active.slots x ≡ tag → operand_word c.active.slots o ≡ value → Related source pages calls (Throwing tag value) k e w c
   raised tag value k e w c x o word shared (facts, stand) here x_is o_is = (

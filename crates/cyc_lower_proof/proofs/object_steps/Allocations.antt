@@ -1,4 +1,5 @@
--- The steps that allocate objects: a block is allocated, and then each cell is written.
+-- This file proves the steps that allocate objects: a block is allocated, and then each cell is
+-- written.
 use Rattle.std.proofs.Common.{◌≡◌, ℕ, suc, ◌+◌, ◌*◌, ◌≤◌, ◌<◌, Bool, true, false, List, [], ◌∷◌, ◌++◌, length, reverse, None, Some, slice_get, refl, sym, ap, subst, ◌∙◌, inl, inr, arith, length-append, append_assoc, append-nil}
 use Rattle.std.proofs.lemmas.List.{reverse-append}
 use Rattle.std.specs.Prelude.{◌==◌, nat_lt, if◌then◌else◌}
@@ -71,12 +72,12 @@ words_many : (vs : List Kinded) → length vs ≤ words_held vs
 words_many [] = omega arith
 words_many (v ∷ vs) = omega (arith, words_many vs, kind_positive v.kind)
 
--- the kind after the first ones
+-- The element of a list after its first n elements, here the kind after the kinds `done`.
 there_is : (done rest : List Kind) (kind : Kind) → slice_get (done ++ kind ∷ rest) (length done) ≡ Some kind
 there_is [] rest kind = refl
 there_is (a ∷ done) rest kind = there_is done rest kind
 
--- the slots of values are those of their kinds
+-- The number of slots of a list of values is the number of slots of their kinds.
 slots_held : (vs : List Kinded) → slots_of_kinds (kinds_of (blanks_of vs)) ≡ words_held vs
 slots_held [] = refl
 slots_held (v ∷ vs) = omega (arith, slots_held vs)
@@ -89,7 +90,7 @@ kinds-append : (us vs : List Kinded) → kinds_of (blanks_of (us ++ vs)) ≡ kin
 kinds-append [] vs = refl
 kinds-append (u ∷ us) vs = ap (λ (ks : List Kind). u.kind ∷ ks) (kinds-append us vs)
 
--- the kinds of values in order; the values are listed last first
+-- Reversing a list of values, which has the last value first, yields their kinds in order.
 kinds_reversed : (v : Kinded) (vs : List Kinded) (ks : List Kind) → kinds_of (blanks_of (reverse (v ∷ vs))) ++ ks ≡ kinds_of (blanks_of (reverse vs)) ++ v.kind ∷ ks
 kinds_reversed v vs ks =
     ap (λ (us : List Kinded). kinds_of (blanks_of us) ++ ks) (reverse-append (v ∷ []) vs)
@@ -118,8 +119,8 @@ block_size_fits vs few =
 
 -- ---- allocation for an owner
 
--- A new object of these cells is allocated for an owner, which gives this world. The store is full exactly if the source is, and its new
--- content is related.
+-- A new object with these cells is allocated for an owner, and the allocation yields the world `new`. The store is full exactly if the
+-- source is full, and the store's new content is related to `new`.
 pub record Makes (t : Tables) (w : World) (s : StoreState) (owner : Owner) (handle : ℕ) (cells : List Cell) (new : World) : Type 0 where
   pub creates : created w owner cells ≡ Found new
   pub joined : new.objects ≡ w.objects ++ record { owner = owner; cells = cells } ∷ []
@@ -130,7 +131,7 @@ pub record Makes (t : Tables) (w : World) (s : StoreState) (owner : Owner) (hand
   pub related : (choice : services.Choice) → refusal s (Allocate handle (block_size cells)) ≡ None → IsAllowed s (Allocate handle (block_size cells)) choice
       → objects.Related (with_row t (Placed choice.address (kinds_of cells))) (silent new) (served s (Allocate handle (block_size cells)) choice)
 
--- an allocation does not change the number of a store's pages
+-- An allocation does not change how many pages the heap store has.
 asked_pages : (s : StoreState) (handle words : ℕ) (choice : services.Choice) → (served s (Allocate handle words) choice).pages ≡ s.pages
 asked_pages s handle words choice = by (handle == UNIQUE)
   where
@@ -138,7 +139,7 @@ asked_pages s handle words choice = by (handle == UNIQUE)
     by true = refl
     by false = refl
 
--- a region in which an object is allocated is open
+-- If an object is allocated in a region, then this region is open.
 region_there : (a : Access Region) (region : ℕ) (cells : List Cell) (w new : World) → created_in w region a cells ≡ Found new → (r : Region) × (a ≡ Found r)
 region_there (Found r) region cells w new found = (r, refl)
 region_there Closed region cells w new found = absurd (let f : created_in w region Closed cells ≡ Found new = found in cc)
@@ -148,7 +149,7 @@ cells_sized : (cells : List Cell) → block_size cells ≤ MOST_BLOCK_WORDS → 
 cells_sized cells few = and_from _ _ (le-leb 1 (block_size cells) (le-max_left 1 (words_for (bytes_of_kinds (kinds_of cells))))) (le-leb (block_size cells) MOST_BLOCK_WORDS few)
 
 module _ {t : Tables} {w : World} {s : StoreState} (related : objects.Related t (silent w) s) (cells : List Cell) (blank : AreBlank cells) (few : block_size cells ≤ MOST_BLOCK_WORDS) where
-  -- allocation in an open region
+  -- The allocation of an object in an open region.
   made_there : (region handle : ℕ) (r : Region) → region_at w region ≡ Found r → slice_get t.handles region ≡ Some (Some handle) → Makes t w s (InRegion region) handle cells (made_in w region r cells)
   made_there region handle r found entry =
       let (there, kept) = open-home related region handle r found entry in record {
@@ -161,7 +162,7 @@ module _ {t : Tables} {w : World} {s : StoreState} (related : objects.Related t 
         related = λ choice free allowed. allocated related region handle r cells there kept entry choice blank free allowed;
       }
 
-  -- allocation of a unique object
+  -- The allocation of an object with a unique pointer.
   made_alone : Makes t w s (Unique true) UNIQUE cells (made_unique w cells)
   made_alone = record {
     creates = refl;
@@ -180,7 +181,7 @@ module _ {t : Tables} {w : World} {s : StoreState} (related : objects.Related t 
   made_for (Unique true) handle made handle_is creates = (made_unique w cells, subst (λ h. Makes t w s (Unique true) h cells (made_unique w cells)) (sym handle_is) made_alone)
   made_for (Unique false) handle made owned creates = absurd owned
 
--- if an object is allocated, its owner has room
+-- If an object is allocated, then the memory of its owner has room for it.
 object_made : (a : Access World) (object : ℕ) (vs : List Kinded) (k : List Entry) (e : Environment) (w : World) → IsWell (filled a object vs k e w) → (made : World) × (a ≡ Found made)
 object_made (Found made) object vs k e w well = (made, refl)
 object_made Closed object vs k e w well = absurd (well refl)
@@ -229,7 +230,7 @@ module _ (source : Program) (pages calls : ℕ) where
         within_pages : demand after.store ≤ pages
         within_pages = omega (arith, (served-sound c.store (Allocate handle (block_size cells)) choice shared.related.sound free served.allowed).demand, makes.pages choice, shared.same_pages)
 
-    -- only the slot after the values changes
+    -- An allocation changes only the slot after the values.
     same_slots : (m : ℕ) → Outside (t + words_held vs) 1 m → after.active.slots m ≡ c.active.slots m
     same_slots m (inl short) = put-other c.active.slots (t + words_held vs) m choice.address (λ same. omega (arith, same, short))
     same_slots m (inr long) = put-other c.active.slots (t + words_held vs) m choice.address (λ same. omega (arith, same, long))
@@ -270,7 +271,7 @@ module _ (source : Program) (pages calls : ℕ) where
         some_cells [] none = absurd (omega (arith, none))
         some_cells (u ∷ us) one = omega arith
 
-  -- allocating an object for values in slots
+  -- The step that allocates an object for values in slots.
   pub made_object : (owner : Owner) (handle : Operand) (focus : Focus) (k₀ k : List Entry) (e : Environment) (w : World) (c : Configuration) (vs : List Kinded) (d q : ℕ)
       → IsHandleOf owner handle (top source c.active.function k) k → step source (Running focus k₀ e w) ≡ makes_of owner vs k e w
       → IsWell (makes_of owner vs k e w) → SharedAt source pages calls k₀ e w c → (shared : SharedAt source pages calls k e w c) → DataIn source shared.tables c.active.slots k e w c
@@ -338,7 +339,7 @@ module _ (source : Program) (pages calls : ℕ) where
 
   -- ---- entries that wait for the values of an object
 
-  -- the value of the object's only cell
+  -- The step that writes the value of an object with only one cell.
   pub plain_made : (owner : Owner) (kind : Kind) (v : Kinded) (o : Operand) (k : List Entry) (e : Environment) (w : World) (c : Configuration)
       → IsWell (step source (Running (Given v) (Needs (MakePlain owner kind) ∷ k) e w)) → (shared : SharedAt source pages calls k e w c) → DataIn source shared.tables c.active.slots k e w c
       → IsIn shared.tables v c.active.slots o → Holds shared.tables c.active.slots (floor source c.active.function k) (held k)
@@ -352,7 +353,7 @@ module _ (source : Program) (pages calls : ℕ) where
       (subst (IsIn shared.tables v c.active.slots) there is, tt)
       object lands
 
-  -- the next field is evaluated, or the object is allocated
+  -- The next field of a new object is evaluated, or the object is allocated if no field is left.
   pub fields_made : (owner : Owner) (earlier : List Kinded) (cs : Arguments) (v : Kinded) (o : Operand) (k : List Entry) (e : Environment) (w : World) (c : Configuration)
       → IsWell (step source (Running (Given v) (Needs (MakeFields owner earlier cs) ∷ k) e w)) → (shared : SharedAt source pages calls k e w c) → DataIn source shared.tables c.active.slots k e w c
       → IsIn shared.tables v c.active.slots o → Holds shared.tables c.active.slots (floor source c.active.function k) (earlier ++ held k)
@@ -383,7 +384,7 @@ module _ (source : Program) (pages calls : ℕ) where
 
   -- ---- writing the cells
 
-  -- the next cell comes after the cells already written
+  -- The next cell of a new object comes after the cells that are already written.
   cell_next : (t : Tables) (object address : ℕ) (done rest : List Kind) (kind : Kind) → IsObject t object address (done ++ kind ∷ rest) → Points t object (length done) (add_of address (begins kind (bytes_of_kinds done)))
   cell_next t object address done rest kind is = record {
     address = address;
@@ -398,7 +399,8 @@ module _ (source : Program) (pages calls : ℕ) where
         add_is address (begins kind (bytes_of_kinds done)) (omega (arith, fits, place, inside)) ∙ ap (λ n. address + n) (sym place);
   }
 
-  -- the next cell is written, by one word or by three
+  -- The next cell of a new object is written, by one store for one word or by three stores for
+  -- three words.
   module _ (x : Write) (writes : List Write) (pointer : Kinded) (object : ℕ) (done : List Kind) (u : Kinded) (us : List Kinded) (address slot d m q : ℕ) (k : List Entry) (e : Environment) (w : World) (c : Configuration)
       (does : step source (Running (Writing (x ∷ writes) (Some pointer)) k e w) ≡ stored (cell_at w object (length done)) object (length done) u (Writing (writes_from object (suc (length done)) us) (Some pointer)) k e w)
       (words : plain.HoldsWords (plain.Running c)) (names : AreNamed source e.locals (callers k) w c.active.function c.active.base c.frames c.store) (well : IsWell (step source (Running (Writing (x ∷ writes) (Some pointer)) k e w)))
@@ -422,7 +424,7 @@ module _ (source : Program) (pages calls : ℕ) where
     points : Points shared.tables object (length done) place
     points = cell_next shared.tables object (c.active.slots address) done rest u.kind there
 
-    -- the remaining cells begin after this one
+    -- The remaining cells of a new object begin after the cell that is written now.
     later_cells : (n p : ℕ) → slot + words_of_kind u.kind ≡ n → r ≡ p → CellsAt (code_of source c.active.function) (bounds_at source c.active.function) (types_on source c.active.function k) rest address (bytes_of_kinds (done ++ u.kind ∷ [])) n p m
     later_cells n p slot_is end_is =
         subst (λ b. CellsAt (code_of source c.active.function) (bounds_at source c.active.function) (types_on source c.active.function k) rest address b n p m) (sym (bytes-joined 0 done (u.kind ∷ [])))
@@ -478,7 +480,7 @@ module _ (source : Program) (pages calls : ℕ) where
           ),
         ))
 
-    -- the addresses of the cell's words do not wrap
+    -- The addresses of a cell's words do not wrap around.
     unwrapped : u.kind ≡ kinds.Fat → (j : ℕ) → j < 3 → add_of (c.active.slots address) (begins u.kind (bytes_of_kinds done) + 4 * j) ≡ place + 4 * j
     unwrapped fat j below =
         let bytes = begins u.kind (bytes_of_kinds done) in
@@ -542,7 +544,8 @@ module _ (source : Program) (pages calls : ℕ) where
     writes_cell true narrow = writes_word (eqb-true (words_of_kind u.kind) 1 narrow)
     writes_cell false wide = writes_three (wide_kind u.kind wide)
 
-  -- a cell of a new object is written; after the last one, the pointer is moved to its slot
+  -- A cell of a new object is written; after the last cell, the pointer to the object is moved to
+  -- its slot.
   pub writing : (writes : List Write) (pointer : Kinded) (k : List Entry) (e : Environment) (w : World) (c : Configuration) → plain.HoldsWords (plain.Running c)
       → AreNamed source e.locals (callers k) w c.active.function c.active.base c.frames c.store → IsStep source pages calls (Writing writes (Some pointer)) k e w c
   writing [] pointer k e w c words names well (shared, facts, (object, done, [], address, slot, d, m, q, are, is, there, single, high, above, held_in, at, move, end, holds, lands)) =

@@ -1,4 +1,4 @@
--- The steps that begin an array: its length is checked, and a block is allocated.
+-- This file proves the steps that begin an array: the length is checked, and a block is allocated.
 use Rattle.std.proofs.Common.{◌≡◌, ◌≢◌, ℕ, zero, suc, ◌+◌, ◌*◌, ◌≤◌, ◌<◌, max, Bool, true, false, List, [], ◌∷◌, ◌++◌, length, None, refl, sym, ap, subst, ◌∙◌, arith, inl, inr, length-append}
 use Rattle.std.specs.Prelude.{nat_le, nat_lt, ◌==◌, if◌then◌else◌}
 use Rattle.std.proofs.lemmas.Bool.{le-leb, false_from_ne_true, leb-true, leb-false, cases_Bool}
@@ -65,14 +65,14 @@ use Rattle.cyc_lower_proof.proofs.pointer_steps.PointerSteps.{int_word}
 
 -- ---- the owner of the array
 
--- if an array is allocated, its owner has room
+-- If an array is allocated, then the memory of its owner has room for it.
 array_made : (a : Access World) (object count level : ℕ) (wanted : Kind) (element : Expression) (k : List Entry) (e : Environment) (w : World)
     → IsWell (begun a object count level wanted element k e w) → (made : World) × (a ≡ Found made)
 array_made (Found made) object count level wanted element k e w well = (made, refl)
 array_made Closed object count level wanted element k e w well = absurd (well refl)
 array_made Missing object count level wanted element k e w well = absurd (well refl)
 
--- A path that computes the number of words of this many elements into a slot.
+-- A path of instructions that computes into a slot how many words n elements of a kind take.
 record Sized (source : Program) (kind : Kind) (a : Configuration) (t r n : ℕ) : Type 0 where
   pub slots : Words
   pub links : List Link
@@ -82,7 +82,7 @@ record Sized (source : Program) (kind : Kind) (a : Configuration) (t r n : ℕ) 
   pub others : (x : ℕ) → x ≢ t → slots x ≡ a.active.slots x
 
 module _ (source : Program) (a : Configuration) (t r n : ℕ) (is : a.active.slots t ≡ n) where
-  -- each element of this kind has a fixed number of words
+  -- The size of an array whose elements take a fixed number of words each.
   product_sized : (kind : Kind) → words_for (n * bytes_of_kind kind) ≡ n * words_of_kind kind → words_for (n * bytes_of_kind kind) ≤ MOST_BLOCK_WORDS
       → At (code_of source a.active.function) a.active.next (instructions.Binary plain_binary.Multiply t (operands.Slot t) (operands.Word (words_of_kind kind))) × (a.active.next + 1 ≡ r)
       → Sized source kind a t r n
@@ -99,7 +99,7 @@ module _ (source : Program) (a : Configuration) (t r n : ℕ) (is : a.active.slo
         others = λ x other. put-other a.active.slots t x (mul_of (a.active.slots t) (words_of_kind kind)) other;
       }
 
-  -- four chars share a word
+  -- The size of a char array: four chars share a word.
   quarter_sized : words_for (n * bytes_of_kind kinds.Char) ≤ MOST_BLOCK_WORDS
       → At (code_of source a.active.function) a.active.next (instructions.Binary plain_binary.Add t (operands.Slot t) (operands.Word 3))
       × At (code_of source a.active.function) (a.active.next + 1) (instructions.Binary plain_binary.ShiftRight t (operands.Slot t) (operands.Word 2)) × (a.active.next + 1 + 1 ≡ r)
@@ -137,7 +137,7 @@ module _ (source : Program) (pages calls : ℕ) where
     abbrev t : ℕ
     t = top source c.active.function k
 
-    -- the code after the length
+    -- Says where the code after the length of an array is.
     abbrev Waits : (p : ℕ) → Type 0
     Waits p =
         (handle : Operand) × (d : ℕ) × (h : ℕ) × (r : ℕ) × (s : ℕ) × (q : ℕ) × IsHandleOf owner handle t k
@@ -146,7 +146,8 @@ module _ (source : Program) (pages calls : ℕ) where
         × ElementsAt (code_of source c.active.function) (bounds_at source c.active.function) (types_on source c.active.function k) element wanted t d h r s q
         × LandsMade source c.active.function e.locals kinds.Fat d q c.frames k
 
-    -- the length is allowed: the arguments of the allocation are computed into slots
+    -- The length of the array is allowed: the code computes the arguments of the allocation into
+    -- slots.
     begins : (focus : Focus) (k₀ : List Entry) (n : ℕ) → step source (Running focus k₀ e w) ≡ Running (Beginning owner n level wanted element) k e w → SharedAt source pages calls k₀ e w c
         → c.active.slots t ≡ n → words_for (n * bytes_of_kind wanted) ≤ MOST_BLOCK_WORDS → Waits c.active.next → IsMatched source pages calls (Running focus k₀ e w) (plain.Running c)
     begins focus k₀ n does shared₀ is few (handle, d, h, r, s, q, owned, (m, u, (block_at, branch, raising_it, passed), count, index, size, none, sum, ask, end), level_is, elements, lands) =
@@ -240,7 +241,7 @@ module _ (source : Program) (pages calls : ℕ) where
         apart_from m first many x (inl before) from to same = omega (arith, before, from, same)
         apart_from m first many x (inr following) from to same = omega (arith, following, to, same)
 
-    -- the length is too large
+    -- The length of the array is too large, so the code raises an exception.
     raises : (focus : Focus) (k₀ : List Entry) (n : ℕ) → step source (Running focus k₀ e w) ≡ Running (Throwing array_size 0) k e w → SharedAt source pages calls k₀ e w c
         → c.active.slots t ≡ n → (words_for (n * bytes_of_kind wanted) ≤ MOST_BLOCK_WORDS → ⊥) → Waits c.active.next → IsMatched source pages calls (Running focus k₀ e w) (plain.Running c)
     raises focus k₀ n does shared₀ is long (handle, d, h, r, s, q, owned, (m, u, (block_at, branch, raising_it, passed), count, index, size, none, sum, ask, end), level_is, elements, lands) =
@@ -276,7 +277,7 @@ module _ (source : Program) (pages calls : ℕ) where
             (λ few. let f : false ≡ true = sym reported ∙ le-leb (words_for (n * bytes_of_kind wanted)) most_words few in cc) waits
     measures i u well is shared₀ waits = absurd (well refl)
 
-  -- the length of an array, checked
+  -- The length of an array has been computed and is checked.
   pub array_sized : (owner : Owner) (level : ℕ) (wanted : Kind) (element : Expression) (v : Kinded) (o : Operand) (k : List Entry) (e : Environment) (w : World) (c : Configuration)
       → IsWell (step source (Running (Given v) (Needs (MakeArray owner level wanted element) ∷ k) e w)) → (shared : SharedAt source pages calls k e w c) → DataIn source shared.tables c.active.slots k e w c
       → IsIn shared.tables v c.active.slots o → Holds shared.tables c.active.slots (floor source c.active.function k) (held k)
@@ -323,7 +324,7 @@ module _ (source : Program) (pages calls : ℕ) where
         within_pages : demand after.store ≤ pages
         within_pages = omega (arith, (served-sound c.store (Allocate handle (block_size cells)) choice shared.related.sound free served.allowed).demand, makes.pages choice, shared.same_pages)
 
-    -- only the slot of the address changes
+    -- The allocation of the array's block changes only the slot of the block's address.
     same_slots : (m : ℕ) → Outside first 1 m → after.active.slots m ≡ c.active.slots m
     same_slots m (inl short) = put-other c.active.slots first m choice.address (λ same. omega (arith, same, short))
     same_slots m (inr long) = put-other c.active.slots first m choice.address (λ same. omega (arith, same, long))
@@ -346,7 +347,7 @@ module _ (source : Program) (pages calls : ℕ) where
         Holds-same grown c.active.slots after.active.slots (floor source c.active.function k) (held k) (λ n short. same_slots n (inl (omega (arith, short))))
         (Holds-grows shared.tables grown grows c.active.slots (floor source c.active.function k) (held k) holds)
 
-    -- the pointer to the array is in slots
+    -- After the allocation, the fat pointer to the array is in slots.
     array_there : block_size cells ≤ MOST_BLOCK_WORDS → c.active.slots (first + 1) ≡ count → c.active.slots (first + 2) ≡ 0 → Is grown kinds.Fat (Fat (length w.objects) 0 count 0) after.active.slots first
     array_there short long start = (
       subst (IsPartOf grown (length w.objects) 0 count) (sym (put-same c.active.slots first choice.address)) (part-made shared.related handle count wanted choice (omega (arith, short)) served.allowed),
@@ -354,7 +355,7 @@ module _ (source : Program) (pages calls : ℕ) where
       same_slots (first + 2) (inr (omega arith)) ∙ start,
     )
 
-  -- the block is allocated
+  -- The step that allocates the block of an array.
   pub beginning : (owner : Owner) (count level : ℕ) (wanted : Kind) (element : Expression) (k : List Entry) (e : Environment) (w : World) (c : Configuration) → IsStep source pages calls (Beginning owner count level wanted element) k e w c
   beginning owner count level wanted element k e w c well (shared, facts, (handle, d, h, r, s, q, owned, ask, next_is, few, long, start, block, level_is, elements, holds, lands)) =
       let g = c.active.function in

@@ -1,4 +1,5 @@
--- The words of arrays: the largest number of elements, the offset of each element, and the words of the block.
+-- This file proves facts about the words of arrays: the largest number of elements, the offset of each
+-- element, and the words of the block.
 use Rattle.std.proofs.Common.{◌≡◌, ℕ, zero, suc, ◌+◌, ◌*◌, ◌/◌, ◌%◌, ◌≤◌, ◌<◌, max, ap, ◌∙◌, arith}
 use Rattle.std.specs.Prelude.{◌==◌}
 use Rattle.std.proofs.lemmas.Bool.{eqb-true, false_from_ne_true}
@@ -15,7 +16,7 @@ use Rattle.cyc_lower_proof.specs.inside.ObjectCode.{most_elements}
 use Rattle.cyc_lower_proof.proofs.place_steps.PlaceWords.{add_is, shifted_is, multiplied_is}
 use Rattle.cyc_lower_proof.proofs.pointer_steps.ElementWords.{scaled}
 
--- The number of elements is allowed exactly if their number of words is.
+-- A number of array elements is allowed exactly if the number of their words is allowed.
 pub elements_few : (kind : Kind) (n : ℕ) → words_for (n * bytes_of_kind kind) ≤ MOST_BLOCK_WORDS → n ≤ most_elements (bytes_of_kind kind)
 elements_few kinds.Int n few = omega (arith, few)
 elements_few kinds.Char n few = omega (arith, few)
@@ -70,17 +71,18 @@ quarter : (a : ℕ) → a < 2147483648 → sar_of a 2 ≡ a / 4
 unfolding sar_of
 quarter a low = ap (λ z. unsigned (floor_div z 4)) (signed_low a low) ∙ (let e : a / 4 % 4294967296 ≡ a / 4 = omega (arith, low) in e)
 
--- the words of chars: four chars share a word
+-- The number of words of an array of chars: four chars share a word.
 pub quarter_is : (n : ℕ) → words_for (n * bytes_of_kind kinds.Char) ≤ MOST_BLOCK_WORDS → sar_of (add_of n 3) 2 ≡ words_for (n * bytes_of_kind kinds.Char)
 quarter_is n few =
     ap (λ m. sar_of m 2) (add_is n 3 (omega (arith, few)))
     ∙ (quarter (n + 3) (omega (arith, few)) ∙ (let e : (n + 3) / 4 ≡ (n * 1 + 3) / 4 = omega arith in e))
 
--- the words of other elements: the product with the words of one
+-- The number of words of an array that is not of chars is the number of elements times the words of
+-- one element.
 pub product_is : (n words : ℕ) → n * words ≤ MOST_BLOCK_WORDS → mul_of n words ≡ n * words
 product_is n words few = mod-eq_of_lt (omega (arith, few))
 
--- a block has the words of its elements, and at least one
+-- A block has as many words as its elements take, and at least one word.
 pub sized_is : (count : ℕ) → count ≤ MOST_BLOCK_WORDS → add_of (truth (count == 0)) count ≡ max 1 count
 sized_is zero few = add_is 1 0 (omega arith)
 sized_is (suc n) few =

@@ -1,4 +1,4 @@
--- The steps that fill an array: each element is evaluated and written.
+-- This file proves the steps that fill an array: each element is evaluated and written.
 use Rattle.std.proofs.Common.{◌≡◌, ◌≢◌, ℕ, suc, ◌+◌, ◌*◌, ◌≤◌, ◌<◌, Bool, true, false, List, [], ◌∷◌, ◌++◌, length, None, refl, sym, ap, subst, ◌∙◌, arith, inl, inr}
 use Rattle.std.specs.Prelude.{◌==◌, if◌then◌else◌}
 use Rattle.std.proofs.lemmas.Bool.{eqb-true, eq-eqb, cases_eq}
@@ -58,7 +58,7 @@ use Rattle.cyc_lower_proof.proofs.place_steps.KindWords.{saved_at, saves_by}
 module _ (source : Program) (pages calls : ℕ) where
   -- ---- the elements
 
-  -- after the last element, the pointer is moved to its slot
+  -- After the last element of an array is written, the pointer to the array is moved to its slot.
   ends : (object count index level : ℕ) (wanted : Kind) (element : Expression) (k : List Entry) (e : Environment) (w : World) (c : Configuration) (d s q : ℕ) (there : Bool)
       → step source (Running (Repeating object count index level wanted element) k e w) ≡ gives kinds.Fat (Fat object 0 count 0) k e w → index ≡ count
       → (shared : SharedAt source pages calls k e w c) → DataIn source shared.tables c.active.slots k e w c → Is shared.tables kinds.Fat (Fat object 0 count index) c.active.slots (top source c.active.function k)
@@ -117,7 +117,7 @@ module _ (source : Program) (pages calls : ℕ) where
           (data_written source shared.tables g c.active.base w.objects e.locals k c.active.slots s1 c.active.handlers c.globals c.frames t 3 (omega (arith, height-least (floor source g k) (held k))) elsewhere facts)
           (Holds-same shared.tables c.active.slots s1 (floor source g k) (held k) (λ m short. elsewhere m (inl (omega (arith, short)))) holds) end lands)
 
-  -- the next element is evaluated, or all are written
+  -- The next element of an array is evaluated, or all elements have been written.
   pub repeating : (object count index level : ℕ) (wanted : Kind) (element : Expression) (k : List Entry) (e : Environment) (w : World) (c : Configuration)
       → IsStep source pages calls (Repeating object count index level wanted element) k e w c
   repeating object count index level wanted element k e w c well (shared, facts, (d, r, s, q, (part, long, now), inside, few, level_is, (branch, before, at_element, filled, restart, copy), holds, lands)) =
@@ -227,7 +227,7 @@ module _ (source : Program) (pages calls : ℕ) where
     early : (m : ℕ) → m < z → s2 m ≡ slots m
     early m less = outside_both m (inl less)
 
-    -- the address of the element's cell
+    -- The computed address points to the cell of the array element.
     points : Points shared.tables object index (slots free + index * bytes_of_kind wanted)
     points =
         subst (λ kind. Points shared.tables object index (slots free + index * bytes_of_kind kind)) same
@@ -237,7 +237,7 @@ module _ (source : Program) (pages calls : ℕ) where
         first_index : 0 + index ≡ index
         first_index = omega arith
 
-    -- the address of the cell is computed into a slot
+    -- The code computes the address of the array element's cell into a slot.
     place : s2 z ≡ slots free + index * bytes_of_kind wanted
     place =
         put-same s1 z (add_of (s1 free) (s1 z)) ∙ ap (λ n. add_of n (s1 z)) (outside_one slots z free bytes (inl (omega arith)))
@@ -261,7 +261,8 @@ module _ (source : Program) (pages calls : ℕ) where
     facts_there : DataIn source shared.tables s2 k e w c2
     facts_there = data_written source shared.tables g c.active.base w.objects e.locals k slots s2 c.active.handlers c.globals c.frames z 1 (omega (arith, height-least (floor source g k) (held k))) outside_both facts
 
-    -- the configuration after the store, the globals or slots of locals change, at this place of the code
+    -- The configuration after a store has changed the store, the globals or the slots of locals, at
+    -- instruction m of the code.
     abbrev reached : Parts → (m : ℕ) → Configuration
     reached s m = stage c2 s m
 
@@ -341,7 +342,7 @@ module _ (source : Program) (pages calls : ℕ) where
         one_more : (n : ℕ) → n + 1 ≡ suc n
         one_more n = omega arith
 
-    -- an element of one word
+    -- The step that writes an array element of one word.
     fills_word : own ≡ 1 → Is shared.tables v.kind v.value slots (free + 3) → IsMatched source pages calls (Running (Given v) (entry ∷ k) e w) (plain.Running c)
     fills_word one is =
         let (branch, before, at_element, (m, scale, sum, stores, count_up, jump, end), restart, copy) = elements in
@@ -371,7 +372,7 @@ module _ (source : Program) (pages calls : ℕ) where
         (λ n least. above_there source pages calls k e w c2 shared names facts_there object index address word cell v.value found there value machine n least)
         (data_saved source pages calls k e w c2 shared names facts_there object index address word cell v.value found there value machine)
 
-    -- the slots still contain words when one is the address of the cell
+    -- The slots still contain 32-bit words after one slot has received the address of the cell.
     words_there : plain.HoldsWords (plain.Running c2)
     words_there = (with_slot s1 (add_of (s1 free) (s1 z)) (with_slot slots bytes words.0 (scaled_word wanted (slots (free + 2)) (words.0 (free + 2)))) (IsWord-add_of (s1 free) (s1 z)), words.1, words.2, words.3, words.4)
       where
@@ -381,7 +382,7 @@ module _ (source : Program) (pages calls : ℕ) where
           | inr other ↦ subst IsMachineWord (sym (put-other slots z m x other)) (are m)
         ]
 
-    -- an element of three words
+    -- The step that writes an array element of three words.
     fills_words : wanted ≡ kinds.Fat → Is shared.tables v.kind v.value slots (free + 3) → IsMatched source pages calls (Running (Given v) (entry ∷ k) e w) (plain.Running c)
     fills_words fat is =
         let (branch, before, at_element, (m, scale, sum, stores, count_up, jump, end), restart, copy) = elements in
@@ -410,7 +411,7 @@ module _ (source : Program) (pages calls : ℕ) where
     fills true narrow is = fills_word (eqb-true own 1 narrow) is
     fills false wide is = fills_words (wide_kind wanted wide) is
 
-  -- the element is written, and the index is incremented
+  -- The array element is written, and then the index is incremented.
   pub array_filled : (object count index level : ℕ) (wanted : Kind) (element : Expression) (v : Kinded) (o : Operand) (k : List Entry) (e : Environment) (w : World) (c : Configuration) → plain.HoldsWords (plain.Running c) → AreNamed source e.locals (callers k) w c.active.function c.active.base c.frames c.store
       → IsWell (step source (Running (Given v) (Needs (FillElement object count index level wanted element) ∷ k) e w))
       → (shared : SharedAt source pages calls (Needs (FillElement object count index level wanted element) ∷ k) e w c) → DataIn source shared.tables c.active.slots k e w c

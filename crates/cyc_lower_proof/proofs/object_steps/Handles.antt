@@ -1,4 +1,5 @@
--- The handles of regions that are kept while objects are allocated: their words, and the handles that remain when a value is passed on.
+-- This file is about the region handles that are kept while objects are allocated: the words of these handles, and the handles that
+-- remain when a value is passed on.
 use Rattle.std.proofs.Common.{◌≡◌, ℕ, ◌≤◌, true, List, ◌∷◌, Some, slice_get, sym, ap, subst, ◌∙◌, arith}
 use Rattle.cyc_store.specs.declared.range.TheConstants.{HEAP}
 use Rattle.cyc_plain.specs.declared.instruction.Operand.{Operand}
@@ -9,7 +10,8 @@ use Rattle.cyc_meaning.specs.State.{Owner, InRegion, Unique, heap_number, Beside
 use Rattle.cyc_memory_relation.specs.inside.Tables.{Tables}
 use Rattle.cyc_lower_proof.proofs.relation.contents.HeldValues.{Holds, held, height, kept, IsHandleOf, HasHandle}
 
--- the kept handles are among the held values
+-- The region handles that are kept during an evaluation are among the values that the evaluation
+-- holds.
 pub kept_holds : (t : Tables) (slots : Words) (base : ℕ) (k : List Entry) → Holds t slots base (held k) → Holds t slots base (kept k)
 kept_holds t slots base (Needs (BesideHandle region) ∷ k) (is, holds) = kept_holds t slots base k holds
 kept_holds t slots base k holds = holds
@@ -18,7 +20,7 @@ pub kept_low : (base : ℕ) (k : List Entry) → height base (kept k) ≤ height
 kept_low base (Needs (BesideHandle region) ∷ k) = omega (arith, kept_low base k)
 kept_low base k = omega arith
 
--- the word of the handle of the region of an allocation
+-- The word of the region handle that an allocation uses.
 pub has_handle : (t : Tables) (slots : Words) (base : ℕ) (owner : Owner) (handle : Operand) (k : List Entry) → slice_get t.handles heap_number ≡ Some (Some HEAP)
     → IsHandleOf owner handle (height base (held k)) k → Holds t slots base (held k) → HasHandle t owner (operand_word slots handle)
 has_handle t slots base (InRegion region) (operands.Word n) k heap (region_is, word_is) holds =

@@ -1,4 +1,5 @@
--- The steps that free objects: freeing null does nothing; any other pointer is to a live object, whose block is freed.
+-- This file proves the steps that free objects: freeing null does nothing; freeing any other pointer frees the block
+-- of a live object.
 use Rattle.std.proofs.Common.{◌≡◌, ◌≢◌, ℕ, ◌+◌, Bool, true, false, List, [], ◌∷◌, length, set, Option, None, Some, slice_get, refl, sym, ap, subst, ◌∙◌, arith, length-set}
 use Rattle.std.specs.Prelude.{◌==◌, if◌then◌else◌}
 use Rattle.std.proofs.lemmas.Bool.{eqb-true, false_from_ne_true}
@@ -47,7 +48,8 @@ use Rattle.cyc_store.specs.declared.range.TheConstants.{UNIQUE}
 
 -- ---- the freed object
 
--- A live unique object at this address is freed.
+-- A record of the facts about freeing: the word is the address of a live unique object, which the
+-- source frees.
 pub record IsFreed (t : Tables) (word : ℕ) (s : State) (k : List Entry) (e : Environment) (w : World) : Type 0 where
   pub number : ℕ
   pub object : Object
@@ -75,7 +77,7 @@ object_there t word ks (Some x) number k e w there row well =
     let (owned, gives) = owner_there x.owner number x k e w well in
     record { number = number; object = x; kinds = ks; there = there; owned = owned; row = row; gives = gives }
 
--- the pointer to a whole object is the address of its row
+-- A pointer to a whole object is the address that the object table records for this object.
 whole : (word address offset : ℕ) (ks : List Kind) → word ≡ address + before offset ks → (offset == 0) ≡ true → address ≡ word
 whole word address offset ks at first =
     let begins : word ≡ address + before 0 ks = at ∙ ap (λ n. address + before n ks) (eqb-true offset 0 first) in
@@ -98,7 +100,7 @@ part_at t kind object start count index words p is = absurd is
 module _ (source : Program) (pages calls : ℕ) where
   -- ---- freeing the block
 
-  -- one instruction, followed by a call that the store serves
+  -- A step is matched by one instruction, followed by a request that the store answers.
   by_asking_after : (focus : Focus) (k : List Entry) (e : Environment) (w : World) (c d : Configuration) (next : State) (i : Instruction) (request : Request)
       → step source (Running focus k e w) ≡ next → SharedAt source pages calls k e w c → SharedAt source pages calls k e w d
       → At (code_of source c.active.function) c.active.next i → ((choice : Choice) → performed (lower_program source) choice c i ≡ plain.Running d)
@@ -121,7 +123,7 @@ module _ (source : Program) (pages calls : ℕ) where
             subst (Executes source pages calls (Running focus k e w) next []) (sym is) (goes chosen served).0,
       )))
 
-  -- execution continues without a value
+  -- Execution continues after a step that yields no value.
   pub proceeds : (t : Tables) (d : ℕ) (k : List Entry) (e : Environment) (w : World) (c : Configuration) → DataIn source t c.active.slots k e w c
       → LandsStack source c.active.function e.locals kinds.Int d c.active.next c.frames k → ProceedingAt source t k e w c
   proceeds t d k e w c facts (in_temporary least stack) = following_call kinds.Int (operands.Slot d) facts stack
@@ -161,7 +163,7 @@ module _ (source : Program) (pages calls : ℕ) where
             (slice_get-set_other w.objects number o gone
             (λ same. row-away shared.related (global_types source.globals) o UNIQUE x variable (record { at = ap (slice_get w.objects) same ∙ there; lies = ap (lies_in shared.tables.handles w.regions) owned })))
 
-  -- a live object is freed
+  -- The step that frees a live object.
   frees_object_at : (v : Kinded) (o : Operand) (k : List Entry) (e : Environment) (w : World) (c : Configuration) → (shared : SharedAt source pages calls k e w c) → DataIn source shared.tables c.active.slots k e w c
       → IsFreed shared.tables (operand_word c.active.slots o) (step source (Running (Given v) (Needs FreeObject ∷ k) e w)) k e w → operand_word c.active.slots o ≢ 0
       → ValueStack source c.active.function e.locals v.kind o c.active.next c.frames (Needs FreeObject ∷ k) → IsMatched source pages calls (Running (Given v) (Needs FreeObject ∷ k) e w) (plain.Running c)

@@ -1,4 +1,5 @@
--- Moving the address of a place to a slot: it is already there, or one instruction moves it.
+-- This file moves the address of a cell to a slot: the address is already in the slot, or one
+-- instruction moves it there.
 use Rattle.std.proofs.Common.{◌≡◌, ℕ, zero, suc, ◌+◌, ◌^◌, ◌<◌, Bool, true, false, refl, subst, ◌∙◌, arith, add-zero}
 use Rattle.std.proofs.lemmas.Bool.{eqb-true}
 use Rattle.cyc_words.specs.Word.{add_of}
@@ -21,14 +22,14 @@ use Rattle.cyc_lower_proof.proofs.relation.code.Stands.{CopyBy, AddressAt}
 use Rattle.cyc_lower_proof.proofs.place_steps.PlaceWords.{add_is}
 
 module _ (source : Program) where
-  -- the address of a place is in a slot, or one instruction moves it there
+  -- The address of a cell is in slot d already, or one instruction moves it there.
   pub data Brought (t : Tables) (object offset d q : ℕ) (c : Configuration) : Type 0 where
     in_slot : c.active.next ≡ q → Points t object offset (c.active.slots d) → Brought t object offset d q c
     by_word : (i : Instruction) → (word : ℕ) → At (code_of source c.active.function) c.active.next i
         → ((choice : Choice) → performed (lower_program source) choice c i ≡ plain.Running (advanced (with_slots c (put c.active.slots d word))))
         → c.active.next + 1 ≡ q → Points t object offset word → Brought t object offset d q c
 
-  -- adding 0 does not change a word
+  -- Adding 0 to a 32-bit word does not change it.
   itself : (w : ℕ) → w < 4294967296 → add_of w 0 ≡ w
   itself w small = add_is w 0 (omega (arith, small)) ∙ add-zero w
 

@@ -1,4 +1,5 @@
--- Loading the words of a cell into slots one by one, by an address in a slot that no load overwrites.
+-- This file loads the words of a cell into slots one by one, through an address in a slot that no
+-- load overwrites.
 use Rattle.std.proofs.Common.{◌≡◌, ℕ, zero, suc, ◌+◌, ◌*◌, ◌<◌, List, [], ◌∷◌, Some, ap, ◌∙◌, arith, ◌≤◌, refl}
 use Rattle.cyc_words.specs.Word.{add_of}
 use Rattle.cyc_types.specs.declared.typed.Kind.{Kind}
@@ -23,7 +24,7 @@ word_links kind word c zero index s d = []
 word_links kind word c (suc many) index s d =
     record { instruction = load_at kind s index d; following = with_read word c index d } ∷ word_links kind word (with_read word c index d) many (suc index) s (suc d)
 
--- the configuration at the end of the path
+-- The configuration at the end of a path of instructions that loads the words of a cell.
 pub word_end : (kind : Kind) (word : ℕ → ℕ) (c : Configuration) (many index s d : ℕ)
     → end_of c (word_links kind word c (suc many) index s d) ≡ advanced (with_slots (at c (c.active.next + many)) (each_put word c.active.slots (suc many) index d))
 word_end kind word c zero index s d =
@@ -32,7 +33,7 @@ word_end kind word c (suc many) index s d =
     word_end kind word (with_read word c index d) many (suc index) s (suc d)
     ∙ ap (λ (n : ℕ). advanced (with_slots (at c n) (each_put word c.active.slots (suc (suc many)) index d))) (let e : c.active.next + 1 + many ≡ c.active.next + suc many = omega arith in e)
 
--- Each word is loaded, and the slots below some slot are unchanged.
+-- A path of instructions loads each word of a cell and leaves the slots below a bound unchanged.
 pub word_path : (source : Program) (kind : Kind) (word : ℕ → ℕ) (c : Configuration) (address many index s d q bound : ℕ) → c.active.slots s ≡ address → s < d → bound ≤ d
     → ((slots : Words) (next j : ℕ) → ((n : ℕ) → n < bound → slots n ≡ c.active.slots n) → j < index + many → loaded_at (lower_program source) kind (at (with_slots c slots) next) (add_of address (4 * j)) ≡ Some (word j))
     → EachAt (code_of source c.active.function) (load_at kind s) many index d c.active.next q → IsPath source c (word_links kind word c many index s d) × (c.active.next + many ≡ q)

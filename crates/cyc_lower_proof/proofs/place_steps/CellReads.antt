@@ -1,4 +1,5 @@
--- The content of a cell, by its address: the cell belongs to the store, to a global, or to a local of an active call.
+-- This file is about the content of a cell at an address: the cell belongs to the store, to a global, or to a local
+-- of an active call.
 use Rattle.std.proofs.Common.{◌≡◌, ℕ, ◌+◌, ◌*◌, ◌<◌, List, length, Option, None, Some, refl, sym, ap, subst, ◌∙◌, arith, false, inl, inr, ◌%◌, [], ◌∷◌}
 use Rattle.std.specs.Prelude.{slice_get, option_map}
 use Rattle.std.proofs.lemmas.Option.{none-some, same_Some}
@@ -42,28 +43,29 @@ use Rattle.cyc_lower_proof.proofs.place_steps.KindWords.{loaded_at, loaded_wide,
 use Rattle.cyc_lower_proof.specs.inside.ValueCode.{variable_bytes}
 use Rattle.cyc_types.specs.declared.typed.Kind.TheVariants as kinds
 
--- a variable that is found contains the value
+-- If the variable of an object is found, then its cell contains the value that the source reads.
 pub held_there : (w : World) (object : ℕ) (at : Located) (kind : Kind) (v : Value) → cell_at w object 0 ≡ Found at → at.cell.kind ≡ kind → at.cell.content ≡ Some v
     → contents w.objects object ≡ Some (record { kind = kind; value = v })
 held_there w object at kind v found same has =
     let (object_there, cell_there) = cell_found w object 0 at found in
     ap content_of object_there ∙ ap content_of_cell cell_there ∙ ap (with_kind at.cell.kind) has ∙ ap (λ (i : Kind). with_kind i (Some v)) same
 
--- the words of globals exist
+-- The words of each global exist in the lowered program.
 pub globals_long : (source : Program) (number : ℕ) → number < words_of_all (global_types source.globals) → number < length (lower_program source).globals
 globals_long source number few =
     omega (arith, few, global_words_counted source.globals)
 
--- the slots of a local's words are equal
+-- Says that the slots of a local's words are equal in two slot maps.
 abbrev pub AreSame : (here : Option ℕ) → (words : ℕ) → (old new : Words) → Type 0
 AreSame here words old new = (slot j : ℕ) → here ≡ Some slot → j < words → new (slot + j) ≡ old (slot + j)
 
--- a local of the running call with room for a value of this kind has this first slot, if it exists
+-- Says that the slot `here`, if it exists, is the first slot of a local of the running call that
+-- has room for a value of this kind.
 abbrev pub IsOwn : Program → (g : ℕ) → Kind → (here : Option ℕ) → Type 0
 IsOwn source g kind here = (slot : ℕ) → here ≡ Some slot → (number : ℕ) × (slot_of (starts_at source g) number ≡ slot) × (number < length (types_at source g).locals) × HasRoom (types_at source g) number kind
 
--- The words of a cell that a pointer leads to are at its address and represent its content. If they belong to a local of the running call,
--- its slots still have them.
+-- The words of the cell of a pointer are at the cell's address and represent the cell's content. If the cell belongs to a local of the
+-- running call, then the slots of this local still have these words.
 pub record IsRead (source : Program) (t : Tables) (c : Configuration) (address : ℕ) (kind : Kind) (content : Option Value) : Type 0 where
   pub word : ℕ → ℕ
   pub here : Option ℕ
@@ -85,7 +87,7 @@ module _ (source : Program) {t : Tables} {w : World} (c : Configuration) {locals
   none-own : (kind : Kind) → IsOwn source g kind None
   none-own kind slot here = absurd (none-some slot here)
 
-  -- a cell of whole words is loaded by its address
+  -- A load through the address of a cell of whole words yields the cell's content.
   wide_stored : (object offset address h : ℕ) (at : Located) → is_kind at.cell.kind kinds.Char ≡ false → Points t object offset address → Alive t (silent w) object h at.object → slice_get at.object.cells offset ≡ Some at.cell
       → IsRead source t c address at.cell.kind at.cell.content
   wide_stored object offset address h cell wide points alive there = record {
@@ -101,7 +103,7 @@ module _ (source : Program) {t : Tables} {w : World} (c : Configuration) {locals
         (subst (λ (x : Option Value). IsContent t cell.cell.kind x c.store.memory address) has (cell-read related alive points there));
   }
 
-  -- a cell of a char is loaded by its address
+  -- A load through the address of a cell of type char yields the cell's content.
   byte_stored : (object offset address h : ℕ) (at : Located) → at.cell.kind ≡ kinds.Char → Points t object offset address → Alive t (silent w) object h at.object → slice_get at.object.cells offset ≡ Some at.cell
       → IsRead source t c address at.cell.kind at.cell.content
   byte_stored object offset address h cell char points alive there =
@@ -130,7 +132,8 @@ module _ (source : Program) {t : Tables} {w : World} (c : Configuration) {locals
     | inr wide ↦ wide_stored object offset address h cell wide points alive there
   ]
 
-  -- consecutive words represent a value
+  -- If consecutive words represent a value, then the same words counted from 0 represent the value
+  -- too.
   in_row : (kind : Kind) (v : Value) (words : Words) (first : ℕ) → Is t kind v words first → Is t kind v (λ j. words (first + j)) 0
   in_row kind v words first is = Is-same t kind v words (λ j. words (first + j)) first 0 (λ i below. ap words (let e : first + (0 + i) ≡ first + i = omega arith in e)) is
 
@@ -246,7 +249,7 @@ module _ (source : Program) {t : Tables} {w : World} (c : Configuration) {locals
       by (to_store h alive) there = read_stored object offset address h cell points alive there
       by (to_variable named) there = read_named object offset address cell found points named
 
--- the words of a cell are at the addresses that the code computes
+-- The words of a cell are at the addresses that the code computes.
 pub read_there : (source : Program) {t : Tables} {w : World} {s : StoreState} (c : Configuration) → objects.Related t w s → {object offset address : ℕ} (cell : Located) → cell_at w object offset ≡ Found cell → Points t object offset address
     → (reads : IsRead source t c address cell.cell.kind cell.cell.content) → (slots : Words) (next j : ℕ) → AreSame reads.here (words_of_kind cell.cell.kind) c.active.slots slots → j < words_of_kind cell.cell.kind
     → loaded_at (lower_program source) cell.cell.kind (at (with_slots c slots) next) (add_of address (4 * j)) ≡ Some (reads.word j)
@@ -254,13 +257,13 @@ read_there source c related cell found points reads slots next j same below =
     ap (loaded_at (lower_program source) cell.cell.kind (at (with_slots c slots) next)) (word_is points cell.cell.kind j (cell_kind related cell points found) below)
     ∙ reads.there slots next j same below
 
--- slots that are equal below the temporaries are equal in the words of a local
+-- If two slot maps are equal below the temporaries, then they are equal in the words of each local.
 pub low_same : (source : Program) (g : ℕ) (kind : Kind) (here : Option ℕ) (old new : Words) → IsOwn source g kind here → ((n : ℕ) → n < base_of source g → new n ≡ old n) → AreSame here (words_of_kind kind) old new
 low_same source g kind here old new own low slot j is below =
     let (number, first, inside, room) = own slot is in
     low (slot + j) (omega (arith, first, slot-room (types_at source g) number inside, room, below))
 
--- a value of one word has this word
+-- A value of one word is represented by the word that the code loads.
 module _ {source : Program} {t : Tables} {c : Configuration} {address : ℕ} {kind : Kind} {content : Option Value} (reads : IsRead source t c address kind content) (one : words_of_kind kind ≡ 1) where
   pub one_there : loaded_at (lower_program source) kind c address ≡ Some (reads.word 0)
   one_there = ap (loaded_at (lower_program source) kind c) (let first : address ≡ address + 4 * 0 = omega arith in first) ∙ reads.there c.active.slots c.active.next 0 (λ slot j here below. refl) (omega (arith, one))

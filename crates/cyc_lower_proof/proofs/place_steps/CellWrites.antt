@@ -1,5 +1,5 @@
--- Creating objects that are not variables, and writing cells: the facts about variables are preserved or updated, and so is the shared
--- state.
+-- This file creates objects that are not variables, and writes cells: it shows that the facts about variables and the shared state are
+-- preserved or updated.
 use Rattle.std.proofs.Common.{◌≡◌, ℕ, ◌+◌, ◌*◌, ◌≤◌, ◌<◌, List, [], ◌∷◌, length, set, Option, Some, slice_get, refl, sym, ap, subst, ◌∙◌, arith, length-set, inl, inr, suc, false}
 use Rattle.std.specs.Prelude.{if◌then◌else◌, ◌⊎◌}
 use Rattle.cyc_words.specs.Word as words
@@ -58,7 +58,7 @@ use Rattle.cyc_store.specs.declared.range.TheConstants.{STORE_BASE}
 -- ---- variables
 
 module _ (t : Tables) (types : List Ty) where
-  -- true if the variables hold equal values before and after the write
+  -- Holds if the variables contain equal values before and after the write.
   abbrev pub SameVariables : (objects others : List Object) → Type 0
   SameVariables objects others = (o : ℕ) → IsVariableRow t types o → contents others o ≡ contents objects o
 
@@ -94,7 +94,7 @@ module _ (t : Tables) (source : Program) where
       let (row, is, small) = hold number below in
       (row, (λ v has. is v (sym (same number (inr (inl row))) ∙ has)), small)
 
-  -- All data are unchanged if objects are only added.
+  -- All data of the relation are unchanged if the source only adds objects.
   pub data_beside : (g base : ℕ) (objects others : List Object) (locals : ℕ → Option ℕ) (outer : List Waiting) (slots globals : Words) (frames : List Frame) → length objects ≤ length others
       → Same objects others → DataAt source t g base objects locals outer slots globals frames → DataAt source t g base others locals outer slots globals frames
   data_beside g base objects others locals outer slots globals frames many same (low, below, hold, waiting, words) = (
@@ -107,7 +107,8 @@ module _ (t : Tables) (source : Program) where
 
 -- ---- a cell is written
 
--- A cell in which a value is stored without a fault exists and has the kind of the value.
+-- If a value is stored in a cell without a fault, then the cell exists and has the kind of the
+-- value.
 pub cell_is_there : (a : Access Located) (number offset : ℕ) (v : Kinded) (focus : Focus) (k : List Entry) (e : Environment) (w : World) → IsWell (stored a number offset v focus k e w)
     → (at : Located) × (a ≡ Found at) × (at.cell.kind ≡ v.kind) × (stored a number offset v focus k e w ≡ Running focus k e (written w number offset at v.value))
 cell_is_there (Found at) number offset v focus k e w well =
@@ -117,12 +118,12 @@ cell_is_there (Found at) number offset v focus k e w well =
 cell_is_there Closed number offset v focus k e w well = absurd (well refl)
 cell_is_there Missing number offset v focus k e w well = absurd (well refl)
 
--- the configuration with these parts replaced
+-- The configuration with its store, globals, slots and frames replaced.
 abbrev pub with_parts : Configuration → StoreState → (globals slots : Words) → List Frame → Configuration
 with_parts c store globals slots frames = record c { store = store; globals = globals; active = record c.active { slots = slots }; frames = frames }
 
--- Writing the word of a cell that represents its value. The cell belongs to the store, to a global, or to a local of an active call. A
--- write of the cell changes the store, the globals, or the slots of that call.
+-- A cell is written with the word that represents a value. The cell belongs to the store, to a global, or to a local of an active
+-- call. A write of the cell changes the store, the globals, or the slots of that call.
 module _ (source : Program) (pages calls : ℕ) (k : List Entry) (e : Environment) (w : World) (c : Configuration) (shared : SharedAt source pages calls k e w c)
     (names : AreNamed source e.locals (callers k) w c.active.function c.active.base c.frames c.store)
     (facts : DataIn source shared.tables c.active.slots k e w c) (object offset address word : ℕ) (at : Located) (v : Value) (found : cell_at w object offset ≡ Found at)
@@ -142,7 +143,7 @@ module _ (source : Program) (pages calls : ℕ) (k : List Entry) (e : Environmen
   objects_many : length next.objects ≡ length w.objects
   objects_many = length-set w.objects object now
 
-  -- the result of the store instruction, and what it preserves
+  -- The result of a store instruction, and the facts that the instruction preserves.
   pub record IsSaved : Type 0 where
     pub store : StoreState
     pub globals : Words
@@ -161,7 +162,8 @@ module _ (source : Program) (pages calls : ℕ) (k : List Entry) (e : Environmen
   byte_fits : at.cell.kind ≡ kinds.Char → word < 256
   byte_fits char = small_word shared.tables at.cell.kind v word is char
 
-  -- The facts of the tables about variables are preserved if a cell of the store is written.
+  -- If a cell of the store is written, then the facts that the tables record about variables are
+  -- preserved.
   data_there : (h : ℕ) → objects.Alive shared.tables (silent w) object h at.object
       → DataAt source shared.tables c.active.function c.active.base next.objects e.locals (callers k) c.active.slots c.globals c.frames
   data_there h alive =
@@ -169,7 +171,7 @@ module _ (source : Program) (pages calls : ℕ) (k : List Entry) (e : Environmen
       (λ o row. ap content_of (slice_get-set_other w.objects object o now (λ same. row-away shared.related globals_of_source o h at.object row (subst (λ n. objects.Alive shared.tables (silent w) n h at.object) (sym same) alive))))
       facts.0
 
-  -- the memory of the store changes
+  -- A write to a cell of the store changes the memory of the store.
   remembers : (m : Memory) (h : ℕ) → objects.Alive shared.tables (silent w) object h at.object
       → saved_at (lower_program source) at.cell.kind c address word ≡ plain.Running (advanced (record c { store = record c.store { memory = m } }))
       → objects.Related shared.tables (silent next) (record c.store { memory = m }) → IsSaved
@@ -223,7 +225,7 @@ module _ (source : Program) (pages calls : ℕ) (k : List Entry) (e : Environmen
     | inr wide ↦ in_words h alive cell wide
   ]
 
-  -- a variable of one cell
+  -- The written cell belongs to a variable of one cell.
   module _ (first : offset ≡ 0) (cell : slice_get at.object.cells offset ≡ Some at.cell) (row : IsVariableRow shared.tables globals_of_source object) where
     object_there : slice_get w.objects object ≡ Some at.object
     object_there = (cell_found w object offset at found).0
@@ -379,11 +381,11 @@ module _ (source : Program) (pages calls : ℕ) (k : List Entry) (e : Environmen
       by (to_variable (is_local number here)) cell = in_local number here cell
       by (to_variable (is_waiting i number x waits here)) cell = in_waiting i number x waits here cell
 
-  -- the configuration with the word written
+  -- The configuration after the word has been written.
   abbrev pub with_word : Configuration
   with_word = with_parts c is_saved.store is_saved.globals is_saved.slots is_saved.frames
 
-  -- the instruction continues normally
+  -- The store instruction succeeds, and execution continues at the next instruction.
   pub saves_there : saved_at (lower_program source) at.cell.kind c address word ≡ plain.Running (advanced with_word)
   saves_there = is_saved.goes
 
@@ -396,14 +398,14 @@ module _ (source : Program) (pages calls : ℕ) (k : List Entry) (e : Environmen
   pub above_there : (n : ℕ) → base_of source c.active.function ≤ n → with_word.active.slots n ≡ c.active.slots n
   above_there = is_saved.above
 
-  -- A slot that held the stored word, or any other slot, is unchanged.
+  -- A slot that held the stored word still holds it after the store.
   pub word_stays : (n : ℕ) → c.active.slots n ≡ word → with_word.active.slots n ≡ word
   word_stays n holds = elim (is_saved.either n) [
     | inl same ↦ same ∙ holds
     | inr now ↦ now
   ]
 
-  -- the shared state is preserved, with unchanged tables
+  -- After the store, the shared state still holds with the same tables of objects.
   abbrev pub shared_saved : SharedAt source pages calls k e next (advanced with_word)
   shared_saved = record {
     tables = shared.tables;
@@ -418,7 +420,7 @@ module _ (source : Program) (pages calls : ℕ) (k : List Entry) (e : Environmen
     counters = shared.counters;
   }
 
-  -- the data of all calls are preserved
+  -- After the store, the data of all calls are preserved.
   pub data_saved : DataIn source shared.tables with_word.active.slots k e next (advanced with_word)
   data_saved = (
     is_saved.stays,

@@ -1,5 +1,6 @@
--- The words of cells, by the kind of their values. A char in a cell is a byte with its own load and store instructions. Values of other
--- kinds are whole words. A char in a variable is the last byte of a word below 256, so a load yields the word, and a store replaces it.
+-- This file is about the words of cells, by the kind of their values. A char in a cell is a byte with its own load and store
+-- instructions. Values of other kinds are whole words. A char in a variable is the last byte of a word below 256. Hence a load of this
+-- byte yields the word, and a store of the byte replaces the word.
 use Rattle.std.proofs.Common.{◌≡◌, ℕ, ◌+◌, ◌*◌, ◌%◌, ◌<◌, true, false, List, [], ◌∷◌, Option, Some, None, slice_get, refl, sym, ap, subst, ◌∙◌, arith}
 use Rattle.std.specs.Prelude.{option_map}
 use Rattle.cyc_words.specs.Word.{add_of}
@@ -20,12 +21,12 @@ use Rattle.cyc_memory_relation.proofs.Chars.{char-small, last-word, last-loaded,
 use Rattle.cyc_lower_proof.specs.inside.ValueCode.{load_of, store_of, variable_bytes}
 use Rattle.cyc_lower_proof.proofs.relation.contents.HeldValues.{IsWord}
 
--- the result of a load of a value of this kind
+-- The word that a load of a value of this kind yields, if the address is valid.
 abbrev pub loaded_at : Program → Kind → Configuration → (address : ℕ) → Option ℕ
 loaded_at program kinds.Char c address = option_map (λ (word : ℕ). byte_in word (address % 4)) (memory_at program c (word_of address))
 loaded_at program kind c address = memory_at program c address
 
--- the state after a store of a value of this kind
+-- The state after a store of a value of this kind.
 abbrev pub saved_at : Program → Kind → Configuration → (address word : ℕ) → State
 saved_at program kinds.Char c address word = saves_byte program c address (word % 256) (memory_at program c (word_of address))
 saved_at program kind c address word = saves program c address word (memory_at program c address)
@@ -60,7 +61,8 @@ saved_wide program kind c address word wide = refl
 
 -- ---- variables
 
--- loading a word of a variable, by the address of its first word and by the address of the variable
+-- Loading a word by the address of a variable and loading it by the address of the variable's first
+-- word yield the same word.
 pub loaded_variable : (program : Program) (kind : Kind) (c : Configuration) (start j word : ℕ) → start % 4 ≡ 0 → j < words_of_kind kind → (kind ≡ kinds.Char → word < 256)
     → memory_at program c (start + 4 * j) ≡ Some word → loaded_at program kind c (start + variable_bytes kind + 4 * j) ≡ Some word
 loaded_variable program kinds.Char c start j word even below small there =
@@ -78,7 +80,8 @@ loaded_variable program kinds.Fat c start j word even below small there = ap (me
 loaded_variable program kinds.Handle c start j word even below small there = ap (memory_at program c) (plus_zero_plus start (4 * j)) ∙ there
 loaded_variable program kinds.Key c start j word even below small there = ap (memory_at program c) (plus_zero_plus start (4 * j)) ∙ there
 
--- storing a word in a variable
+-- Storing a word by the address of a variable has the effect of storing it by the address of the
+-- variable's first word.
 pub saved_variable : (program : Program) (kind : Kind) (c : Configuration) (start word old : ℕ) → start % 4 ≡ 0 → (kind ≡ kinds.Char → (old < 256) × (word < 256))
     → memory_at program c start ≡ Some old → saved_at program kind c (start + variable_bytes kind) word ≡ saves program c start word (memory_at program c start)
 saved_variable program kinds.Char c start word old even small there =
@@ -95,11 +98,11 @@ saved_variable program kinds.Fat c start word old even small there = ap (λ (n :
 saved_variable program kinds.Handle c start word old even small there = ap (λ (n : ℕ). saves program c n word (memory_at program c n)) (plus_zero start)
 saved_variable program kinds.Key c start word old even small there = ap (λ (n : ℕ). saves program c n word (memory_at program c n)) (plus_zero start)
 
--- A char is one word below 256.
+-- A char is represented by one word below 256.
 pub small_word : (t : Tables) (kind : Kind) (v : Value) (word : ℕ) → IsWord t kind v word → kind ≡ kinds.Char → word < 256
 small_word t kind v word is same = char-small t v (λ (i : ℕ). word) 0 (subst (λ (k : Kind). IsWord t k v word) same is)
 
--- the slots of calls begin at multiples of four bytes
+-- The slots of each call begin at an address that is a multiple of four bytes.
 pub base_even : (program : Program) (function base : ℕ) (frames : List Frame) → AreBelow program function base frames → base % 4 ≡ 0
 base_even program function base [] below = below.aligned
 base_even program function base (f ∷ frames) (first, rest) = first.aligned

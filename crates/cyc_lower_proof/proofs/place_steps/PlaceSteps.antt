@@ -1,5 +1,5 @@
--- The steps after a place that a pointer leads to. The cell at the place is read, or its address is taken, or its address is pending while
--- the stored value is evaluated.
+-- This file proves the steps after the address of a cell has been evaluated. The cell is read, or its address is taken, or the address
+-- waits in a slot while the value to store is evaluated.
 use Rattle.std.proofs.Common.{◌≡◌, ◌⊎◌, ℕ, ◌+◌, ◌*◌, ◌^◌, ◌<◌, ◌≤◌, Bool, true, false, List, ◌∷◌, Option, None, Some, refl, sym, ap, subst, ◌∙◌, arith, inl, inr}
 use Rattle.std.specs.Prelude.{◌==◌, if◌then◌else◌}
 use Rattle.std.proofs.lemmas.Bool.{eqb-true}
@@ -93,7 +93,8 @@ module _ (source : Program) (pages calls : ℕ) where
 
   -- ---- the pending address of a store
 
-  -- the right side is evaluated next, with the address in the temporary before its own
+  -- The right side of an assignment is evaluated next, and the address of the left side is in the
+  -- temporary before those of the right side.
   abbrev StoresAfter : (from to : Kind) → Expression → List Entry → Environment → Configuration → (s : ℕ) → Type 0
   StoresAfter from to a k e c s =
       (x : Operand) × (u : ℕ) × (q : ℕ) × ConvertedOperandAt (code_of source c.active.function) (bounds_at source c.active.function) (types_on source c.active.function k) (Convert from to a) (top source c.active.function k + 1) x s u
@@ -143,7 +144,7 @@ module _ (source : Program) (pages calls : ℕ) where
 
   -- ---- loading a cell
 
-  -- A value that is passed ahead of its use is in the slot of a local.
+  -- A value that is computed directly into its destination is in the slot of a local.
   ahead_slot : (g : ℕ) (locals : ℕ → Option ℕ) (kind : Kind) (d q : ℕ) (frames : List Frame) (k : List Entry) → AheadStack source g locals kind d q frames k
       → (number : ℕ) × (slot_of (starts_at source g) number ≡ d) × HasRoom (types_at source g) number kind
   ahead_slot g locals kind d q frames (Needs (ConvertTo from to target) ∷ k) (quiet, whole, wide, stack) =
@@ -156,19 +157,20 @@ module _ (source : Program) (pages calls : ℕ) where
   ahead_slot g locals kind d q frames (Needs (Initialise number wanted items) ∷ k) (exits, r, start, room, of_type, at, stack) = (number, start, room)
   ahead_slot g locals kind d q frames k stack = absurd stack
 
-  -- where a value of three words is moved to
+  -- Says where a value of three words is moved: to temporaries or to the slots of a local.
   comes_where : (g : ℕ) (locals : ℕ → Option ℕ) (kind : Kind) (d q : ℕ) (frames : List Frame) (k : List Entry) → kind ≡ kinds.Fat → LandsStack source g locals kind d q frames k → ComesTo source g d
   comes_where g locals kind d q frames k fat (in_temporary least stack) = inl (omega (arith, least, floor-least source g k, height-least (floor source g k) (held k)))
   comes_where g locals kind d q frames k fat (in_local below stack) =
       let (number, start, room) = ahead_slot g locals kind d q frames k stack in
       inr (number, room-inside (types_at source g) number kind room, start, subst (HasRoom (types_at source g) number) fat room)
 
-  -- The slot of the address is not one of the last two slots that the value is moved to.
+  -- The slot of the address is not one of the last two slots of the value's destination.
   lands_apart : (g : ℕ) (locals : ℕ → Option ℕ) (kind : Kind) (d q : ℕ) (frames : List Frame) (k : List Entry) → kind ≡ kinds.Fat → LandsStack source g locals kind d q frames k → (top source g k ≤ d) ⊎ (d + 3 ≤ top source g k)
   lands_apart g locals kind d q frames k fat (in_temporary least stack) = inl least
   lands_apart g locals kind d q frames k fat (in_local below stack) = inr (omega (arith, below, ap words_of_kind fat, floor-least source g k, height-least (floor source g k) (held k)))
 
-  -- the words that are still to be read are unchanged while other words are loaded into slots
+  -- While some words of a cell are loaded into slots, the words that are not yet loaded stay
+  -- unchanged.
   reads_mixed : {t : Tables} {address : ℕ} {X : Type 0} (c : Configuration) (d : ℕ) (at : Located) {kind : Kind} → kind ≡ kinds.Fat → at.cell.kind ≡ kinds.Fat → (reads : IsCellRead source t c address at.cell.kind at.cell.content) → ComesTo source c.active.function d
       → (slots : Words) → AreMixed d reads.word c.active.slots slots → {j : ℕ} → (AreSame reads.here (words_of_kind at.cell.kind) c.active.slots slots → j < words_of_kind at.cell.kind → X) → j < 3 → X
   reads_mixed {t} {address} {X} c d at {kind} fat wide reads comes slots mixed {j} goes below =
@@ -177,7 +179,7 @@ module _ (source : Program) (pages calls : ℕ) where
       (mixed_same source c.active.function d reads.word reads.here c.active.slots slots (subst (λ i. IsOwn source c.active.function i reads.here) wide reads.own) reads.stays comes mixed))
       (omega (arith, below, ap words_of_kind wide))
 
-  -- the three words of a cell are loaded, if its address is in the first temporary
+  -- The three words of a cell are loaded through the address of the cell in the first temporary.
   loads_wide : (object offset d r q : ℕ) (kind : Kind) (k : List Entry) (e : Environment) (w : World) (c : Configuration) → AreNamed source e.locals (callers k) w c.active.function c.active.base c.frames c.store → kind ≡ kinds.Fat → IsWell (loaded kind (cell_at w object offset) k e w)
       → (shared : SharedAt source pages calls (NeedsPlace (LoadFrom kind) ∷ k) e w c) → DataIn source shared.tables c.active.slots k e w c → Holds shared.tables c.active.slots (floor source c.active.function k) (held k)
       → Brought source shared.tables object offset (top source c.active.function k) r c
@@ -272,7 +274,7 @@ module _ (source : Program) (pages calls : ℕ) where
   loads_cell false object offset more o d q kind k e w c names wide well shared facts holds small points (r, address, first, second, third, end) lands =
       loads_wide object offset d r q kind k e w c names (wide_kind kind wide) well shared facts holds (brought source shared.tables object offset more o (top source c.active.function k) r c small points address) first second third end lands
 
-  -- the place has been evaluated
+  -- The step after the address of a cell has been evaluated.
   pub given_place : (place : Value) (k : List Entry) (e : Environment) (w : World) (c : Configuration) → AreNamed source e.locals (callers k) w c.active.function c.active.base c.frames c.store → IsStep source pages calls (GivenPlace place) k e w c
   given_place (Thin object offset) (NeedsPlace (LoadFrom kind) ∷ k) e w c names well (shared, facts, (o, more, small, points, holds, (d, q, load, lands))) =
       loads_cell (words_of_kind kind == 1) object offset more o d q kind k e w c names refl well shared facts holds small points load lands

@@ -1,5 +1,5 @@
--- The words of a place that a pointer leads to. The code computes the address of the cell without overflow, and each word of a found cell
--- exists. This file uses only tables of objects and words.
+-- This file is about the words of a cell that a pointer reaches. The code computes the address of the cell without overflow, and each
+-- word of a cell that is found exists. The file uses only tables of objects and words.
 use Rattle.std.proofs.Common.{◌≡◌, ℕ, zero, suc, ◌+◌, ◌*◌, ◌%◌, ◌<◌, ◌≤◌, List, [], ◌∷◌, length, map, Option, Some, None, refl, sym, ap, subst, ◌∙◌, arith, add-zero, inl, inr}
 use Rattle.std.specs.Prelude.{◌≢◌, ◌==◌, if◌then◌else◌, slice_get}
 use Rattle.std.proofs.lemmas.Bool.{cases_eq}
@@ -32,14 +32,16 @@ use Rattle.cyc_plain.specs.inside.Memory.{Range, OfGlobals, OfStore, OfSlots, ra
 pub add_is : (a b : ℕ) → a + b < 4294967296 → add_of a b ≡ a + b
 add_is a b below = remainder_of_word (a + b) below
 
--- An index of cells of four bytes is scaled by a shift, and an index of cells of twelve bytes by a product.
+-- The index of a cell of four bytes is multiplied by a shift, and the index of a cell of twelve bytes by a
+-- multiplication.
 pub shifted_is : (i : ℕ) → 4 * i < 4294967296 → shl_of i 2 ≡ i * 4
 shifted_is i below = remainder_of_word (i * 4) (omega (arith, below))
 
 pub multiplied_is : (i : ℕ) → 12 * i < 4294967296 → mul_of i 12 ≡ i * 12
 multiplied_is i below = remainder_of_word (i * 12) (omega (arith, below))
 
--- the number of bytes before a field is that before its cell, if it fits in a word
+-- The number of bytes before a field is the number of bytes before its cell, if this number fits in
+-- a 32-bit word.
 field_before : (ts : List Ty) (field bytes : ℕ) → before_from bytes field (map kind_of ts) < 4294967296 → field_from bytes ts field ≡ before_from bytes field (map kind_of ts)
 field_before [] field bytes below = refl
 field_before (t ∷ ts) zero bytes below = begins_is (kind_of t) bytes below
@@ -54,7 +56,7 @@ pub field_bytes : (ts : List Ty) (field : ℕ) → before field (map kind_of ts)
 field_bytes ts field below = field_before ts field 0 below
 
 module _ {t : Tables} where
-  -- the address of a cell is unchanged if 0 is added
+  -- Adding 0 to the address of a cell leaves the address unchanged.
   pub stays : {o k w : ℕ} → Points t o k w → Points t o k (add_of w 0)
   stays {o} {k} {w} p =
       let word : w < 4294967296 = pointer-word p in
@@ -63,7 +65,7 @@ module _ {t : Tables} where
       last : (w : ℕ) → w + 0 ≡ w
       last w = omega arith
 
-  -- the address of a word of a cell of this kind
+  -- The code computes the address of the j-th word of a cell of this kind.
   pub word_is : {o k w : ℕ} (p : Points t o k w) (kind : Kind) (j : ℕ) → slice_get p.kinds k ≡ Some kind → j < words_of_kind kind
       → add_of w (4 * j) ≡ w + 4 * j
   word_is {o} {k} {w} p kind j there below =
@@ -74,14 +76,15 @@ module _ {t : Tables} where
 
   -- ---- members
 
-  -- the address of a field is computed from the address of the object
+  -- The code computes the address of a field from the address of the object.
   pub member_is : {o w : ℕ} (p : Points t o 0 w) (field : ℕ) → field < length p.kinds → Points t o field (add_of w (before field p.kinds))
   member_is {o} {w} p field inside = subst (Points t o field) (sym (add_is w (before field p.kinds) below)) (member-points p field inside)
     where
       below : w + before field p.kinds < 4294967296
       below = pointer-word (member-points p field inside)
 
-  -- the address of a field, if the fields have these kinds
+  -- The code computes the address of a field of an object whose cells have the kinds of these
+  -- fields.
   pub field_is : {o w : ℕ} (p : Points t o 0 w) (fields : List Kind) (field : ℕ) → p.kinds ≡ fields → field < length fields
       → Points t o field (add_of w (before field fields))
   field_is {o} {w} p fields field same inside =
@@ -90,11 +93,13 @@ module _ {t : Tables} where
 
   -- ---- elements
 
-  -- For an index within bounds, neither the number of bytes nor its sum with the address overflows.
+  -- If an index is within bounds, then neither its number of bytes nor the sum of this number and
+  -- the address overflows.
   element_below : {o start n w : ℕ} (i : ℕ) (part : IsPartOf t o start n w) → i < n → w + i * bytes_of_kind part.kind < 4294967296
   element_below i part below = pointer-word (thinned i part below)
 
-  -- the code computes the address of the cell at the index, for cells of four bytes, one byte and twelve bytes
+  -- The code computes the address of the cell at an index, for cells of four bytes, of one byte and of twelve
+  -- bytes.
   pub narrow_element : {o start n w : ℕ} (i : ℕ) (part : IsPartOf t o start n w) → i < n → bytes_of_kind part.kind ≡ 4
       → Points t o (start + i) (add_of w (shl_of i 2))
   narrow_element {o} {start} {n} {w} i part below four =
@@ -118,7 +123,7 @@ module _ {t : Tables} where
 
 -- ---- reading and writing the words of a cell
 
--- A word of a live block exists for any content of the memory.
+-- A word of a live block exists for every content of the memory.
 pub there_still : (s : StoreState) (m : Memory) (x old : ℕ) → word_at s x ≡ Some old → word_at (record s { memory = m }) x ≡ Some (m x)
 there_still s m x old found = elim (cases_eq (x % 4) 0) [
   | inl even ↦
@@ -139,7 +144,7 @@ stored_still s m x old found = go (range_of x) found
     go OfStore e = there_still s m x old e
     go OfSlots e = absurd (let f : None ≡ Some old = e in cc)
 
--- the memory after the three words of a cell at address w are written in this order
+-- The memory after the three words a, b and c are written, in this order, to the cell at address w.
 abbrev pub three_put : Memory → (w a b c : ℕ) → Memory
 three_put m w a b c = put (put (put m (w + 4 * 0) a) (w + 4 * 1) b) (w + 4 * 2) c
 
@@ -148,13 +153,13 @@ three_words m w a b c words first second third =
     words-put (put (put m (w + 4 * 0) a) (w + 4 * 1) b) (w + 4 * 2) c
     (words-put (put m (w + 4 * 0) a) (w + 4 * 1) b (words-put m (w + 4 * 0) a words first) second) third
 
--- all other words are unchanged
+-- Writing the three words of a cell leaves all other words of the memory unchanged.
 pub three_elsewhere : (m : Memory) (w a b c y : ℕ) → ((j : ℕ) → j < 3 → y ≢ w + 4 * j) → three_put m w a b c y ≡ m y
 three_elsewhere m w a b c y other =
     when_other y (w + 4 * 2) c (put (put m (w + 4 * 0) a) (w + 4 * 1) b y) (other 2 (omega arith))
     ∙ (when_other y (w + 4 * 1) b (put m (w + 4 * 0) a y) (other 1 (omega arith)) ∙ when_other y (w + 4 * 0) a (m y) (other 0 (omega arith)))
 
--- the cell then holds the value that the three words represent
+-- After three words are written to a cell, the cell holds the value that they represent.
 pub three_written : (t : Tables) (v : Value) (m : Memory) (w a b c : ℕ) → Is t kinds.Fat v (λ j. if j == 0 then a else if j == 1 then b else c) 0
     → Is t kinds.Fat v (words_from (three_put m w a b c) w) 0
 three_written t v m w a b c is = Is-same t kinds.Fat v (λ j. if j == 0 then a else if j == 1 then b else c) (words_from (three_put m w a b c) w) 0 0 each is
@@ -170,7 +175,8 @@ three_written t v m w a b c is = Is-same t kinds.Fat v (λ j. if j == 0 then a e
     each (suc (suc zero)) below = when_equal (w + 4 * (0 + 2)) (w + 4 * 2) c (put (put m (w + 4 * 0) a) (w + 4 * 1) b (w + 4 * (0 + 2))) refl
     each (suc (suc (suc j))) below = absurd (omega (arith, below))
 
--- the words of a fat value, one by one
+-- If three consecutive words represent a fat value, then the same words taken one by one represent
+-- it.
 pub three_words_of : (t : Tables) (v : Value) (words : ℕ → ℕ) (p : ℕ) → Is t kinds.Fat v words p
     → Is t kinds.Fat v (λ j. if j == 0 then words p else if j == 1 then words (p + 1) else words (p + 2)) 0
 three_words_of t v words p is = Is-same t kinds.Fat v words (λ j. if j == 0 then words p else if j == 1 then words (p + 1) else words (p + 2)) p 0 each is
@@ -184,20 +190,22 @@ three_words_of t v words p is = Is-same t kinds.Fat v words (λ j. if j == 0 the
 -- ---- cells that an access finds
 
 module _ {t : Tables} {w : World} {s : StoreState} (related : Related t w s) where
-  -- a cell has the kind that the row of its object records
+  -- A cell has the kind that the table of objects records for it.
   pub cell_kind : {o k a : ℕ} (at : Located) (p : Points t o k a) → cell_at w o k ≡ Found at → slice_get p.kinds k ≡ Some at.cell.kind
   cell_kind {o} {k} at p found =
       let (there, cell) = cell_found w o k at found in
       ap (λ ks. slice_get ks k) (related.shapes o p.address p.kinds at.object there p.row)
       ∙ slice_get-map (λ (z : Cell). z.kind) at.object.cells k at.cell cell
 
-  -- The fields of the object have the kinds that the source tests, so the code computes the address of a field without its object.
+  -- The fields of the object have the kinds that the source semantics tests, so the code computes the address of a field without
+  -- looking at the object.
   pub field_there : {o a : ℕ} (p : Points t o 0 a) (x : Object) (fields : List Kind) (field : ℕ) → slice_get w.objects o ≡ Some x
       → kinds_of x.cells ≡ fields → field < length fields → Points t o field (add_of a (before field fields))
   field_there {o} p x fields field there same inside =
       field_is p fields field (related.shapes o p.address p.kinds x there p.row ∙ same) inside
 
-  -- the address of a field is computed from the number of bytes of the cells before it
+  -- The address of a field is the address of the object plus the number of bytes of the cells
+  -- before the field.
   pub member_there : {o a : ℕ} (p : Points t o 0 a) (x : Object) (fields : List Kind) (field c : ℕ) → slice_get w.objects o ≡ Some x
       → kinds_of x.cells ≡ fields → field < length fields → (before field fields < 4294967296 → c ≡ before field fields) → Points t o field (add_of a c)
   member_there {o} {a} p x fields field c there same inside is =

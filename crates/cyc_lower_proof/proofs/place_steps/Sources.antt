@@ -1,4 +1,5 @@
--- The place of a value that is stored through an address. The value is after the address or in a local, or it is one word.
+-- This file says where a value is that is stored through an address. The value is in temporaries after the address, or in
+-- a local, or it is one word.
 use Rattle.std.proofs.Common.{◌≡◌, ◌⊎◌, ℕ, ◌+◌, ◌<◌, ◌≤◌, Bool, true, false, length, Option, None, Some, slice_get, refl, sym, ap, ◌∙◌, arith, inl, inr}
 use Rattle.std.specs.Prelude.{if◌then◌else◌}
 use Rattle.cyc_types.specs.declared.typed.Kind.{Kind}
@@ -17,13 +18,14 @@ use Rattle.cyc_lower_proof.proofs.relation.code.Fitting.{Fits, FitsConverted}
 use Rattle.cyc_types.specs.declared.typed.UnaryOperator.TheVariants as unary
 
 module _ (types : Types) where
-  -- (meaning of the code of a store)
+  -- Says that the stored operand is one word, lies in slots after the slot of the address, or is a
+  -- local.
   abbrev pub IsApart : (words address : ℕ) → Operand → Type 0
   IsApart words address (operands.Slot n) = (words ≡ 1) ⊎ ((address < n) ⊎ ((number : ℕ) × (number < length types.locals) × (slot_of (starts_of types) number ≡ n) × (words ≤ words_in types.locals number)))
   IsApart words address (operands.Word w) = Unit {0}
 
   module _ (b : Numbering) where
-    -- the value of a local does not overlap the address
+    -- The slots of a local's value do not overlap the slot of the address.
     in_local : (n words t : ℕ) (kind : Kind) → words_of_kind kind ≤ words_in types.locals n → words ≡ words_of_kind kind → IsApart words t (operands.Slot (slot_of (starts_of types) n))
     in_local n words t kind room wide = inr (inr (n, room-inside types n kind room, refl, omega (arith, wide, room)))
 

@@ -1,4 +1,4 @@
--- A cell of three words, which holds a fat pointer, is written by three stores.
+-- This file writes a cell of three words, which holds a fat pointer, by three stores.
 use Rattle.std.proofs.Common.{◌≡◌, ◌≢◌, ◌⊎◌, ℕ, zero, suc, ◌+◌, ◌*◌, ◌<◌, ◌≤◌, List, [], ◌∷◌, length, set, Some, slice_get, refl, sym, ap, subst, ◌∙◌, arith, inl, inr, length-set, true}
 use Rattle.std.specs.Prelude.{◌==◌, if◌then◌else◌}
 use Rattle.cyc_words.specs.Word.{add_of}
@@ -52,7 +52,7 @@ use Rattle.cyc_types.specs.declared.typed.Kind.{Kind}
 use Rattle.cyc_lower_proof.specs.inside.ValueCode.{variable_bytes}
 use Rattle.cyc_memory_relation.proofs.Chars.{wide-aligned}
 
--- the parts of a configuration that change while the words of a cell are written
+-- The parts of a configuration that change while the words of a cell are written.
 pub record Parts : Type 0 where
   pub store : StoreState
   pub globals : Words
@@ -62,22 +62,22 @@ pub record Parts : Type 0 where
 abbrev pub parts_of : Configuration → Parts
 parts_of c = record { store = c.store; globals = c.globals; slots = c.active.slots; frames = c.frames }
 
--- the configuration with these parts, at this instruction
+-- The configuration `c` with the given store, globals, slots and frames, at the instruction `next`.
 abbrev pub stage : Configuration → Parts → (next : ℕ) → Configuration
 stage c s next = record c { store = s.store; globals = s.globals; active = record c.active { next = next; slots = s.slots }; frames = s.frames }
 
--- nothing is printed, and the limits are unchanged
+-- Says that two stages of a write have equal page use and equally many frames.
 abbrev IsAsFar : Parts → Parts → Type 0
 IsAsFar s others = (demand others.store ≡ demand s.store) × (length others.frames ≡ length s.frames)
 
 stage_quiet : (c : Configuration) (s others : Parts) (p q : ℕ) → IsAsFar s others → IsQuiet (stage c s p) (stage c others q)
 stage_quiet c s others p q far = record { seen = refl; demand = far.0; frames = far.1 }
 
--- true if the words of the stored value are in temporaries or in a local
+-- Holds if the words of the stored value are in temporaries or in a local.
 abbrev pub IsStanding : Program → (g n : ℕ) → Type 0
 IsStanding source g n = (base_of source g ≤ n) ⊎ ((number : ℕ) × (number < length (types_at source g).locals) × (slot_of (starts_at source g) number ≡ n) × HasRoom (types_at source g) number kinds.Fat)
 
--- storing the words in the slots from n on, to an address in slot a plus a number of bytes
+-- The words in the slots from n on are stored to the address in slot a plus a number of bytes.
 module _ (source : Program) (pages calls : ℕ) (k : List Entry) (e : Environment) (w : World) (c : Configuration) (shared : SharedAt source pages calls k e w c)
     (names : AreNamed source e.locals (callers k) w c.active.function c.active.base c.frames c.store)
     (facts : DataIn source shared.tables c.active.slots k e w c) (object offset address a bytes n : ℕ) (temporary : base_of source c.active.function ≤ a) (standing : IsStanding source c.active.function n)
@@ -105,11 +105,12 @@ module _ (source : Program) (pages calls : ℕ) (k : List Entry) (e : Environmen
   abbrev globals_of_source : List Ty
   globals_of_source = global_types source.globals
 
-  -- an instruction stores a word and leads from one stage to the next
+  -- Says that one instruction stores a word and takes the configuration from one stage to the next.
   abbrev pub Goes : (s others : Parts) → (more from : ℕ) → Type 0
   Goes s others more from = (i : ℕ) (choice : Choice) → performed (lower_program source) choice (stage c s i) (instructions.Store (operands.Slot a) more (operands.Slot from)) ≡ plain.Running (stage c others (i + 1))
 
-  -- The cell belongs to the store, to a global or to a local. A write of the cell changes the store, the globals, or slots.
+  -- The written cell belongs to the store, to a global or to a local. Writing the cell changes the store, the globals, or
+  -- the slots of a call.
   pub record IsSaved : Type 0 where
     pub one : Parts
     pub two : Parts
@@ -140,7 +141,7 @@ module _ (source : Program) (pages calls : ℕ) (k : List Entry) (e : Environmen
     abbrev holding : Memory → Parts
     holding m = record { store = record c.store { memory = m }; globals = c.globals; slots = c.active.slots; frames = c.frames }
 
-    -- each word of the cell exists, also after others were written
+    -- Each word of the cell exists, even after other words of the cell have been written.
     there : (m : Memory) (j : ℕ) → j < 3 → store_word (holding m).store (address + 4 * j) ≡ Some (m (address + 4 * j))
     there m j below =
         stored_still c.store m (address + 4 * j) (c.store.memory (address + 4 * j)) (cell-stored shared.related alive points at_cell (ap (λ (i : Kind). is_kind i kinds.Char) fat) j (omega (arith, below, ap words_of_kind fat)))
@@ -153,7 +154,7 @@ module _ (source : Program) (pages calls : ℕ) (k : List Entry) (e : Environmen
         ∙ ap (λ (s : StoreState). plain.Running (record c { store = s; active = record c.active { next = i + 1 } }))
         (saved-is (holding m).store (address + 4 * j) (slots from) (m (address + 4 * j)) (stored-word (holding m).store (address + 4 * j) (m (address + 4 * j)) (there m j below))))
 
-    -- the written words represent the value
+    -- The words that were written represent the stored value.
     in_slots : Is shared.tables kinds.Fat v (λ j. if j == 0 then slots n else if j == 1 then slots (suc n) else slots (suc (suc n))) 0
     in_slots = Is-same shared.tables kinds.Fat v slots (λ j. if j == 0 then slots n else if j == 1 then slots (suc n) else slots (suc (suc n))) n 0 each is
       where
@@ -232,7 +233,8 @@ module _ (source : Program) (pages calls : ℕ) (k : List Entry) (e : Environmen
   fat_value : Is shared.tables cell.cell.kind v slots n
   fat_value = subst (λ i. Is shared.tables i v slots n) (sym fat) is
 
-  -- the result of replacing this number of consecutive words by the words of a value
+  -- The slots after `many` consecutive words from slot `start` on are replaced by the words of a
+  -- value.
   abbrev after : Words → (start many : ℕ) → Words
   after from start many = each_put slots from many n start
 
@@ -274,7 +276,8 @@ module _ (source : Program) (pages calls : ℕ) (k : List Entry) (e : Environmen
             (each_is shared.tables (record { kind = cell.cell.kind; value = v }) slots c.globals 3 n start three fat_value) (char_now zeroth at_cell (inr (inl row))) elsewhere facts.0);
       }
 
-  -- A local of the running call: the stored words do not overlap the written words, or are the same words.
+  -- The written cell is a local of the running call: the stored words do not overlap the written slots, or
+  -- they are the words in these slots.
   module _ (number : ℕ) (inside : number < length (types_at source g).locals) (room : HasRoom (types_at source g) number kinds.Fat) where
     abbrev own : ℕ
     own = slot_of (starts_at source g) number
@@ -474,11 +477,12 @@ module _ (source : Program) (pages calls : ℕ) (k : List Entry) (e : Environmen
   pub above_stored : (m : ℕ) → base_of source c.active.function ≤ m → stored.active.slots m ≡ c.active.slots m
   above_stored = is_saved.above
 
-  -- the value remains in its place
+  -- The stored value remains in its slots.
   pub value_stays : (j : ℕ) → j < 3 → stored.active.slots (n + j) ≡ c.active.slots (n + j)
   value_stays = is_saved.value
 
-  -- the shared state is preserved with unchanged tables, and so are the data of all calls
+  -- After the three stores, the shared state still holds with the same tables of objects, and so do
+  -- the data of all calls.
   abbrev pub shared_stored : SharedAt source pages calls k e next stored
   shared_stored = record {
     tables = shared.tables;

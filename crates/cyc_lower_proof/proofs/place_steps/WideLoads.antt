@@ -1,4 +1,5 @@
--- A cell of three words, which holds a fat pointer, is read by three loads. The load into the slot of the address is the last one.
+-- This file reads a cell of three words, which holds a fat pointer, by three loads. If the slot of the address is also a
+-- destination, the load into this slot is the last one.
 use Rattle.std.proofs.Common.{◌≡◌, ◌≢◌, ◌⊎◌, ℕ, ◌+◌, ◌*◌, ◌<◌, ◌≤◌, List, [], ◌∷◌, length, Some, refl, sym, ap, ◌∙◌, arith, inl, inr, Option}
 use Rattle.cyc_words.specs.Word.{add_of}
 use Rattle.cyc_types.specs.declared.typed.Kind.TheVariants as kinds
@@ -26,16 +27,16 @@ use Rattle.cyc_lower_proof.proofs.relation.simulation.Paths.{Link, is_quiet, IsP
 use Rattle.cyc_plain.specs.inside.Memory.{memory_at}
 use Rattle.std.proofs.lemmas.Bool.{cases_eq}
 
--- true if a value of three words is moved to temporaries or to a local
+-- Holds if a value of three words is moved to temporaries or to a local.
 abbrev pub ComesTo : Program → (g d : ℕ) → Type 0
 ComesTo source g d = (base_of source g ≤ d) ⊎ ((number : ℕ) × (number < length (types_at source g).locals) × (slot_of (starts_at source g) number ≡ d) × HasRoom (types_at source g) number kinds.Fat)
 
--- true if some of the three words have been loaded into slots
+-- Holds if the slots `new` are the slots `old` after some of the three words have been loaded.
 abbrev pub AreMixed : (d : ℕ) → (word : ℕ → ℕ) → (old new : Words) → Type 0
 AreMixed d word old new = (m : ℕ) → (new m ≡ old m) ⊎ ((j : ℕ) × (j < 3) × (m ≡ d + j) × (new m ≡ word j))
 
--- Loading words into slots changes no word that is still to be read. The slots of a local are loaded into other slots, or into the same
--- slots.
+-- Loading words into slots changes no word that is yet to be loaded. The slots of a local are loaded into other slots, or each slot is
+-- loaded into itself.
 pub mixed_same : (source : Program) (g d : ℕ) (word : ℕ → ℕ) (here : Option ℕ) (old new : Words) → IsOwn source g kinds.Fat here → ((slot j : ℕ) → here ≡ Some slot → word j ≡ old (slot + j)) → ComesTo source g d
     → AreMixed d word old new → AreSame here 3 old new
 mixed_same source g d word here old new own stays comes mixed slot j is below = elim (mixed (slot + j)) [
@@ -57,7 +58,8 @@ mixed_same source g d word here old new own stays comes mixed slot j is below = 
       ]
 ]
 
--- loading into the slots from d on, by the address in slot s, which may be the first destination slot
+-- Three words are loaded into the slots from d on, through the address in slot s, which may be the
+-- first destination slot.
 module _ (source : Program) (t : Tables) (c : Configuration) (d s : ℕ) (apart : (s ≤ d) ⊎ (d + 3 ≤ s)) (v : Value) (word : ℕ → ℕ)
     (there : (slots : Words) (next j : ℕ) → AreMixed d word c.active.slots slots → j < 3 → memory_at (lower_program source) (at (with_slots c slots) next) (add_of (c.active.slots s) (4 * j)) ≡ Some (word j))
     (is : Is t kinds.Fat v word 0) where
@@ -107,7 +109,7 @@ module _ (source : Program) (t : Tables) (c : Configuration) (d s : ℕ) (apart 
   two_mixed : AreMixed d word c.active.slots two_in
   two_mixed = mixed_more third_in 1 (omega arith) third_mixed
 
-  -- the slot of the address is not one of the last two slots
+  -- The slot of the address is not one of the last two destination slots.
   other : (i : ℕ) → 0 < i → i < 3 → s ≢ d + i
   other i some few same = elim apart [
     | inl before ↦ omega (arith, before, same, some)

@@ -1,4 +1,5 @@
--- The words of an access through a fat pointer: its index in bytes, the address of its cell, and its exception if it is out of bounds.
+-- This file is about accesses through fat pointers. It treats the index in bytes, the address of the cell, and the exception of an
+-- access out of bounds.
 use Rattle.std.proofs.Common.{◌≡◌, ◌≢◌, ℕ, zero, suc, ◌+◌, ◌*◌, ◌<◌, Bool, true, false, Option, None, Some, slice_get, refl, sym, ap, subst, ◌∙◌, arith, inl, inr}
 use Rattle.std.specs.Prelude.{◌==◌, if◌then◌else◌, not}
 use Rattle.std.proofs.lemmas.Bool.{eq-eqb, ne_eqb, eqb-true}
@@ -33,11 +34,11 @@ use Rattle.cyc_lower_proof.proofs.relation.contents.Data.{Is-same}
 use Rattle.cyc_lower_proof.proofs.place_steps.PlaceWords.{narrow_element, byte_element, wide_element}
 use Rattle.cyc_plain.specs.inside.Operators.{truth}
 
--- the number of bytes for an index that counts cells of four or twelve bytes
+-- The number of bytes before the cell at an index, for cells of one, four or twelve bytes.
 abbrev pub scaled : (bytes index : ℕ) → ℕ
 scaled bytes index = if bytes == 4 then shl_of index 2 else if bytes == 1 then index else mul_of index 12
 
--- the words of a pointer in consecutive slots
+-- The words of a fat pointer are in three consecutive slots.
 pub parts_of : (t : Tables) (v : Value) (slots : Words) (n : ℕ) → Is t kinds.Fat v slots n → IsParts t v slots n (n + 2)
 parts_of t v slots n is = Is-same t kinds.Fat v slots (λ j. if j == 0 then slots n else if j == 1 then slots (n + 1) else slots (n + 2)) n 0 each is
   where
@@ -47,7 +48,7 @@ parts_of t v slots n is = Is-same t kinds.Fat v slots (λ j. if j == 0 then slot
     each (suc (suc zero)) below = refl
     each (suc (suc (suc j))) below = absurd (omega (arith, below))
 
--- the computed address of the cell at an index
+-- The address that the code computes is the address of the cell at the index.
 module _ {t : Tables} where
   pub element_is : {o start count w : ℕ} (i : ℕ) (part : IsPartOf t o start count w) → i < count → Points t o (start + i) (add_of w (scaled (bytes_of_kind part.kind) i))
   element_is {o} {start} {count} {w} i part below = by (bytes_of_kind part.kind == 4) (bytes_of_kind part.kind == 1) refl refl
@@ -58,7 +59,7 @@ module _ {t : Tables} where
       by false true other is = byte_element i part below (eqb-true (bytes_of_kind part.kind) 1 is)
       by false false other wide = wide_element i part below (ap bytes_of_kind (wide_cell part.kind other wide))
 
-  -- a struct is accessed at its first cell
+  -- A pointer to a struct is followed to the first cell of the struct.
   pub first_is : {o start count a : ℕ} (i : ℕ) → IsPartOf t o start count a → start + i ≡ 0 → i < count → Points t o (start + i) a
   first_is {o} {start} {count} {a} i part first below =
       let none : i ≡ 0 = omega (arith, first) in
@@ -70,7 +71,7 @@ abbrev some_or : (kind : Kind) → Option Kind → Kind
 some_or kind None = kind
 some_or kind (Some other) = other
 
--- each cell of the part has the size of the kind in the tree
+-- Each cell of the pointed-to part of an object has the size of the kind in the typed tree.
 module _ {t : Tables} {w : World} {s : StoreState} (related : objects.Related t w s) where
   cell_of_kind : (kind : Kind) (offset : ℕ) (x : Option Object) → is_target (Some kind) offset (cell_of x offset) ≡ true → (y : Object) × (cell : Cell) × (x ≡ Some y) × (slice_get y.cells offset ≡ Some cell) × (cell.kind ≡ kind)
   cell_of_kind kind offset None leads = absurd (let f : false ≡ true = leads in cc)
@@ -88,14 +89,14 @@ module _ {t : Tables} {w : World} {s : StoreState} (related : objects.Related t 
       let same : Some part.kind ≡ Some cell.kind = sym (part.even i below) ∙ (ap (λ ks. slice_get ks (start + i)) shape ∙ slice_get-map (λ (z : Cell). z.kind) x.cells (start + i) cell at_cell) in
       ap bytes_of_kind (ap (some_or part.kind) same ∙ kind_is)
 
-  -- the code computes the address of the cell
+  -- The code computes the address of the cell at an index.
   pub cell_is : {o start count a : ℕ} (i m : ℕ) (part : IsPartOf t o start count a) (kind : Kind) → m ≡ i → i < count → is_target (Some kind) (start + i) (cell_of (slice_get w.objects o) (start + i)) ≡ true
       → Points t o (start + i) (add_of a (scaled (bytes_of_kind kind) m))
   cell_is {o} {start} {count} {a} i m part kind index_is below leads =
       subst (λ (j : ℕ). Points t o (start + i) (add_of a (scaled (bytes_of_kind kind) j))) (sym index_is)
       (subst (λ (j : ℕ). Points t o (start + i) (add_of a (scaled j i))) (part_bytes i part kind below leads) (element_is i part below))
 
--- an access changes only its first slot and one slot after it
+-- An access through a fat pointer changes only the first slot of the access and one slot after it.
 pub elsewhere : (slots : Words) (t far x y m : ℕ) → Outside t (far + 1) m → put (put slots (t + far) x) t y m ≡ slots m
 elsewhere slots t far x y m out =
     put_elsewhere (put slots (t + far) x) t y (far + 1) m (omega arith) out ∙ put-other slots (t + far) m x (λ same. beside out same)
@@ -104,12 +105,13 @@ elsewhere slots t far x y m out =
     beside (inl short) same = absurd (omega (arith, same, short))
     beside (inr long) same = absurd (omega (arith, same, long))
 
--- scaling the index changes only the slot of the scaled index
+-- Scaling an index changes only the slot that receives the scaled index.
 pub scaled_elsewhere : (slots : Words) (t x m : ℕ) → Outside t 4 m → put slots (t + 3) x m ≡ slots m
 scaled_elsewhere slots t x m (inl short) = put-other slots (t + 3) m x (λ same. absurd (omega (arith, same, short)))
 scaled_elsewhere slots t x m (inr long) = put-other slots (t + 3) m x (λ same. absurd (omega (arith, same, long)))
 
--- the exception of an access out of bounds, by the first word of the pointer
+-- The tag of the exception that an access out of bounds raises, computed from the first word of the
+-- pointer.
 abbrev pub failing_tag : (word : ℕ) → ℕ
 failing_tag word = add_of (truth (not (word == 0))) null_exception
 
@@ -120,7 +122,7 @@ pub other_tag : (word : ℕ) → word ≢ 0 → failing_tag word ≡ array_bound
 other_tag word some = ap (λ (b : Bool). add_of (truth (not b)) null_exception) (ne_eqb word 0 some)
 
 module _ (source : Program) where
-  -- the index is scaled to bytes in a slot
+  -- An instruction scales the index to a number of bytes in a slot.
   pub scales : (bytes x m : ℕ) (c : Configuration) (choice : Choice)
       → performed (lower_program source) choice c (scale_of bytes x m) ≡ plain.Running (at (with_slots c (put c.active.slots x (scaled bytes (c.active.slots m)))) (c.active.next + 1))
   scales bytes x m c choice = by (bytes == 4) (bytes == 1)

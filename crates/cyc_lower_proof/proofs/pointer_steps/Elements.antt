@@ -1,5 +1,5 @@
--- Accesses through fat pointers. The pointer is tested, its index is compared with its length, and the address of the cell is computed. If
--- the source has no fault, a pointer to a struct points to the whole struct.
+-- This file is about accesses through fat pointers. The pointer is tested, its index is compared with its length, and the address of the
+-- cell is computed. If the source has no fault, then a pointer to a struct points to the whole struct.
 use Rattle.std.proofs.Common.{◌≡◌, ◌≢◌, ℕ, ◌+◌, ◌≤◌, ◌<◌, Bool, true, false, List, [], ◌∷◌, ◌++◌, Option, None, Some, refl, sym, ap, subst, ◌∙◌, arith, inl, inr}
 use Rattle.std.specs.Prelude.{◌==◌, ◌&&◌, nat_lt, if◌then◌else◌, option_map, not}
 use Rattle.std.proofs.lemmas.Bool.{false_from_ne_true, eqb-true, cases_Bool, ltb-true, and_parts}
@@ -51,7 +51,8 @@ use Rattle.cyc_lower_proof.proofs.pointer_steps.ElementWords.{scaled, parts_of, 
 module _ (source : Program) (pages calls : ℕ) where
   -- ---- the comparison of an index with the length, which is 0 for null
 
-  -- a step is matched by instructions that lead from one configuration to another
+  -- A source step is matched by instructions that take the plain machine from one configuration to
+  -- another.
   by_path_from : (focus : Focus) (k : List Entry) (e : Environment) (w : World) (c b : Configuration) (next : State) (first rest : List Link) (i : Instruction)
       → step source (Running focus k e w) ≡ next → SharedAt source pages calls k e w c → IsPath source c first → end_of c first ≡ b → IsPath source b rest
       → At (code_of source (end_of b rest).active.function) (end_of b rest).active.next i
@@ -70,7 +71,8 @@ module _ (source : Program) (pages calls : ℕ) where
     abbrev comparison : Instruction
     comparison = instructions.Branch comparisons.LessUnsigned (operands.Slot m) (operands.Slot (n + 1)) u
 
-    -- the links for an index out of bounds and for one within bounds
+    -- The two outcomes of the bounds comparison: the index is out of bounds, or it is within
+    -- bounds.
     abbrev outside : Link
     outside = record { instruction = comparison; following = at b (b.active.next + 1) }
 
@@ -84,7 +86,8 @@ module _ (source : Program) (pages calls : ℕ) where
     within_path : nat_lt (b.active.slots m) (b.active.slots (n + 1)) ≡ true → IsPath source b (within ∷ [])
     within_path less = (here.0, (λ choice. branch_taken b (nat_lt (b.active.slots m) (b.active.slots (n + 1))) u less), omega (arith, here.3), is_quiet b (at b u).active, tt)
 
-    -- the tag slot gets the first word of the pointer, and then the tag of the exception
+    -- The slot for the tag receives the first word of the pointer, and then the tag of the
+    -- exception.
     abbrev tag_slot : ℕ
     tag_slot = base_of source b.active.function
 
@@ -123,7 +126,8 @@ module _ (source : Program) (pages calls : ℕ) where
           (jump, (λ choice. refl), on, is_quiet third fourth.active, tt),
         )
 
-    -- an index out of bounds raises an exception: the one for null, or the one for bounds
+    -- An index out of bounds raises an exception: the null exception if the pointer is null, else
+    -- the bounds exception.
     stops_outside : (tag : ℕ) → IsNumber tag → failing_tag (b.active.slots n) ≡ tag → (shared_after : SharedAt source pages calls k e w b) → DataIn source shared_after.tables b.active.slots k e w b → nat_lt (b.active.slots m) (b.active.slots (n + 1)) ≡ false
         → step source (Running focus k₀ e w) ≡ Running (Throwing tag 0) k e w → IsMatched source pages calls (Running focus k₀ e w) (plain.Running c)
     stops_outside tag number tag_is shared_after facts least does =
@@ -133,7 +137,7 @@ module _ (source : Program) (pages calls : ℕ) where
         by_path_from focus k₀ e w c b (Running (Throwing tag 0) k e w) first (outside ∷ asking_links) (instructions.Binary plain_binary.Add tag_slot (operands.Slot tag_slot) (operands.Word null_exception)) does shared path ends (asking_path least) sum
         (λ choice. raised source pages calls tag 0 k e w last (operands.Slot tag_slot) (operands.Word 0) number shared_after reported_facts throw (reported_tag ∙ tag_is) refl)
 
-    -- the access continues within bounds
+    -- If the index is within bounds, then the access continues.
     goes_on : (next : State) → nat_lt (b.active.slots m) (b.active.slots (n + 1)) ≡ true → step source (Running focus k₀ e w) ≡ next → Matches source pages calls next (plain.Running (at b u))
         → IsMatched source pages calls (Running focus k₀ e w) (plain.Running c)
     goes_on next less does goes =
@@ -151,7 +155,7 @@ module _ (source : Program) (pages calls : ℕ) where
     abbrev far : ℕ
     far = scaled bytes (c.active.slots m)
 
-    -- only a temporary changes
+    -- Before the bounds comparison, only a temporary changes.
     abbrev before : Words
     before = put c.active.slots (t + 3) far
 
@@ -179,13 +183,14 @@ module _ (source : Program) (pages calls : ℕ) where
     index_stays : before m ≡ c.active.slots m
     index_stays = put-other c.active.slots (t + 3) m far (λ same. absurd (omega (arith, same, apart)))
 
-    -- the comparison of the index with the length is unchanged
+    -- The comparison of the index with the length has the same result after a temporary has
+    -- changed.
     below_stays : (less : Bool) → nat_lt (c.active.slots m) (c.active.slots (n + 1)) ≡ less → nat_lt (before m) (before (n + 1)) ≡ less
     below_stays less is = ap (λ (x : ℕ). nat_lt x (before (n + 1))) index_stays ∙ (ap (nat_lt (c.active.slots m)) length_stays ∙ is)
 
   -- ---- the accessed place
 
-  -- an access through a fat pointer with these words
+  -- An access through a fat pointer whose words are in slots from n on.
   module _ (i : Kind) (target : Option Kind) (n m q : ℕ) (k : List Entry) (e : Environment) (w : World) (c : Configuration) where
     abbrev span_there : Option ℕ
     span_there = option_map bytes_of_kind target
@@ -209,7 +214,7 @@ module _ (source : Program) (pages calls : ℕ) where
     leads_there : (x : Value) → IsWell (step source (Running (Given (given x)) waiting e w)) → leads_to w target (followed x) ≡ true
     leads_there x well = (and_parts (is_kind i kinds.Fat) (leads_to w target (followed x)) (is_fitting (tests x) (arrives (followed x) k e w) w well)).1
 
-    -- without a cell to look up, nothing is scaled
+    -- If the access needs no cell, then the code scales no index.
     inside_first : (here : ReachedAt (code_of source c.active.function) (bounds_at source c.active.function) (types_at source c.active.function) None n m free c.active.next q)
         → InsideAt (code_of source c.active.function) (bounds_at source c.active.function) (types_at source c.active.function) n m c.active.next here.1
     inside_first here = subst (λ i. InsideAt (code_of source c.active.function) (bounds_at source c.active.function) (types_at source c.active.function) n m i here.1) (sym here.2) here.3
@@ -220,7 +225,7 @@ module _ (source : Program) (pages calls : ℕ) where
         data_written source shared.tables c.active.function c.active.base w.objects e.locals k c.active.slots (put c.active.slots (free + 3) far) c.active.handlers c.globals c.frames free 4 (height-least (floor source c.active.function k) (held k))
         (λ x out. scaled_elsewhere c.active.slots free far x out) facts
 
-    -- within bounds the access finds the first cell, or the cell at the index
+    -- Within bounds, the access finds the first cell, or the cell at the index.
     cell_reached : (object start count index : ℕ) {x : Value} → c.active.slots n ≢ 0 → nat_lt (c.active.slots m) (c.active.slots (n + 1)) ≡ true → index < count
         → (shared : SharedAt source pages calls k e w c) → (part : IsPartOf shared.tables object start count (c.active.slots n)) → c.active.slots m ≡ index
         → step source (Running (Given (given x)) waiting e w) ≡ Running (GivenPlace (Thin object (start + index))) k e w → leads_to w target (reaches.At object (start + index)) ≡ true
@@ -261,7 +266,7 @@ module _ (source : Program) (pages calls : ℕ) where
               (operands.Slot free, 0, pointer-word there, stays there, Holds-same shared.tables slots after base (held k) (λ x short. elsewhere slots free 3 (scaled bytes (slots m)) address x (inl short)) holds, place),
             )))
 
-    -- an index out of bounds raises an exception
+    -- An access with an index out of bounds raises an exception.
     stops_there : (tag : ℕ) (x : Value) → IsNumber tag → failing_tag (c.active.slots n) ≡ tag → (shared : SharedAt source pages calls k e w c) → DataIn source shared.tables c.active.slots k e w c → (n ≤ free) × (m < free + 3)
         → nat_lt (c.active.slots m) (c.active.slots (n + 1)) ≡ false
         → ReachedAt (code_of source c.active.function) (bounds_at source c.active.function) (types_at source c.active.function) span_there n m free c.active.next q
@@ -300,7 +305,7 @@ module _ (source : Program) (pages calls : ℕ) where
         ]
     follows_parts x well shared facts is holds low here place = absurd is
 
-  -- a value that is not a pointer is a fault
+  -- Following a value that is not a pointer is a fault.
   not_followed : (i : Kind) (target : Option Kind) (t : Tables) (kind pointer : Kind) (x : Value) (slots : Words) (n : ℕ) (k : List Entry) (e : Environment) (w : World) → Is t kind x slots n
       → IsWell (step source (Running (Given (record { kind = i; value = x })) (Needs (Follow pointer target) ∷ k) e w)) → is_pointer kind ≡ false → ⊥
   not_followed i target t kind pointer (Int a) slots n k e w is well no_pointer = goes_wrong (is_kind i pointer && leads_to w target (followed (Int a))) w well
@@ -311,7 +316,7 @@ module _ (source : Program) (pages calls : ℕ) where
   not_followed i target t kinds.Fat pointer x slots n k e w is well no_pointer = let f : true ≡ false = no_pointer in cc
   not_followed i target t kind pointer x slots n k e w is well no_pointer = is
 
-  -- an access through a fat pointer in slots
+  -- The step of an access through a fat pointer in slots.
   pub follows_fat : (pointer : Kind) (target : Option Kind) (v : Kinded) (o : Operand) (q : ℕ) (k : List Entry) (e : Environment) (w : World) (c : Configuration) → is_thin pointer ≡ false → v.kind ≡ pointer
       → IsWell (step source (Running (Given v) (Needs (Follow pointer target) ∷ k) e w)) → (shared : SharedAt source pages calls k e w c) → DataIn source shared.tables c.active.slots k e w c
       → IsIn shared.tables v c.active.slots o → Holds shared.tables c.active.slots (floor source c.active.function k) (held k) → IsLow o (top source c.active.function k)
@@ -335,7 +340,7 @@ module _ (source : Program) (pages calls : ℕ) where
 
   -- ---- indexing
 
-  -- a fat pointer is pending while its index is evaluated
+  -- A fat pointer stays in its slots while its index is evaluated.
   pub indexes_pointer : (peek : Option ℕ) (target : Option Kind) (i : Expression) (base : Kinded) (o : Operand) (k : List Entry) (e : Environment) (w : World) (c : Configuration)
       → IsWell (step source (Running (Given base) (Needs (Index peek target i) ∷ k) e w)) → (shared : SharedAt source pages calls k e w c) → DataIn source shared.tables c.active.slots k e w c
       → IsIn shared.tables base c.active.slots o → Holds shared.tables c.active.slots (floor source c.active.function k) (held k)
@@ -371,7 +376,8 @@ module _ (source : Program) (pages calls : ℕ) where
       )
       (omega arith)
 
-  -- The index is added to the pointer, and then the access is made: only the third word changes, in a temporary.
+  -- The index is added to the fat pointer, and then the access is made: only the third word of the pointer
+  -- changes, in a temporary.
   pub advances_pointer : (peek : Option ℕ) (target : Option Kind) (base : Kinded) (j : Kind) (x : Value) (k : List Entry) (e : Environment) (w : World) (c : Configuration)
       → IsWell (step source (Running (Given (record { kind = j; value = x })) (Needs (Advance peek target base) ∷ k) e w)) → (shared : SharedAt source pages calls k e w c) → DataIn source shared.tables c.active.slots k e w c
       → ReadyAt source shared.tables (record { kind = j; value = x }) e.locals c.active.function c.active.next c.active.slots c.frames (Needs (Advance peek target base) ∷ k)

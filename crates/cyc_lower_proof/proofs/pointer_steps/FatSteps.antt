@@ -1,4 +1,4 @@
--- The steps of fat pointers.
+-- This file proves the steps of operators on fat pointers.
 use Rattle.std.proofs.Common.{◌≡◌, ◌≢◌, ℕ, ◌+◌, ◌-◌, ◌≤◌, Bool, true, false, not, List, [], ◌∷◌, Option, refl, sym, ap, subst, ◌∙◌, arith, inl, inr}
 use Rattle.std.specs.Prelude.{◌==◌, nat_lt, nat_le, if◌then◌else◌}
 use Rattle.std.proofs.lemmas.Bool.{cases_Bool, ltb-true, ltb-false, le-leb, lt-leb}
@@ -42,22 +42,22 @@ use Rattle.cyc_lower_proof.proofs.value_steps.ValueWords.{branch_taken, branch_p
 
 -- ---- the words of a fat pointer
 
--- only a fat pointer has three words
+-- If a value is a fat pointer to an object, then its kind is the kind of three words.
 pub fat_is : (t : Tables) (kind : Kind) (object start count index : ℕ) (words : Words) (p : ℕ) → Is t kind (Fat object start count index) words p
     → IsPartOf t object start count (words p) × (words (p + 1) ≡ count) × (words (p + 2) ≡ index)
 fat_is t kinds.Fat object start count index words p is = is
 fat_is t kind object start count index words p is = absurd is
 
--- the second word is 0 for null
+-- The second word of a null fat pointer is 0.
 null_length : (t : Tables) (kind : Kind) (words : Words) (p : ℕ) → kind ≡ kinds.Fat → Is t kind Null words p → words (p + 1) ≡ 0
 null_length t kind words p fat is = (subst (λ (x : Kind). Is t x Null words p) fat is).1
 
--- a fat pointer does not fit in one word
+-- A fat pointer is never represented by one word.
 not_a_word : (t : Tables) (kind : Kind) (object start count index : ℕ) (slots : Words) (w : ℕ) → IsIn t (record { kind = kind; value = Fat object start count index }) slots (operands.Word w) → ⊥
 not_a_word t kinds.Fat object start count index slots w is = is
 not_a_word t kind object start count index slots w is = is
 
--- the difference of two words without overflow
+-- The subtraction of a word from a larger or equal word does not wrap around.
 difference : (a b : ℕ) → b ≤ a → IsWord a → sub_of a b ≡ a - b
 difference a b below fits = omega (arith, below, fits)
 
@@ -80,7 +80,7 @@ module _ (source : Program) (pages calls : ℕ) where
     abbrev in_bounds : (following : Configuration) → Link
     in_bounds following = record { instruction = instructions.Branch comparisons.LessUnsigned (operands.Slot (n + 1)) (operands.Slot (n + 2)) (p + 3); following = following }
 
-    -- the count is 0, which the last instruction yields
+    -- The element count is 0, which the last instruction yields.
     none_counted : (choice : Choice) → Matches source pages calls (Running (Given (record { kind = kinds.Int; value = Int 0 })) k e w) (performed (lower_program source) choice (at c (p + 3)) (instructions.Move d (operands.Word 0)))
     none_counted choice =
         let (past, subtract, jump, move, end) = here in
@@ -113,7 +113,7 @@ module _ (source : Program) (pages calls : ℕ) where
         (λ choice. subst (λ i. Matches source pages calls (Running (Given (record { kind = kinds.Int; value = Int many })) k e w) (plain.Running (at (with_slots c (put slots d many)) i))) fourth
         (landed_word source pages calls many many d k e w (at c (p + 3)) q refl shared facts holds fourth lands))
 
-    -- the count of null, whose length is 0
+    -- The element count of a null pointer is 0, because its length word is 0.
     counts_null : slots (n + 1) ≡ 0 → Counted 0 → IsMatched source pages calls (Running (Given v) (Needs CountElements ∷ k) e w) (plain.Running c)
     counts_null zero does =
         elim (cases_Bool (nat_lt (slots (n + 1)) (slots (n + 2)))) [
@@ -123,7 +123,7 @@ module _ (source : Program) (pages calls : ℕ) where
               counts_some least (does ∙ ap (λ (x : ℕ). Running (Given (record { kind = kinds.Int; value = Int x })) k e w) none)
         ]
 
-    -- the count of a pointer that is not null
+    -- The element count of a fat pointer that is not null.
     counts_fat : (object start count index : ℕ) → v.value ≡ Fat object start count index → IsWord (slots (n + 1))
         → IsPartOf shared.tables object start count (slots n) × (slots (n + 1) ≡ count) × (slots (n + 2) ≡ index)
         → IsMatched source pages calls (Running (Given v) (Needs CountElements ∷ k) e w) (plain.Running c)
@@ -144,7 +144,7 @@ module _ (source : Program) (pages calls : ℕ) where
               (let same : count - index ≡ slots (n + 1) - slots (n + 2) = omega (arith, count_is, index_is) in same ∙ sym (difference (slots (n + 1)) (slots (n + 2)) below fits))))
         ]
 
-  -- the elements of a pointer in any operand are counted
+  -- The step that counts the elements of a pointer in any operand.
   pub counts : (v : Kinded) (o : Operand) (d q : ℕ) (k : List Entry) (e : Environment) (w : World) (c : Configuration) → plain.HoldsWords (plain.Running c)
       → IsWell (step source (Running (Given v) (Needs CountElements ∷ k) e w))
       → (shared : SharedAt source pages calls k e w c) → DataIn source shared.tables c.active.slots k e w c → IsIn shared.tables v c.active.slots o
@@ -172,7 +172,8 @@ module _ (source : Program) (pages calls : ℕ) where
 
 -- ---- converting thin pointers to fat pointers
 
--- the two words after the first: they describe one cell, or none if the first word is 0
+-- The second and third words of a converted pointer: they describe one cell, or no cell if the
+-- first word is 0.
 abbrev many_of : ℕ → ℕ
 many_of word = truth (not (word == 0))
 
@@ -185,7 +186,8 @@ widened_elsewhere slots n m (inl below) =
 widened_elsewhere slots n m (inr above) =
     put-other (put slots (n + 1) (many_of (slots n))) (n + 2) m 0 (λ same. absurd (omega (arith, same, above))) ∙ put-other slots (n + 1) m (many_of (slots n)) (λ same. absurd (omega (arith, same, above)))
 
--- the words are those of a fat pointer to the cell, with the cell's address
+-- The three words are those of a fat pointer to one cell, and the first word is the address of this
+-- cell.
 widened_is : (t : Tables) (kind : Kind) (v u : Value) (slots : Words) (n : ℕ) → words_of_kind kind ≢ 3 → conversion kinds.Fat v ≡ Gives u → Is t kind v slots n → Is t kinds.Fat u (widened slots n) n
 widened_is t kind v u slots n narrow gives is = by kind v is gives narrow
   where
@@ -217,7 +219,7 @@ widened_is t kind v u slots n narrow gives is = by kind v is gives narrow
     by kinds.Key (Key region) is gives narrow = absurd (let f : Misfits ≡ Gives u = gives in cc)
     by kind v is gives narrow = absurd is
 
--- the result of a conversion to a fat pointer, which raises no exception
+-- The result of a conversion to a fat pointer; this conversion raises no exception.
 pub record IsWidened (v : Value) : Type 0 where
   pub value : Value
   pub gives : conversion kinds.Fat v ≡ Gives value

@@ -1,5 +1,5 @@
--- Converting a fat pointer to a thin one. The fat pointer is tested for null, its index is compared with its length, and then the address
--- of the cell is computed.
+-- This file converts a fat pointer to a thin one. The fat pointer is tested for null, its index is compared with its length, and then the
+-- address of the cell is computed.
 use Rattle.std.proofs.Common.{◌≡◌, ◌≢◌, ℕ, ◌+◌, ◌≤◌, true, false, List, [], ◌∷◌, Option, None, Some, refl, sym, ap, subst, ◌∙◌, arith}
 use Rattle.std.specs.Prelude.{◌==◌, nat_lt, nat_le}
 use Rattle.std.proofs.lemmas.Bool.{eq-eqb, ne_eqb, ltb-true, ltb-false, le-leb, lt-leb}
@@ -33,7 +33,7 @@ module _ (source : Program) (pages calls : ℕ) where
 
   module _ (focus : Focus) (k₀ k : List Entry) (e : Environment) (w : World) (c : Configuration) (null : ℕ → Type 0) (n r : ℕ) (shared : SharedAt source pages calls k₀ e w c)
       (test : (x : ℕ) × At (code_of source c.active.function) c.active.next (instructions.Branch comparisons.Equal (operands.Slot n) (operands.Word 0) x) × null x × (c.active.next + 1 ≡ r)) where
-    -- null continues at another place
+    -- For a null pointer, the code continues at a separate position.
     pub leaves_null : (next : State) → c.active.slots n ≡ 0 → step source (Running focus k₀ e w) ≡ next → ((block : ℕ) → null block → Matches source pages calls next (plain.Running (at c block)))
         → IsMatched source pages calls (Running focus k₀ e w) (plain.Running c)
     leaves_null next is_zero does goes =
@@ -41,14 +41,14 @@ module _ (source : Program) (pages calls : ℕ) where
         by_one source pages calls does shared jump
         (λ choice. subst (Matches source pages calls next) (sym (branch_taken c (c.active.slots n == 0) block (eq-eqb (c.active.slots n) 0 is_zero))) (goes block leads))
 
-    -- null raises an exception
+    -- Converting a null pointer raises an exception.
     pub raises_null : (shared_after : SharedAt source pages calls k e w c) → DataIn source shared_after.tables c.active.slots k e w c → c.active.slots n ≡ 0 → step source (Running focus k₀ e w) ≡ Running (Throwing null_exception 0) k e w
         → ((block : ℕ) → null block → At (code_of source c.active.function) block (raising null_exception)) → IsMatched source pages calls (Running focus k₀ e w) (plain.Running c)
     raises_null shared_after facts is_zero does raises =
         leaves_null (Running (Throwing null_exception 0) k e w) is_zero does
         (λ block leads. raised source pages calls null_exception 0 k e w (at c block) (operands.Word null_exception) (operands.Word 0) (omega arith) shared_after facts (raises block leads) refl refl)
 
-    -- the link for a pointer that is not null
+    -- The branch that a pointer which is not null takes past the null case.
     abbrev past_null : Link
     past_null = record { instruction = instructions.Branch comparisons.Equal (operands.Slot n) (operands.Word 0) test.0; following = at c r }
 
@@ -83,7 +83,7 @@ module _ (source : Program) (pages calls : ℕ) where
     in_bounds_leads less choice =
         branch_passed (at c r) (nat_le (slots (n + 1)) (slots m)) here.3.0 (lt-leb (slots (n + 1)) (slots m) (ltb-true (slots m) (slots (n + 1)) less)) ∙ ap (λ i. plain.Running (at c i)) here.3.3
 
-    -- an index that is not below the length raises an exception
+    -- An index that is not below the length of the pointer raises an exception.
     pub raises_bounds : (shared_after : SharedAt source pages calls k e w c) → DataIn source shared_after.tables c.active.slots k e w c → slots n ≢ 0 → nat_lt (slots m) (slots (n + 1)) ≡ false
         → step source (Running focus k₀ e w) ≡ Running (Throwing array_bounds 0) k e w → IsMatched source pages calls (Running focus k₀ e w) (plain.Running c)
     raises_bounds shared_after facts some least does =
@@ -92,7 +92,7 @@ module _ (source : Program) (pages calls : ℕ) where
         (λ choice. subst (Matches source pages calls (Running (Throwing array_bounds 0) k e w)) (sym (branch_taken (at c r) (nat_le (slots (n + 1)) (slots m)) other (le-leb (slots (n + 1)) (slots m) (ltb-false (slots m) (slots (n + 1)) least))))
         (raised source pages calls array_bounds 0 k e w (at c other) (operands.Word array_bounds) (operands.Word 0) (omega arith) shared_after facts raise refl refl))
 
-    -- the first cell is accessed
+    -- The access reaches the first cell of the object, without an index.
     pub reaches_first : span ≡ None → (next : State) → slots n ≢ 0 → nat_lt (slots m) (slots (n + 1)) ≡ true → step source (Running focus k₀ e w) ≡ next
         → Matches source pages calls next (plain.Running (at c q)) → IsMatched source pages calls (Running focus k₀ e w) (plain.Running c)
     reaches_first first next some less does goes =
@@ -101,7 +101,7 @@ module _ (source : Program) (pages calls : ℕ) where
         by_path source pages calls focus k₀ e w c next (not_null ∷ []) in_bounds.instruction does shared (not_null_path some [] tt) branch
         (λ choice. subst (Matches source pages calls next) (sym (in_bounds_leads less choice)) (subst (λ i. Matches source pages calls next (plain.Running (at c i))) (sym there) goes))
 
-    -- the cell at the index is accessed, and its address is moved to slot t
+    -- The slots after the address of the cell at the index has been computed and moved to slot t.
     abbrev pub stepped : (bytes : ℕ) → Words
     stepped bytes = put (put slots (t + 2) (scaled bytes (slots m))) t (add_of (slots n) (scaled bytes (slots m)))
 
@@ -125,6 +125,6 @@ module _ (source : Program) (pages calls : ℕ) where
         (sym (ap (λ (y : ℕ). add_of y (before (t + 2))) first ∙ ap (add_of (slots n)) (put-same slots (t + 2) far)))
         (subst (λ i. Matches source pages calls next (plain.Running (at (with_slots c (stepped bytes)) i))) (sym last) goes))
 
-  -- true if this block raises the exception of null
+  -- Holds if this block of instructions raises the null exception.
   abbrev pub RaisesNull : ℕ → (block : ℕ) → Type 0
   RaisesNull g block = At (code_of source g) block (raising null_exception)

@@ -1,4 +1,4 @@
--- The steps of operators on pointers.
+-- This file proves the steps of operators on pointers.
 use Rattle.std.proofs.Common.{◌≡◌, ◌≢◌, ℕ, ◌+◌, ◌<◌, Bool, true, false, not, List, ◌∷◌, Option, None, Some, slice_get, refl, sym, ap, subst, ◌∙◌, arith, inl, inr}
 use Rattle.std.specs.Prelude.{◌==◌, ◌&&◌, if◌then◌else◌}
 use Rattle.std.proofs.lemmas.Bool.{eq-eqb, ne_eqb, eqb-true}
@@ -61,7 +61,7 @@ kind_of_one kinds.Nullable thin = refl
 kind_of_one kinds.NonNull thin = refl
 kind_of_one kind thin = absurd (let f : false ≡ true = thin in cc)
 
--- a left operand that its operator accepts has as many words as the code expects
+-- A left operand of a kind that the operator accepts has as many words as the code expects.
 pub left_words : (u : PointerOperator) (kind : Kind) → takes_kind u kind ≡ true → words_of_kind kind ≡ words_of_kind (left_kind u)
 left_words pointers.AddFat kind takes = ap words_of_kind (same_kind kind kinds.Fat takes)
 left_words pointers.SubtractFat kind takes = ap words_of_kind (same_kind kind kinds.Fat takes)
@@ -74,7 +74,7 @@ left_words pointers.NullIsNot kind takes = kind_of_one kind takes
 left_words pointers.EqualThin kind takes = kind_of_one kind takes
 left_words pointers.NotEqualThin kind takes = kind_of_one kind takes
 
--- two pointers that a jump compares have one word each
+-- If a jump compares two pointers, then each of them has one word.
 pub one_word : (u : PointerOperator) (failing : Comparison) (kind : Kind) → pointers_failing u ≡ Some failing → takes_kind u kind ≡ true → words_of_kind kind ≡ 1
 one_word pointers.EqualThin failing kind is takes = kind_of_one kind takes
 one_word pointers.NotEqualThin failing kind is takes = kind_of_one kind takes
@@ -84,7 +84,7 @@ one_word u failing kind is takes = absurd (none-some failing is)
 
 -- ---- the result of a comparison
 
--- the comparison of two words: for equality, or for inequality
+-- The result of comparing two words for equality or, if `negated`, for inequality.
 abbrev reported : (negated : Bool) → (a b : ℕ) → ℕ
 reported false a b = truth (a == b)
 reported true a b = truth (not (a == b))
@@ -96,7 +96,7 @@ is_negated pointers.NullIsNot = true
 is_negated pointers.NotEqualThin = true
 is_negated u = false
 
--- two pointers are compared as the jump compares them
+-- A pointer operator that can be compiled to a comparing jump is a comparison.
 pointers_compare : (u : PointerOperator) (failing : Comparison) → pointers_failing u ≡ Some failing → is_comparison u ≡ true
 pointers_compare pointers.EqualThin failing is = refl
 pointers_compare pointers.NotEqualThin failing is = refl
@@ -111,13 +111,13 @@ pointers_fail pointers.NullIs failing a b is = fails_by operators.Equal failing 
 pointers_fail pointers.NullIsNot failing a b is = fails_by operators.NotEqual failing a b is
 pointers_fail u failing a b is = absurd (none-some failing is)
 
--- the first word of a pointer, which is 0 for null
+-- The first word of a pointer, which is 0 if the pointer is null.
 data HasWord (word : ℕ) : Value → Type 0 where
   null_word : word ≡ 0 → HasWord word Null
   thin_word : (object offset : ℕ) → word ≢ 0 → HasWord word (Thin object offset)
   fat_word : (object start many index : ℕ) → word ≢ 0 → HasWord word (Fat object start many index)
 
--- true if the value is a pointer: only pointers are compared
+-- Holds if the value is a pointer; only pointers are compared with null.
 abbrev IsPointer : Value → Type 0
 IsPointer (Int a) = ⊥
 IsPointer (Handle region) = ⊥
@@ -135,7 +135,7 @@ pointer_has_word t kind (Handle region) words p is pointer = absurd pointer
 pointer_has_word t kind (Key region) words p is pointer = absurd pointer
 pointer_has_word t kind v words p is pointer = absurd is
 
--- the comparison of a pointer with null, whose word is 0
+-- Comparing a pointer with null compares the first word of the pointer with 0.
 null_on_right : (negated : Bool) (v : Value) (a b : ℕ) → HasWord a v → b ≡ 0 → null_test negated v ≡ Gives (Int (reported negated a b))
 null_on_right false Null a b (null_word none) zero = ap (λ x. Gives (Int (truth x))) (sym (eq-eqb a b (none ∙ sym zero)))
 null_on_right true Null a b (null_word none) zero = ap (λ x. Gives (Int (truth (not x)))) (sym (eq-eqb a b (none ∙ sym zero)))
@@ -157,7 +157,7 @@ zero_word word (null_word none) = none
 
 -- ---- two thin pointers
 
--- Finding objects does not depend on what was printed and read.
+-- The lookup of objects does not depend on the output and the input so far.
 same_live : (w : World) (owner : Owner) → is_live (silent w) owner ≡ is_live w owner
 same_live w (InRegion number) = refl
 same_live w (Unique live) = refl
@@ -175,7 +175,7 @@ same_compared w (Thin object offset) (Thin other place) =
     ∙ ap (λ (x : Access Object). both_found (object_at w object) x (object == other && offset == place)) (same_object w other)
 same_compared w u v = refl
 
--- true if the value is a thin pointer: only thin pointers are compared with each other
+-- Holds if the value is a thin pointer; only thin pointers are compared with each other.
 abbrev IsThinPointer : Value → Type 0
 IsThinPointer Null = Unit {0}
 IsThinPointer (Thin object offset) = Unit {0}
@@ -203,7 +203,7 @@ module _ (k : List Entry) (e : Environment) (w : World) where
   abbrev gives_reported : Bool → (a b : ℕ) → State
   gives_reported negated a b = Running (Given (record { kind = kinds.Int; value = Int (reported negated a b) })) k e w
 
-  -- if the comparison is not a fault, both objects exist
+  -- If the comparison of two pointers is not a fault, then both objects exist.
   is_reported : (negated : Bool) (found : Access Bool) → IsWell (tells negated found k e w) → (equal : Bool) × (found ≡ Found equal)
   is_reported false (Found equal) well = (equal, refl)
   is_reported true (Found equal) well = (equal, refl)
@@ -220,7 +220,7 @@ module _ (k : List Entry) (e : Environment) (w : World) where
   tells_found false equal a b same = ap (λ x. Running (Given (record { kind = kinds.Int; value = Int (truth x) })) k e w) same
   tells_found true equal a b same = ap (λ x. Running (Given (record { kind = kinds.Int; value = Int x })) k e w) (turned equal ∙ ap (λ x. truth (not x)) same)
 
-  -- a value that is tested for null is a pointer
+  -- A value that is tested for null without a fault is a pointer.
   is_pointer : (negated : Bool) (v : Value) → IsWell (computed kinds.Int (null_test negated v) k e w) → IsPointer v
   is_pointer negated Null well = tt
   is_pointer negated (Thin object offset) well = tt
@@ -232,7 +232,8 @@ module _ (k : List Entry) (e : Environment) (w : World) where
   null_reported t negated i left words p is well =
       ap (λ (r : Result). computed kinds.Int r k e w) (null_on_right negated left (words p) 0 (pointer_has_word t i left words p is (is_pointer negated left well)) refl)
 
-  -- comparing a pointer with null yields the comparison of its first word with 0
+  -- Says that comparing a pointer with null yields the comparison of the pointer's first word with
+  -- 0.
   abbrev Tells : PointerOperator → (failing : Comparison) → (left v : Value) → (word : ℕ) → Type 0
   Tells u failing left v word = (n : ℕ) × (applies_pointer u left v k e w ≡ Running (Given (record { kind = kinds.Int; value = Int n })) k e w) × ((n == 0) ≡ compares failing word 0)
 
@@ -270,7 +271,7 @@ module _ (k : List Entry) (e : Environment) (w : World) where
     tests_right negated j v others a q is zero well =
         ap (λ (r : Result). computed kinds.Int r k e w) (null_on_left negated v a (others q) (pointer_has_word t j v others q is (is_pointer negated v well)) zero)
 
-    -- a comparison compares the first words of both operands
+    -- A comparison of pointers compares the first words of both operands.
     pub applies_reported : (u : PointerOperator) (i j : Kind) (left v : Value) (words others : Words) (p q : ℕ) → is_comparison u ≡ true → Is t i left words p → Is t j v others q
         → IsWell (applies_pointer u left v k e w) → applies_pointer u left v k e w ≡ gives_reported (is_negated u) (words p) (others q)
     applies_reported pointers.EqualThin i j left v words others p q test is_left is well = compares_thin false i j left v words others p q is_left is well
@@ -292,7 +293,7 @@ int_word t kinds.Int a words p is = is
 int_word t kinds.Char a words p is = is.0
 int_word t kind a words p is = absurd is
 
--- the result of pointer arithmetic
+-- The result of pointer arithmetic that changes the index by the function `change`.
 pub record IsMoved (change : ℕ → ℕ) (v : Value) : Type 0 where
   pub value : Value
   pub gives : moved change v ≡ Gives value
@@ -302,7 +303,7 @@ is_moved change Null k e w well = record { value = Null; gives = refl }
 is_moved change (Fat object start many index) k e w well = record { value = Fat object start many (change index); gives = refl }
 is_moved change v k e w well = absurd (well refl)
 
--- the slots outside the moved index are unchanged
+-- Writing the moved index changes no slot outside the three slots of the pointer.
 pub outside_index : (slots : Words) (d x m : ℕ) → Outside d 3 m → put slots (d + 2) x m ≡ slots m
 outside_index slots d x m (inl below) = put-other slots (d + 2) m x (λ same. absurd (omega (arith, same, below)))
 outside_index slots d x m (inr above) = put-other slots (d + 2) m x (λ same. absurd (omega (arith, same, above)))
@@ -311,7 +312,7 @@ first_outside : (d m : ℕ) → Outside d 3 m → Outside d 2 m
 first_outside d m (inl below) = inl below
 first_outside d m (inr above) = inr (omega (arith, above))
 
--- the first two words are not in the slot of the index
+-- The first two words of the fat pointer are not in the slot of its index.
 copied_first : (slots : Words) (t d x i : ℕ) → i < 2 → (t + i ≡ d + 2 → ⊥) → copied (put slots (d + 2) x) t 2 (put slots (d + 2) x) d (d + i) ≡ slots (t + i)
 copied_first slots t d x i below apart =
     copied-inside (put slots (d + 2) x) (put slots (d + 2) x) t 2 d i below ∙ put-other slots (d + 2) (t + i) x apart
@@ -319,7 +320,7 @@ copied_first slots t d x i below apart =
 -- ---- the steps
 
 module _ (source : Program) (pages calls : ℕ) where
-  -- the instruction yields the comparison of the words of its operands
+  -- The instruction of a pointer comparison yields the comparison of the words of its operands.
   compares_words : (u : PointerOperator) (l r : Operand) (d : ℕ) (choice : Choice) (c : Configuration) → is_comparison u ≡ true
       → performed (lower_program source) choice c (instructions.Binary (pointer_operator u) d l r)
       ≡ plain.Running (advanced (with_slots c (put c.active.slots d (reported (is_negated u) (operand_word c.active.slots l) (operand_word c.active.slots r)))))
@@ -333,7 +334,7 @@ module _ (source : Program) (pages calls : ℕ) where
   compares_words pointers.NotEqualThin l r d choice c test = refl
   compares_words u l r d choice c test = absurd (let f : false ≡ true = test in cc)
 
-  -- both operands are available, and are compared
+  -- A pointer comparison whose operands are both available is computed.
   compares_pointers : (u : PointerOperator) (peek : Option ℕ) (left v : Kinded) (o : Operand) (d q : ℕ) (k : List Entry) (e : Environment) (w : World) (c : Configuration)
       → AreNamed source e.locals (callers k) w c.active.function c.active.base c.frames c.store → is_comparison u ≡ true → IsWell (applies_pointer u left.value v.value k e w)
       → (shared : SharedAt source pages calls k e w c) → DataIn source shared.tables c.active.slots k e w c → IsIn shared.tables v c.active.slots o
@@ -351,12 +352,14 @@ module _ (source : Program) (pages calls : ℕ) where
       (λ choice. subst (Matches source pages calls (Running (Given (record { kind = kinds.Int; value = Int n })) k e w)) (sym (compares_words u (operands.Slot free) o d choice c test))
       (landed_word source pages calls n n d k e w c q refl shared facts holds end lands))
 
-  -- the index is moved to a slot that holds neither of the first two words
+  -- The index of the result is moved to a slot that holds neither of the first two words of the
+  -- pointer.
   lands_apart : (g : ℕ) (locals : ℕ → Option ℕ) (d q : ℕ) (frames : List Frame) (k : List Entry) → LandsStack source g locals kinds.Fat d q frames k → (i : ℕ) → i < 2 → top source g k + i ≡ d + 2 → ⊥
   lands_apart g locals d q frames k (in_temporary least stack) i below same = absurd (omega (arith, below, same, least))
   lands_apart g locals d q frames k (in_local inside stack) i below same = absurd (omega (arith, below, same, inside, height-least (floor source g k) (held k), floor-least source g k))
 
-  -- an index is moved to its destination, and the first two words with it
+  -- The index is moved to its destination, and the first two words of the fat pointer are moved
+  -- with it.
   index_moves : (there : Bool) (u : PointerOperator) (peek : Option ℕ) (x : ℕ) (left v : Kinded) (value : Value) (o : Operand) (d q : ℕ) (k : List Entry) (e : Environment) (w : World) (c : Configuration)
       → (top source c.active.function k == d) ≡ there → step source (Running (Given v) (Needs (ApplyPointer peek u left) ∷ k) e w) ≡ Running (Given (record { kind = kinds.Fat; value = value })) k e w
       → ((choice : Choice) → performed (lower_program source) choice c (instructions.Binary (pointer_operator u) (d + 2) (operands.Slot (top source c.active.function k + 2)) o)
@@ -393,7 +396,7 @@ module _ (source : Program) (pages calls : ℕ) where
       (is after first (copied_first slots t d x 1 (omega arith) (apart 1 (omega arith))) (copied-above before before t 2 d (d + 2) (omega arith) ∙ put-same slots (d + 2) x))
       (λ m out. copied_elsewhere before before t 2 d m (first_outside d m out) ∙ outside_index slots d x m out) facts holds end lands)
 
-  -- arithmetic on a fat pointer and an int
+  -- The step of arithmetic on a fat pointer and an int.
   moves_index : (u : PointerOperator) (peek : Option ℕ) (change : ℕ → ℕ) (left v : Kinded) (o : Operand) (d q : ℕ) (k : List Entry) (e : Environment) (w : World) (c : Configuration)
       → step source (Running (Given v) (Needs (ApplyPointer peek u left) ∷ k) e w) ≡ computed kinds.Fat (moved change left.value) k e w → IsWell (computed kinds.Fat (moved change left.value) k e w)
       → ((choice : Choice) → performed (lower_program source) choice c (instructions.Binary (pointer_operator u) (d + 2) (operands.Slot (top source c.active.function k + 2)) o)
@@ -443,7 +446,7 @@ module _ (source : Program) (pages calls : ℕ) where
       shared facts is_left holds here lands
   takes_from peek left j v o d q k e w c well shared facts is is_left holds here lands = absurd (well refl)
 
-  -- both operands of the operator are available
+  -- The step that applies a pointer operator whose operands are both available.
   pub applies_pointers : (u : PointerOperator) (peek : Option ℕ) (left v : Kinded) (o : Operand) (d q : ℕ) (k : List Entry) (e : Environment) (w : World) (c : Configuration) → AreNamed source e.locals (callers k) w c.active.function c.active.base c.frames c.store
       → IsWell (step source (Running (Given v) (Needs (ApplyPointer peek u left) ∷ k) e w))
       → (shared : SharedAt source pages calls k e w c) → DataIn source shared.tables c.active.slots k e w c → IsIn shared.tables v c.active.slots o
@@ -464,7 +467,7 @@ module _ (source : Program) (pages calls : ℕ) where
   applies_pointers pointers.EqualThin peek left v o d q k e w c names well shared facts is is_left holds (takes, (here, end)) lands = compares_pointers pointers.EqualThin peek left v o d q k e w c names refl well shared facts is is_left holds here end lands
   applies_pointers pointers.NotEqualThin peek left v o d q k e w c names well shared facts is is_left holds (takes, (here, end)) lands = compares_pointers pointers.NotEqualThin peek left v o d q k e w c names refl well shared facts is is_left holds here end lands
 
-  -- a comparison of a pointer with null is left to the next jump
+  -- The next jump, and no separate instruction, compares a pointer with null.
   pub tests_null : (peek : Option ℕ) (u : PointerOperator) (left v : Kinded) (failing : Comparison) (l : Operand) (k : List Entry) (e : Environment) (w : World) (c : Configuration) → null_failing u ≡ Some failing
       → IsWell (step source (Running (Given v) (Needs (ApplyPointer peek u left) ∷ k) e w)) → (shared : SharedAt source pages calls k e w c) → DataIn source shared.tables c.active.slots k e w c → IsIn shared.tables left c.active.slots l
       → Holds shared.tables c.active.slots (floor source c.active.function k) (held k) → ConditionStack source c.active.function failing l (operands.Word 0) c.active.next c.frames k
@@ -476,7 +479,7 @@ module _ (source : Program) (pages calls : ℕ) where
       (shared, given_compared source pages calls shared.tables (record { kind = kinds.Int; value = Int n }) failing l (operands.Word 0) k e w c (compares failing (words p) 0) (ap Some fails) (ap (λ x. compares failing x 0) (sym same)) facts holds stack)
       (omega arith)
 
-  -- a comparison of two pointers is left to the next jump
+  -- The next jump, and no separate instruction, compares two pointers.
   pub tests_pointers : (peek : Option ℕ) (u : PointerOperator) (left v : Kinded) (failing : Comparison) (l r : Operand) (k : List Entry) (e : Environment) (w : World) (c : Configuration)
       → AreNamed source e.locals (callers k) w c.active.function c.active.base c.frames c.store → pointers_failing u ≡ Some failing
       → IsWell (step source (Running (Given v) (Needs (ApplyPointer peek u left) ∷ k) e w)) → (shared : SharedAt source pages calls k e w c) → DataIn source shared.tables c.active.slots k e w c
@@ -496,7 +499,7 @@ module _ (source : Program) (pages calls : ℕ) where
       )
       (omega arith)
 
-  -- the right operand is evaluated after the left one
+  -- The right operand of a pointer operator is evaluated after the left operand.
   pub right_follows : (peek : Option ℕ) (u : PointerOperator) (b : Expression) (os : Operations) (v : Kinded) (k : List Entry) (e : Environment) (w : World) (c : Configuration) (r : Operand) (m d q : ℕ) → takes_kind u v.kind ≡ true
       → (t : Tables) → Is t v.kind v.value c.active.slots (top source c.active.function k) → Holds t c.active.slots (floor source c.active.function k) (held k)
       → ValueAt (code_of source c.active.function) (bounds_at source c.active.function) (types_on source c.active.function k) b (after_left u (top source c.active.function k)) r c.active.next m

@@ -1,4 +1,5 @@
--- Converting fat pointers to thin ones: null stays null or raises an exception, and any other pointer leads to the cell at its index.
+-- This file converts fat pointers to thin ones: null stays null or raises an exception, and any other pointer becomes the address of
+-- the cell at its index.
 use Rattle.std.proofs.Common.{◌≡◌, ℕ, ◌+◌, ◌<◌, Bool, true, List, ◌∷◌, Option, None, Some, refl, sym, ap, subst, ◌∙◌, arith, inl, inr}
 use Rattle.std.specs.Prelude.{nat_lt, if◌then◌else◌, option_map}
 use Rattle.std.proofs.lemmas.Bool.{eqb-true, cases_Bool, ltb-true}
@@ -33,7 +34,8 @@ use Rattle.cyc_lower_proof.proofs.pointer_steps.ElementWords.{scaled, first_is, 
 use Rattle.cyc_lower_proof.proofs.pointer_steps.Narrowing.{leaves_null, raises_null, raises_bounds, reaches_first, reaches_cell, RaisesNull}
 
 module _ (source : Program) (pages calls : ℕ) where
-  -- a pointer in the slots from n on, with an assumption about the place that null leads to
+  -- The converted pointer is in the slots from n on; `null` states an assumption about the code
+  -- position to which a null pointer jumps.
   module _ (from to : Kind) (target : Option Kind) (v : Kinded) (n q : ℕ) (k : List Entry) (e : Environment) (w : World) (c : Configuration) (null : ℕ → Type 0) (shared : SharedAt source pages calls k e w c)
       (facts : DataIn source shared.tables c.active.slots k e w c) (holds : Holds shared.tables c.active.slots (floor source c.active.function k) (held k)) (there : n ≡ top source c.active.function k)
       (stack : ValueStack source c.active.function e.locals to (operands.Slot n) q c.frames k) where
@@ -46,11 +48,11 @@ module _ (source : Program) (pages calls : ℕ) where
     abbrev ReachedFor : Option Kind → Type 0
     ReachedFor found = ReachedBy (code_of source c.active.function) (bounds_at source c.active.function) (types_at source c.active.function) null (option_map bytes_of_kind found) n (n + 2) n c.active.next q
 
-    -- true if the address of a cell is a thin pointer to it
+    -- Holds if the address of a cell represents a thin pointer to the cell.
     abbrev IsThin : (object offset : ℕ) → Type 0
     IsThin object offset = (words : Words) → Points shared.tables object offset (words n) → Is shared.tables to (Thin object offset) words n
 
-    -- a pointer within bounds
+    -- The conversion of a fat pointer whose index is within bounds.
     leads_on : (object start count index : ℕ) (found : Option Kind) → ReachedFor found → (part : IsPartOf shared.tables object start count (slots n)) → slots (n + 2) ≡ index → index < count
         → nat_lt (slots (n + 2)) (slots (n + 1)) ≡ true → leads_to w found (reaches.At object (start + index)) ≡ true → IsThin object (start + index)
         → step source (Running (Given v) waiting e w) ≡ Running (Given (record { kind = to; value = Thin object (start + index) })) k e w → IsMatched source pages calls (Running (Given v) waiting e w) (plain.Running c)
@@ -72,7 +74,7 @@ module _ (source : Program) (pages calls : ℕ) where
               (kept_holds _ _ _ k (Holds-same shared.tables slots after (floor source g k) (held k) (λ x short. elsewhere slots n 2 far address x (inl (omega (arith, short, there)))) holds)) stack,
         )
 
-    -- a pointer that is not null
+    -- The conversion of a fat pointer that is not null.
     narrows_fat : (object start count index : ℕ) → v.value ≡ Fat object start count index → IsPartOf shared.tables object start count (slots n) × (slots (n + 1) ≡ count) × (slots (n + 2) ≡ index)
         → conversion to (Fat object start count index) ≡ (if nat_lt index count then Gives (Thin object (start + index)) else Raises array_bounds) → IsThin object (start + index)
         → step source (Running (Given v) waiting e w) ≡ computed to (conversion to v.value) k e w → leads_to w target (followed v.value) ≡ true → ReachedFor target → IsMatched source pages calls (Running (Given v) waiting e w) (plain.Running c)

@@ -1,4 +1,5 @@
--- The store closes lexical regions down to a mark. The source closes one region in each step, and the store closes several at once.
+-- This file proves that the store closes lexical regions down to a saved number of open regions. The source closes one region in
+-- each step, and the store closes several regions at once.
 use Rattle.std.proofs.Common.{◌≡◌, ◌≢◌, ℕ, suc, ◌≤◌, true, List, [], ◌∷◌, Option, None, Some, refl, sym, ap, subst, arith}
 use Rattle.std.specs.List.{AllByRecursion}
 use Rattle.cyc_types.specs.TypedTrees.{Program}
@@ -33,22 +34,23 @@ use Rattle.cyc_lower_proof.proofs.relation.simulation.Stacks.{code_of, bounds_at
 use Rattle.cyc_lower_proof.proofs.relation.simulation.Shared.{HasScopes, store_by, silent}
 use Rattle.cyc_lower_proof.proofs.relation.simulation.Matched.{Inside, IsMatched, Executes, by_places, place_in, known, elsewhere, seen_way, inside_within}
 
--- closing regions needs no more pages
+-- Closing regions does not raise the number of pages that the store needs.
 pub fewer_pages : (s : StoreState) (mark : ℕ) (choice : services.Choice) → demand (served s (CloseTo mark) choice) ≤ demand s
 fewer_pages s mark choice = demand-part (IsPart-down_to mark s.regions) s.classes
 
--- the configuration after the code that closes regions down to this number
+-- The configuration after the code that closes regions down to `many` open ones.
 abbrev pub closed_down : Configuration → services.Choice → (many q : ℕ) → Configuration
 closed_down c choice many q = record (at c q) { store = served c.store (CloseTo many) choice }
 
 module _ (source : Program) (pages calls : ℕ) where
-  -- the instruction at this index is different
+  -- An instruction other than the one that closes regions down to this slot's count is at a
+  -- different code position.
   pub closing_apart : (c : Configuration) (slot : ℕ) → At (code_of source c.active.function) c.active.next (instructions.Ask (requests.CloseTo (operands.Slot slot)))
       → (place : CodePlace) (i : Instruction) → At (code_of source place.function) place.index i → (i ≢ instructions.Ask (requests.CloseTo (operands.Slot slot)))
       → AllByRecursion (λ q. place ≢ q) (place_in source pages calls c ∷ [])
   closing_apart c slot ask place i here other = (elsewhere source pages calls place (place_in source pages calls c) i _ here ask other, tt)
 
-  -- the store closes the regions under every choice
+  -- For every choice of the store, the instruction closes the regions.
   pub closing_executes : (focus : Focus) (k : List Entry) (e : Environment) (w : World) (next : State) (c : Configuration) (slot many q : ℕ)
       → ClosedAt (code_of source c.active.function) (bounds_at source c.active.function) (types_at source c.active.function) slot c.active.next q
       → Inside source pages calls w c → c.active.slots slot ≡ many → many ≤ lexical_count c.store.regions
@@ -75,7 +77,7 @@ module _ (source : Program) (pages calls : ℕ) where
       asked_within choice =
           inside_within source pages calls w (served_to choice c 0 (CloseTo mark)) (inside.0, omega (arith, inside.1, fewer_pages c.store mark choice), inside.2, inside.3)
 
-  -- closing the regions matches a step of the source
+  -- The instruction that closes regions matches a source step.
   pub by_closing : (focus : Focus) (k : List Entry) (e : Environment) (w : World) (next : State) (c : Configuration) (slot many q : ℕ) → step source (Running focus k e w) ≡ next
       → ClosedAt (code_of source c.active.function) (bounds_at source c.active.function) (types_at source c.active.function) slot c.active.next q
       → Inside source pages calls w c → c.active.slots slot ≡ many → many ≤ lexical_count c.store.regions
@@ -88,7 +90,8 @@ module _ (source : Program) (pages calls : ℕ) where
 
   -- ---- the shared state
 
-  -- The source closes its newest lexical region, and the store does nothing yet.
+  -- The shared state after the source closes its newest lexical region, while the store still has
+  -- this region.
   abbrev pub shared_after : (closing : Option ℕ) (region : ℕ) (k : List Entry) (e : Environment) (w : World) (c : Configuration) (ends : Ends w region)
       → HasScopes (scopes_of source) → HasScopes closing
       → SharedBy source closing pages calls (CloseLexical region ∷ k) e w c → SharedBy source closing pages calls k e (closed w region ends.region) c
@@ -134,7 +137,7 @@ module _ (source : Program) (pages calls : ℕ) where
       counted None leaves reported = absurd leaves
       counted (Some mark) leaves (has, sound, more) = (has, sound, omega (arith, more, less))
 
-  -- the store closes the regions that the source has closed
+  -- The store closes the lexical regions that the source has already closed.
   abbrev pub settled : (mark : ℕ) (k : List Entry) (e : Environment) (w : World) (c : Configuration) (many q : ℕ) (choice : services.Choice) → scopes w.regions ≡ many → scopes_in k ≡ many
       → IsAllowed c.store (CloseTo many) choice → SharedBy source (Some mark) pages calls k e w c → SharedAt source pages calls k e w (closed_down c choice many q)
   settled mark k e w c many q choice now ended allowed s = record {

@@ -1,4 +1,5 @@
--- The step that closes a dynamic region by its key: the store closes the region with that handle.
+-- This file proves the step that closes a dynamic region by its key: the store closes the region
+-- whose handle is the word of the key.
 use Rattle.std.proofs.Common.{◌≡◌, ℕ, ◌≤◌, true, List, ◌∷◌, None, Some, slice_get, refl, sym, ap, ◌∙◌, subst, arith}
 use Rattle.std.specs.Prelude.{if◌then◌else◌}
 use Rattle.cyc_types.specs.declared.typed.Kind.{Kind}
@@ -31,14 +32,14 @@ use Rattle.cyc_lower_proof.proofs.relation.simulation.Matched.{IsMatched, shared
 use Rattle.cyc_lower_proof.proofs.object_steps.Asking.{by_asking}
 use Rattle.cyc_lower_proof.proofs.object_steps.UniqueBlocks.{proceeds}
 
--- the word of a key is the handle of its region
+-- The word that represents a key is the handle of the key's region.
 key_word : (t : Tables) (kind : Kind) (region : ℕ) (slots : Words) (o : Operand) → IsIn t (record { kind = kind; value = Key region }) slots o → slice_get t.handles region ≡ Some (Some (operand_word slots o))
 key_word t kinds.Key region slots (operands.Slot n) is = is
 key_word t kinds.Key region slots (operands.Word n) is = is
 key_word t kind region slots (operands.Slot n) is = absurd is
 key_word t kind region slots (operands.Word n) is = absurd is
 
--- a region that a key closes is dynamic and open
+-- A region that is closed by its key is dynamic and open.
 pub record IsOpened (region : ℕ) (k : List Entry) (e : Environment) (w : World) : Type 0 where
   pub at : Region
   pub found : region_at w region ≡ Found at

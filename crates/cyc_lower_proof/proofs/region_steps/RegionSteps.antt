@@ -1,4 +1,4 @@
--- The steps of lexical and dynamic regions, of keys and of aliases.
+-- This file proves the steps of lexical and dynamic regions, of keys and of aliases.
 use Rattle.std.proofs.Common.{◌≡◌, ◌≢◌, ℕ, suc, ◌+◌, ◌≤◌, ◌<◌, Bool, true, List, [], ◌∷◌, length, Option, None, Some, slice_get, refl, sym, ap, subst, ◌∙◌, inl, inr, arith}
 use Rattle.std.specs.Prelude.{nat_lt, if◌then◌else◌}
 use Rattle.std.proofs.lemmas.Bool.{cases_Bool}
@@ -63,7 +63,8 @@ module _ (source : Program) (pages calls : ℕ) where
   locals_in None = refl
   locals_in (Some h) = sym (slot_types-many h)
 
-  -- a local of a function is within its bounds
+  -- A number that is a valid local of a function is below the number of the function's types of
+  -- locals.
   pub local_there : (g n : ℕ) → n < (bounds_at source g).locals → n < length (types_at source g).locals
   local_there g n few = omega (arith, few, locals_in (slice_get source.functions g))
 
@@ -74,7 +75,8 @@ module _ (source : Program) (pages calls : ℕ) where
     abbrev t : ℕ
     t = floor source c.active.function k
 
-    -- the configuration after the call, with the mark in its slot
+    -- The configuration after the store has opened a lexical region and the number of regions open
+    -- before is in its slot.
     abbrev asked : Configuration
     asked = served_to choice c (t + 1) OpenLexical
 
@@ -135,7 +137,7 @@ module _ (source : Program) (pages calls : ℕ) where
         let (written, stand) = data_written source shared.tables g c.active.base w.objects e.locals k c.active.slots marked.active.slots c.active.handlers c.globals c.frames t 3 (omega arith) elsewhere facts in
         (data_grows shared.tables grown grows source g c.active.base w.objects e.locals (callers k) marked.active.slots c.globals c.frames written, (mark_is, stand))
 
-  -- the handle gets its name, and then the items of its block run
+  -- The region handle is bound to a local, and then the items of the block run.
   named_at : (n : ℕ) (js : Items) (k : List Entry) (e : Environment) (w : World) (c : Configuration) (exits : Exits) (place m u q : ℕ)
       → (shared : SharedAt source pages calls k e w c) (facts : DataIn source shared.tables c.active.slots k e w c) (nested : IsNested k e w)
       (free : refusal c.store OpenLexical ≡ None) (choice : services.Choice) (served_it : plain_step.IsServed c.store OpenLexical choice) (some : scopes_of source ≡ Some place)
@@ -193,7 +195,7 @@ module _ (source : Program) (pages calls : ℕ) where
 
   -- ---- closing a lexical region
 
-  -- the end of a block closes its regions, newest first
+  -- The end of a block closes the block's regions, newest first.
   pub closes_region : (number : ℕ) (k : List Entry) (e : Environment) (w : World) (c : Configuration) (exits : Exits)
       → (shared : SharedAt source pages calls (CloseLexical number ∷ k) e w c) → DataIn source shared.tables c.active.slots (CloseLexical number ∷ k) e w c → IsNested (CloseLexical number ∷ k) e w
       → StatementStack source c.active.function exits c.active.next c.frames (CloseLexical number ∷ k) → IsMatched source pages calls (Running Proceeding (CloseLexical number ∷ k) e w) (plain.Running c)
@@ -218,7 +220,7 @@ module _ (source : Program) (pages calls : ℕ) where
       somewhere None n none = omega (arith, none)
       somewhere (Some place) n may = tt
 
-  -- a lent key becomes usable again
+  -- When the block that opened a key ends, the key becomes usable again.
   pub ends_loan : (lent : ℕ) (k : List Entry) (e : Environment) (w : World) (c : Configuration) (exits : Exits)
       → (shared : SharedAt source pages calls (EndLoan lent ∷ k) e w c) → DataIn source shared.tables c.active.slots (EndLoan lent ∷ k) e w c
       → StatementStack source c.active.function exits c.active.next c.frames (EndLoan lent ∷ k) → IsMatched source pages calls (Running Proceeding (EndLoan lent ∷ k) e w) (plain.Running c)
@@ -227,7 +229,7 @@ module _ (source : Program) (pages calls : ℕ) where
 
   -- ---- dynamic regions and their keys
 
-  -- a dynamic region is created, and a local becomes its key
+  -- The step that creates a dynamic region and makes a local its key.
   pub declares_key : (r n : ℕ) (js : Items) (k : List Entry) (e : Environment) (w : World) (c : Configuration) (exits : Exits) (q : ℕ)
       → (shared : SharedAt source pages calls k e w c) → DataIn source shared.tables c.active.slots k e w c
       → ItemsAt (code_of source c.active.function) (bounds_at source c.active.function) (types_at source c.active.function) (MoreItems (DeclareKey r n) js) exits (floor source c.active.function k) c.active.next q
@@ -283,12 +285,12 @@ module _ (source : Program) (pages calls : ℕ) where
             ))
       ]
 
-  -- the value of a local is in its slot
+  -- The value of a local is in the slot of the local.
   local_in : (number object : ℕ) (v : Kinded) (k : List Entry) (e : Environment) (w : World) (c : Configuration) (t : Tables) → DataIn source t c.active.slots k e w c → e.locals number ≡ Some object → contents w.objects object ≡ Some v
       → IsIn t v c.active.slots (operands.Slot (slot_of (starts_at source c.active.function) number))
   local_in number object v k e w c t ((low, below, hold, waiting, words), stand) there has = (hold.holds number object v there has).0
 
-  -- the region of a key is opened: the word of the key is the handle
+  -- The step that opens the region of a key: the word of the key becomes the region handle.
   pub opens_by : (r n key : ℕ) (p : Place) (js : Items) (k : List Entry) (e : Environment) (w : World) (c : Configuration) (exits : Exits) (q : ℕ)
       → IsWell (step source (Running Proceeding (Rest (MoreItems (OpenRegion r n p key) js) ∷ k) e w))
       → (shared : SharedAt source pages calls k e w c) → DataIn source shared.tables c.active.slots k e w c
@@ -324,7 +326,7 @@ module _ (source : Program) (pages calls : ℕ) where
   key_in t kinds.Fat region slots (operands.Word n) is = absurd is
   key_in t kind region slots (operands.Word n) is = key_is t kind region (λ (i : ℕ). n) 0 is
 
-  -- an open region with a key is dynamic
+  -- An open region that has a key is dynamic.
   is_opened : (a : Access Region) (region number lent : ℕ) (js : Items) (k : List Entry) (e : Environment) (w : World) → IsWell (opened_by a region number lent js k e w)
       → opened_by a region number lent js k e w ≡ Running (Naming number (record { kind = kinds.Handle; value = Handle region }) js) (EndLoan lent ∷ k) e w
   is_opened (Found r) region number lent js k e w well =

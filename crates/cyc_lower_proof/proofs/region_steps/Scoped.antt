@@ -1,4 +1,5 @@
--- The number of lexical regions that are open in the store, by the entries that close them.
+-- This file counts the lexical regions that are open in the store by the stack entries that close
+-- them.
 use Rattle.std.proofs.Common.{◌≡◌, ◌≤◌, List, ◌∙◌, arith}
 use Rattle.std.specs.Prelude.{◌%◌, ◌^◌}
 use Rattle.cyc_store.specs.State.{StoreState, lexical_count}
@@ -14,11 +15,11 @@ use Rattle.cyc_lower_proof.proofs.relation.simulation.Shared.{silent}
 -- ---- the source
 
 module _ (t : Tables) (w : World) (s : StoreState) (related : objects.Related t (silent w) s) where
-  -- the store has as many lexical regions as the entries close
+  -- The store has as many open lexical regions as there are stack entries that close one.
   pub scopes_there : (k : List Entry) (e : Environment) → IsNested k e w → lexical_count s.regions ≡ scopes_in k
   scopes_there k e nested = scopes-same related.regions ∙ scopes-counted k e w nested
 
-  -- the number of lexical regions fits in a word
+  -- The number of open lexical regions fits in a 32-bit word.
   pub scopes_word : (k : List Entry) (e : Environment) → IsNested k e w → lexical_count s.regions % 2 ^ 32 ≡ scopes_in k
   scopes_word k e nested =
       let few : lexical_count s.regions ≤ 65536 = omega (arith, lexicals-within s related.sound, related.few) in

@@ -1,4 +1,5 @@
--- the places of the code of constructs, and what the code demands of the tree
+-- This module says where the code of each construct is, and which requirements the code has on the
+-- tree.
 pub mod Stands
 pub mod Statements
 pub mod Tested

@@ -1,4 +1,4 @@
--- the places of objects, globals and locals, and the targets of pointers
+-- This module says where objects, globals and locals are in memory, and what pointers point to.
 pub mod Known
 pub mod Leads
 pub mod Rows

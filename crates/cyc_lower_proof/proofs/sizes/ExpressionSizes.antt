@@ -1,5 +1,5 @@
--- The size of the code of an expression is bounded by the number of tokens in its text. The code of a simple expression has at most half
--- that size.
+-- The size of the code of an expression is bounded by the number of tokens in the expression's text. The code of a simple expression has
+-- at most half the bound of other expressions.
 use Rattle.std.proofs.Common.{◌≡◌, ℕ, zero, suc, ◌+◌, ◌*◌, ◌≤◌, true, false, List, [], ◌∷◌, ◌++◌, length, Option, None, Some, refl, arith}
 use Rattle.std.specs.Prelude.{◌==◌, is_some}
 use Rattle.cyc_words.proofs.Booleans.{and_left, and_right}
@@ -53,7 +53,7 @@ module _ (starts : Starts) where
   load_size (Local w n) t d = move_size (words_of t) d (operands.Slot (slot_of starts n)) (omega (arith, type_words t, kind_few (kind_of t)))
   load_size (Global n) t d = omega (arith, loads_size (words_of t) (global_of starts n) d, type_words t, kind_few (kind_of t))
 
-  -- the size of an operator on pointers with its right operand, and of the code after it
+  -- The size of the code of a pointer operator, of its right operand, and of the code after it.
   right_size : (o : PointerOperator) (a : Expression) (p : ℕ) (l : Operand) (d t : ℕ) (back : List Instruction)
       → code_size (expression_code starts a p (value_slot starts a (after_left o t)) (after_left o t)) ≤ size_per_weight * expression_weight a
       → code_size (pointer_code o l (value_operand starts a (after_left o t)) (code_unless (operand_of starts a) (expression_code starts a p (value_slot starts a (after_left o t)) (after_left o t))) d ++ back)
@@ -196,7 +196,7 @@ mutual
         element_by_size starts (pointer_of starts a i) front (operand_of starts i) (expression_code starts i q slot (t + 3)) (span_in ty) (pointer_slot starts a i t) (value_operand starts i (t + 3)) t p (size_per_weight * expression_weight a) (size_per_weight * expression_weight i) (expression_size starts a p t t) (expression_size starts i q slot (t + 3)),
       )
 
-  -- the size with an address in a slot
+  -- The size of the code that stores through an address, including the address in a slot.
   pub store_address_size : (starts : Starts) → (x : Dereference) (p t : ℕ) → code_size (store_address_code starts x p t) + 12 ≤ size_per_weight * dereference_weight x
   store_address_size starts (Target k a ty) p t =
       let slot = value_slot starts a t in
@@ -261,14 +261,14 @@ mutual
       let front = converted_operand_code starts c p t in
       omega (arith, code_size-append front (printed_code starts cs (p + length front) t), converted_operand_size starts c p t, more_printed_size starts cs (p + length front) t)
 
-  -- the size with a store for each word
+  -- The size of the code of an object's fields, including a store for each word.
   fields_size : (starts : Starts) → (cs : Arguments) (p t : ℕ) → code_size (arguments_code starts cs p t) + 10 * all_passed cs ≤ size_per_weight * more_arguments_weight cs
   fields_size starts NoArguments p t = omega arith
   fields_size starts (MoreArguments c cs) p t =
       let q = p + length (converted_code starts c p t) in
       omega (arith, code_size-append (converted_code starts c p t) (arguments_code starts cs q (t + passed_words c)), converted_size starts c p t, passed_few c, fields_size starts cs q (t + passed_words c))
 
-  -- the size with the passed words
+  -- The size of the code of arguments, including the words that are passed.
   arguments_size : (starts : Starts) → (cs : Arguments) (p t : ℕ) → code_size (arguments_code starts cs p t) + 4 * all_passed cs ≤ size_per_weight * arguments_weight cs + 56
   arguments_size starts NoArguments p t = omega arith
   arguments_size starts (MoreArguments c cs) p t =
@@ -370,7 +370,8 @@ module _ (starts : Starts) where
       )
   simple_size a p d t simple = known_operand_size a p d t simple
 
--- a load at a simple index through a pointer without code has at most half that size
+-- The code of a load at a simple index through a pointer that needs no code has at most half the
+-- bound of other expressions.
 module _ (starts : Starts) where
   known_few_size : (a : Expression) (p d t : ℕ) → is_some (operand_of starts a) ≡ true → code_size (expression_code starts a p d t) ≤ 30
   known_few_size (Number n) p d t some = omega arith

@@ -1,4 +1,5 @@
--- The code of an expression consists of words if the expression does.
+-- The constants in the code of an expression are 32-bit words if the constants in the expression
+-- are.
 use Rattle.std.proofs.Common.{ℕ, zero, suc, ◌+◌, Bool, true, false, [], ◌∷◌, ◌++◌, length, Option, None, Some, arith, slice_get}
 use Rattle.cyc_words.proofs.WordLemmas.{IsWord-add_of}
 use Rattle.cyc_words.specs.Word.{IsWord, add_of, mul_of}
@@ -191,7 +192,7 @@ mutual
       let slot = value_slot starts i (t + 3) in
       element_by_words starts (pointer_of starts a i) front (operand_of starts i) (expression_code starts i q slot (t + 3)) (span_in ty) (pointer_slot starts a i t) (value_operand starts i (t + 3)) t p (expression_words starts a p t t first) (expression_words starts i q slot (t + 3) second) (known_word starts i slot second)
 
-  -- the address of a place is moved to a slot
+  -- The code that moves the address of a memory access to a slot contains only 32-bit words.
   pub address_of_words : (starts : Starts) → (x : Dereference) (p d t : ℕ) → IsOfWordsCell x → HaveWords (addressed_by (place_code starts x p t) (place_operand starts x t) (place_offset starts x) d)
   address_of_words starts (Target k a ty) p d t words =
       let slot = value_slot starts a t in

@@ -1,4 +1,5 @@
--- The lowered program has the properties that the lowering promises.
+-- This file proves that the lowered program has the properties that the contract of lowering
+-- states.
 use Rattle.std.proofs.Common.{ℕ, ◌≤◌, ◌*◌, List, [], ◌∷◌, map, Option, refl, sym, arith}
 use Rattle.std.specs.Prelude.{sum_by}
 use Rattle.std.proofs.lemmas.List.Sums.{sum_by-cons}
@@ -40,7 +41,7 @@ functions_small structs globals scopes [] = omega arith
 functions_small structs globals scopes (h ∷ hs) =
     omega (arith, sum_by-cons size (lower_function structs globals scopes h) (map (lower_function structs globals scopes) hs), function_size structs globals scopes h, functions_small structs globals scopes hs)
 
--- the properties of every plain program hold for the lowered one
+-- The lowered program has the properties that every plain program must have.
 pub is_plain : (source : Program) → IsWellTypedProgram source → CanBeLowered source → program_weight source ≤ max_tokens → IsPlain (lower_program source)
 is_plain source well fit light = record {
   well_formed = well_formed source (is_fitting_program source fit.of_words.functions well) fit.of_words fit.few_globals;
@@ -48,6 +49,6 @@ is_plain source well fit light = record {
   small = omega (arith, functions_small source.structs (globals_of source) (scopes_of source) source.functions, light);
 }
 
--- the code of a function leads at most to the code after it
+-- The jumps in the body of each function go at most to the exception blocks after the body.
 pub closely_lowered : (source : Program) → IsWellTypedProgram source → CanBeLowered source → AreClose source.structs (globals_of source) (scopes_of source) source.functions
 closely_lowered source well fit = code_close source (is_fitting_program source fit.of_words.functions well) fit.of_words

@@ -53,7 +53,7 @@ arguments_words_few : (cs : Arguments) → argument_words cs ≤ 3 * arguments_w
 arguments_words_few NoArguments = omega arith
 arguments_words_few (MoreArguments c cs) = omega (arith, converted_few c, converted_token c, more_arguments_few cs)
 
--- if other arguments are before the first one, there is at most one comma more
+-- If other arguments come before an argument list, then the list has at most one comma more.
 more_arguments_weight_few : (cs : Arguments) → more_arguments_weight cs ≤ 1 + arguments_weight cs
 more_arguments_weight_few NoArguments = omega arith
 more_arguments_weight_few (MoreArguments c cs) = omega arith

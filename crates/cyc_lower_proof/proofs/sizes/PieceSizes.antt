@@ -1,4 +1,4 @@
--- The sizes of the pieces of code that expressions and statements consist of.
+-- This file bounds the sizes of the pieces of code of which expressions and statements consist.
 use Rattle.std.proofs.Common.{◌≡◌, ℕ, zero, suc, ◌+◌, ◌*◌, ◌≤◌, Bool, true, false, List, [], ◌∷◌, ◌++◌, length, take, Option, None, Some, max, refl, arith}
 use Rattle.std.specs.Prelude.{◌==◌, sum_by, if◌then◌else◌}
 use Rattle.std.proofs.lemmas.List.Sums.{sum_by-append, sum_by-cons}
@@ -118,11 +118,11 @@ conversion_by_size starts true to span o p = omega (arith, tested_size starts to
 conversion_by_size starts false kinds.Fat span o p = omega (arith, widened_size o)
 conversion_by_size starts false to span o p = thinned_size starts to span o p
 
--- the size of the code that takes the low byte of an int that becomes a char
+-- The size of the code that moves the low byte of an int that becomes a char.
 abbrev masking_size : (from to : Kind) → ℕ
 masking_size from to = if masks from to then 11 else 0
 
--- the conversion has no other code
+-- The conversion of a value takes no code except the code that masks the low byte.
 pub conversion_size : (starts : Starts) (from to : Kind) (span : Option ℕ) (o : Operand) (p : ℕ) → masking_size from to + code_size (conversion_code starts from to span o p) ≤ 44
 conversion_size starts kinds.Int kinds.Char span o p = omega arith
 conversion_size starts from to span o p = omega (arith, conversion_by_size starts (keeps_words from to) to span o p)
@@ -160,7 +160,7 @@ copy_size c o d = by (is_in o d)
     by true = omega arith
     by false = move_size (passed_words c) d o (passed_few c)
 
--- the size of the code that moves an address
+-- A bound for the size of the code that moves an address.
 pub copied_address_size : (o : Operand) (d : ℕ) → code_size (copy_code 1 o d) ≤ 6
 copied_address_size (operands.Word n) d = omega arith
 copied_address_size (operands.Slot n) d = by (n == d)
@@ -169,7 +169,7 @@ copied_address_size (operands.Slot n) d = by (n == d)
     by true = omega arith
     by false = omega arith
 
--- the size of the code that moves a fat pointer
+-- A bound for the size of the code that moves a fat pointer.
 pub copied_pointer_size : (t d : ℕ) → code_size (copy_code 3 (operands.Slot t) d) ≤ 20
 copied_pointer_size t d = by (t == d)
   where
@@ -271,7 +271,7 @@ pub test_size : (o : LogicalOperator) (operand : List Instruction) (p d t : ℕ)
 test_size logical.AndThen operand p d t = omega (arith, code_size-append operand (truth_code t d), cons (jump_if_zero (operands.Slot t) (p + 1 + length operand)) (operand ++ truth_code t d))
 test_size logical.OrElse operand p d t = omega (arith, code_size-append operand (truth_code t d), cons (jump_if_nonzero (operands.Slot t) (p + 1 + length operand)) (operand ++ truth_code t d))
 
--- the load or store of a byte has the size of that of a word
+-- A load or store of a byte has the same size as a load or store of a word.
 pub load_of_size : (kind : Kind) (d : ℕ) (address : Operand) (offset : ℕ) → instruction_size (load_of kind d address offset) ≡ 10
 load_of_size kinds.Char d address offset = refl
 load_of_size kind d address offset = refl
@@ -319,7 +319,7 @@ object_size handle ks d t =
       cells_size ks (t + words) 0 t,
     )
 
--- the size of the code that begins an array
+-- A bound for the size of the code that begins an array.
 sized_size : (kind : Kind) (t : ℕ) → code_size (sized_code kind t) ≤ 22
 sized_size kinds.Int t = omega arith
 sized_size kinds.Char t = omega arith
@@ -334,7 +334,7 @@ begun_size starts handle kind t =
     let asks = instructions.Unary plain_unary.Not (t + 3) (operands.Slot t) ∷ instructions.Binary plain_binary.Add (t + 3) (operands.Slot (t + 3)) (operands.Slot t) ∷ instructions.Ask (requests.Allocate t handle (operands.Slot (t + 3))) ∷ [] in
     omega (arith, code_size-append (measured_code starts kind (t + 1) (t + 2) t) (sized_code kind t ++ asks), code_size-append (sized_code kind t) asks, sized_size kind t)
 
--- the size of the code for the address of the last byte of a variable
+-- A bound for the size of the code for the address of the last byte of a variable.
 pub last_byte_size : (kind : Kind) (d : ℕ) → code_size (last_byte_code kind d) ≤ 11
 last_byte_size kinds.Char d = omega arith
 last_byte_size kind d = omega arith
@@ -343,7 +343,7 @@ pub blank_size : (kind : Kind) (slot : ℕ) → code_size (blank_code kind slot)
 blank_size kinds.Char slot = omega arith
 blank_size kind slot = omega arith
 
--- the size of the code that stores an element of an array in its cell
+-- A bound for the size of the code that stores an element of an array in its cell.
 pub filled_size : (kind : Kind) (head t : ℕ) → code_size (filled_code kind head t) ≤ 80
 filled_size kinds.Int head t = omega arith
 filled_size kinds.Char head t = omega arith
@@ -372,7 +372,8 @@ marks_size : (mark : Option ℕ) → code_size (marks_code mark) ≤ 10
 marks_size None = omega arith
 marks_size (Some m) = closed_size m
 
--- One instruction closes all handlers, if there are any, and one closes all regions.
+-- The code that leaves a construct has one instruction that closes all of its handlers, if there
+-- are any, and one that closes all of its regions.
 pub leave_size : (opened : Opened) → code_size (leave_code opened) ≤ 15
 leave_size opened = omega (arith, code_size-append (handlers_code opened.handler) (marks_code opened.mark), handlers_size opened.handler, marks_size opened.mark)
 
@@ -384,7 +385,8 @@ pub restored_size : (scopes : Option ℕ) (t : ℕ) → code_size (restored_code
 restored_size None t = omega arith
 restored_size (Some place) t = closed_size (t + RECORD_WORDS)
 
--- a list of arguments with a comma before each has at most one token more
+-- A list of arguments with a comma before each argument has at most one token more than the list
+-- without the first comma.
 pub more_weight : (cs : Arguments) → more_arguments_weight cs ≤ arguments_weight cs + 1
 more_weight NoArguments = omega arith
 more_weight (MoreArguments c cs) = omega arith

@@ -1,4 +1,5 @@
--- The pieces of code that expressions and statements consist of contain only words if their parts do.
+-- The pieces of code of which expressions and statements consist contain only 32-bit words if their
+-- parts do.
 use Rattle.std.proofs.Common.{◌≡◌, ℕ, zero, suc, ◌+◌, ◌*◌, ◌≤◌, max, Bool, true, false, List, [], ◌∷◌, ◌++◌, length, take, Option, None, Some, refl, arith}
 use Rattle.cyc_meaning.specs.Operators.{null_exception, division_by_zero, array_bounds}
 use Rattle.std.specs.List.{AllByRecursion}
@@ -37,8 +38,8 @@ use Rattle.cyc_lower_proof.proofs.slots.CellBytes.{begins_within, after_within, 
 
 -- ---- instructions
 
--- An instruction may be emitted. Such an instruction contains only words, is not a return that leaves handlers open, and asks for no room
--- for a call.
+-- Says that the lowering may emit an instruction. Such an instruction contains only 32-bit words, is not a return that leaves handlers
+-- open, and is not an `Enter`.
 abbrev pub IsMade : Instruction → Type 0
 IsMade (instructions.Return value) = ⊥
 IsMade (instructions.Enter function) = ⊥
@@ -155,7 +156,7 @@ operator_words starts operators.Divide l r d left right = checked_words starts o
 operator_words starts operators.Remainder l r d left right = checked_words starts operators.Remainder l r d left right
 operator_words starts o l r d left right = ((left, right), tt)
 
--- the blocks that raise exceptions, after the body of a function
+-- The blocks that raise exceptions, after the body of a function, contain only 32-bit words.
 pub taken_words : (n : ℕ) (code : List Instruction) → HaveWords code → HaveWords (take n code)
 taken_words zero code words = tt
 taken_words (suc n) [] words = tt
@@ -300,7 +301,8 @@ pub blank_words : (kind : Kind) (slot : ℕ) → HaveWords (blank_code kind slot
 blank_words kinds.Char slot = (omega arith, tt)
 blank_words kind slot = tt
 
--- the code of the cells of an object, after at most this number of words
+-- The code that writes the cells of an object contains only 32-bit words, if at most n words come
+-- before these cells.
 cells_words : (ks : List Kind) (address at n slot : ℕ) → at ≤ 4 * n → n + slots_of_kinds ks ≤ 3000 → HaveWords (cells_code ks address at slot)
 cells_words [] address at n slot within few = tt
 cells_words (kind ∷ ks) address at n slot within few =
@@ -308,7 +310,7 @@ cells_words (kind ∷ ks) address at n slot within few =
     append first (cells_code ks address (following kind at) (slot + words_of_kind kind)) (stores_words kind (words_of_kind kind) address (begins kind at) slot (omega (arith, begins_within kind at n within, few)))
     (cells_words ks address (following kind at) (n + words_of_kind kind) (slot + words_of_kind kind) (after_within kind at n within) (omega (arith, few)))
 
--- the number of words of a block fits in a word
+-- The number of words of a block fits in a 32-bit word.
 pub object_words : (handle : Operand) (ks : List Kind) (d t : ℕ) → IsOfWord handle → slots_of_kinds ks ≤ 3000 → HaveWords (object_code handle ks d t)
 object_words handle ks d t word few =
     let words = slots_of_kinds ks in
@@ -318,7 +320,7 @@ object_words handle ks d t word few =
     at_least zero fits = omega arith
     at_least (suc n) fits = omega (arith, fits)
 
--- the code that begins an array
+-- The code that begins an array contains only 32-bit words.
 sized_words : (kind : Kind) (t : ℕ) → HaveWords (sized_code kind t)
 sized_words kinds.Char t = ((tt, omega arith), ((tt, omega arith), tt))
 sized_words kinds.Int t = ((tt, omega arith), tt)
@@ -343,7 +345,7 @@ begun_words starts kind handle t word =
     ((tt, most_words kind), (tt, (omega arith, tt)))
     (append (sized_code kind t) _ (sized_words kind t) (tt, ((tt, tt), ((word, tt), tt))))
 
--- the code that stores an element in its cell
+-- The code that stores an array element in its cell contains only 32-bit words.
 pub filled_words : (kind : Kind) (head t : ℕ) → HaveWords (filled_code kind head t)
 filled_words kind head t =
     let z = t + 3 + words_of_kind kind in

@@ -1,4 +1,5 @@
--- Lemmas for the bounds of instructions: on the number of temporaries, and on instructions with operands in range.
+-- This file has lemmas for the bounds of instructions: on the number of temporaries, and on instructions whose
+-- operands are in range.
 use Rattle.std.proofs.Common.{◌≡◌, ℕ, zero, suc, ◌+◌, ◌-◌, ◌≤◌, ◌<◌, true, false, List, [], ◌∷◌, length, take, min, Option, None, Some, All, IsSomeAnd, slice_get, refl, sym, subst, arith, length-take, inl, inr}
 use Rattle.std.specs.List.{AllByRecursion}
 use Rattle.cyc_types.specs.Types.{Ty, words_of, ValueType, Void, Null, Value}
@@ -42,18 +43,19 @@ pub results_few : (t : Option Ty) → results_of t ≤ spare_slots
 results_few None = omega arith
 results_few (Some t) = omega (arith, type_words t, kind_few (kind_of t))
 
--- the words before a new object have room together with it
+-- A new object needs at least as many words as are held before it.
 pub made_needs : (i : Initial) (before own : ℕ) → before ≤ initial_value_need i before own
 made_needs (Plain kind a) before own = omega arith
 made_needs (Fields cs) before own = omega arith
 made_needs (Array p level n kind a) before own = omega arith
 
--- a result has at most as many words as the returned value, or one
+-- A function's result has at most as many words as the returned value, and this value has at most
+-- as many words as the result, or one.
 pub result_least : (t : Option Ty) → (results_of t ≤ words_of_kind (kind_of_result t)) × (words_of_kind (kind_of_result t) ≤ max 1 (results_of t))
 result_least None = (omega arith, omega arith)
 result_least (Some t) = (omega (arith, type_words t), omega (arith, type_words t))
 
--- with one more counter, all counters are in slots of the function
+-- After one counter is added, all counters are still in slots of the function.
 pub levels_inside : (r : Routine) (types : Types) → ((l slot : ℕ) → slice_get types.counters l ≡ Some slot → slot < r.slots) → (slot : ℕ) → slot < r.slots
     → (l other : ℕ) → slice_get (counted types slot).counters l ≡ Some other → other < r.slots
 levels_inside r types levels slot inside l other found = elim (slice_get_last_cases types.counters slot l other found) [
@@ -63,26 +65,28 @@ levels_inside r types levels slot inside l other found = elim (slice_get_last_ca
 
 -- ---- instructions
 
--- true if all blocks come after the body of the function, and a slot comes after its locals
+-- Holds if all exception blocks come after the body of the function, and a slot comes after the
+-- locals.
 abbrev pub HasEnd : Routine → Types → Type 0
 HasEnd r types = (types.raises + 6 < length r.code) × (words_of_all types.locals < r.slots)
 
--- the properties of the functions of a program that the bounds of a function refer to
+-- The properties of a plain program's function to which the bounds of a source function refer.
 pub record IsKnown (program : PlainProgram) (n : ℕ) (s : Signature) : Type 0 where
   pub there : n < length program.functions
   pub parameters : (routine_at program n).parameters ≡ words_of_all s.parameters
   pub results : (routine_at program n).results ≡ results_of s.result
 
--- all globals are words of the program
+-- The plain program has a word for each word of the source program's globals.
 pub record AreGlobals (program : PlainProgram) (globals : List Ty) : Type 0 where
   pub room : words_of_all globals ≤ length program.globals
 
--- Only the address of a whole local is taken, by its first slot.
+-- Says that an instruction takes only the address of a whole local, by the local's first slot.
 abbrev pub TakesLocal : (locals : List Ty) → Instruction → Type 0
 TakesLocal locals (instructions.AddressOf d first count) = (n : ℕ) × (t : Ty) × (slice_get locals n ≡ Some t) × (first ≡ slot_in locals n) × (count ≡ words_of t)
 TakesLocal locals i = Unit {0}
 
--- true if all parts of the instruction exist, and it takes an address only as above
+-- Holds if all parts of an instruction exist, and if the instruction takes only the address of a
+-- whole local.
 abbrev pub IsIn : PlainProgram → Routine → (locals : List Ty) → Instruction → Type 0
 IsIn program r locals (instructions.AddressOf d first count) = (d < r.slots) × (first + count ≤ r.slots) × TakesLocal locals (instructions.AddressOf d first count)
 IsIn program r locals i = IsInRange program r i
@@ -103,7 +107,8 @@ takes_locals program r locals (i ∷ code) (first, rest) = (by i first, takes_lo
     by (instructions.AddressOf d slot count) (there, few, takes) = takes
     by i inside = tt
 
--- if nothing leads past the shorter code of a function, its references still exist
+-- If no jump goes past the shorter code of a function, then everything to which its instructions
+-- refer still exists.
 module _ (program : PlainProgram) (r : Routine) (longer : List Instruction) (locals : List Ty) (far : ℕ) (reaches : (t : ℕ) → t ≤ far → t < length longer → t < length r.code) (no_return : All (λ i. is_return i ≡ false) r.code) where
   abbrev full : Routine
   full = record r { code = longer }
@@ -152,7 +157,7 @@ module _ (program : PlainProgram) (r : Routine) (longer : List Instruction) (loc
   all_cut [] least inside = tt
   all_cut (i ∷ code) least (first, rest) = (one_cut i (omega (arith, least)) first, all_cut code (omega (arith, least)) rest)
 
--- the blocks refer to nothing that may be missing, except a slot
+-- The blocks that raise exceptions refer to nothing that may be missing, except to a slot.
 pub blocks_in : (program : PlainProgram) (r : Routine) (locals : List Ty) (slot n : ℕ) → slot < r.slots → AllByRecursion (IsIn program r locals) (take n (blocks slot))
 blocks_in program r locals slot zero room = tt
 blocks_in program r locals slot (suc zero) room = ((room, room, tt), tt)
@@ -166,13 +171,13 @@ blocks_in program r locals slot (suc (suc (suc n))) room = ((room, room, tt), ((
     by (suc (suc (suc zero))) = ((tt, tt), ((tt, tt), ((tt, tt), ((tt, tt), tt))))
     by (suc (suc (suc (suc n)))) = ((tt, tt), ((tt, tt), ((tt, tt), ((tt, tt), tt))))
 
--- the number of blocks that are kept
+-- At least n instructions of the exception blocks are kept, or all six.
 pub blocks_many : (slot n : ℕ) → min n 6 ≤ length (take (blocks_kept n) (blocks slot))
 blocks_many slot zero = omega arith
 blocks_many slot (suc zero) = omega arith
 blocks_many slot (suc (suc n)) = omega (arith, length-take (suc (suc n)) (blocks slot))
 
--- the code of a function ends in an instruction that leaves it
+-- The code of a function ends in an instruction that leaves the function.
 pub end_leaves : (body : List Instruction) (slot n : ℕ) → IsSomeAnd (slice_get (with_blocks body slot (blocks_kept n)) (length (with_blocks body slot (blocks_kept n)) - 1)) (λ i. leaves i ≡ true)
 end_leaves body slot n =
     let end = instructions.Finish slot ∷ take (blocks_kept n) (blocks slot) in

@@ -1,5 +1,5 @@
--- The size of the code of a function is bounded by the number of tokens in its text. Reading a fat pointer through a fat pointer is one
--- token, and takes some eighty words.
+-- The size of the code of a function is bounded by the number of tokens in the function's text. Reading a fat pointer through a fat
+-- pointer is one token, and its code takes some eighty words.
 use Rattle.cyc_types.specs.typing.Expressions.{type_of_side}
 use Rattle.std.proofs.Common.{◌≡◌, ℕ, zero, suc, ◌+◌, ◌*◌, ◌≤◌, Bool, true, false, List, [], ◌∷◌, ◌++◌, ◌-◌, length, take, Option, None, Some, refl, arith, inl, inr}
 use Rattle.std.specs.Prelude.{◌&&◌, is_some, if◌then◌else◌, ◌||◌, not}
@@ -67,7 +67,7 @@ module _ (starts : Starts) where
   second_size : (b : Expression) (p t : ℕ) → code_size (second_code starts b p t) ≤ size_per_weight * expression_weight b
   second_size b p t = omega (arith, unless_size (operand_of starts b) (expression_code starts b p (value_slot starts b (suc t)) (suc t)), expression_size starts b p (value_slot starts b (suc t)) (suc t))
 
-  -- the size of a value that is compared with 0
+  -- The size of the code of a value that a condition compares with 0.
   alone_size : (a : Expression) (p t : ℕ) → code_size (pair_code starts a (Number 0) p t) ≤ size_per_weight * expression_weight a
   alone_size a p t = omega (arith, code_size-append (first_code starts a (Number 0) p t) [], first_size a (Number 0) p t)
 
@@ -92,7 +92,7 @@ module _ (starts : Starts) where
       compared_size (null_compared o b) (pointers_failing o) a b (Binary a (ThenPointerPeek n o b NoOperations) ty) p t (omega arith)
   condition_size a p t = alone_size a p t
 
-  -- the size of the jumps of tests
+  -- The size of the jumps of a chain of tests.
   deciding_size : (u : LogicalOperator) (c : Condition) (x : ℕ) → instruction_size (deciding_jump u c x) ≡ 11
   deciding_size logical.AndThen c x = refl
   deciding_size logical.OrElse c x = refl
@@ -132,7 +132,8 @@ module _ (starts : Starts) where
       by false = choice_size (turned_test u) (Binary a os ty) p t
   branch_size u a x p t = choice_size (turned_test u) a p t
 
-  -- the code of a condition that may be emitted twice is half as large
+  -- The code of a condition that may be emitted twice has at most half the bound of other
+  -- conditions.
   light_first_size : (a b : Expression) (p t : ℕ) → is_light starts a ≡ true → code_size (first_code starts a b p t) ≤ 50 * expression_weight a
   light_first_size a b p t light =
       let slot = slot_with starts (is_simple starts b) a t in
@@ -204,7 +205,7 @@ module _ (starts : Starts) where
   guard_choice_size u (Binary a os ty) p t guard = absurd (let f : false ≡ true = guard in cc)
   guard_choice_size u a p t guard = guard_size a p t guard
 
-  -- the size of the entry into a loop, and of the condition after its body
+  -- The size of the code that enters a loop, and of the loop's condition after its body.
   tested_loop_size : (guarded : Bool) (a : Expression) (p q t : ℕ) → is_guard starts a ≡ guarded
       → code_size (entry_code guarded (choice_code starts logical.AndThen a p t) (holding_jump (choice_of starts logical.AndThen a t)) q p) + code_size (choice_code starts logical.AndThen a q t) ≤ 11 + size_per_weight * expression_weight a
   tested_loop_size true a p q t guarded =
@@ -257,7 +258,8 @@ module _ (starts : Starts) where
   named_size : (ty : Ty) (n : ℕ) (o : Operand) → code_size (named_code starts (words_of ty) n o) ≤ 20
   named_size ty n o = move_size (words_of ty) (slot_of starts n) o (omega (arith, type_words ty, kind_few (kind_of ty)))
 
-  -- the size of a side, and of the two instructions that read and write it
+  -- The size of the code of one side of a swap, and of the two instructions that read and write
+  -- this side.
   side_size : (a : Side) (p t : ℕ) → code_size (side_code starts a p t) ≤ size_per_weight * side_weight a
   side_size (VariableSide l ty) p t = omega arith
   side_size (CellSide x) p t = omega (arith, store_address_size starts x p t)
@@ -432,7 +434,7 @@ module _ (starts : Starts) where
         let front = dynamic_code starts n t in
         omega (arith, code_size-append front (items_code starts js (p + length front) exits t), items_size js (p + length front) exits t)
 
-    -- if no clause catches it, the exception is thrown again
+    -- If no clause of a `try` catches the exception, then the code throws the exception again.
     clauses_size : (cs : Clauses) (p out : ℕ) (exits : Exits) (t : ℕ) → code_size (clauses_code starts cs p out exits t) ≤ 24 + size_per_weight * clauses_weight cs
     clauses_size NoClauses p out exits t = omega arith
     clauses_size (Default r js) p out exits t = omega (arith, items_size js p exits t)

@@ -1,4 +1,4 @@
--- The code of statements refers only to existing things.
+-- This file proves that the code of statements refers only to existing things.
 use Rattle.std.proofs.Common.{◌≡◌, ℕ, zero, suc, ◌+◌, ◌≤◌, ◌<◌, Bool, true, false, List, [], ◌∷◌, ◌++◌, length, Option, None, Some, slice_get, All, refl, sym, ap, subst, ◌∙◌, arith, length-append, ◌*◌}
 use Rattle.cyc_types.specs.declared.typed.Kind.{Kind}
 use Rattle.cyc_types.specs.declared.typed.Kind.TheVariants as kinds
@@ -65,7 +65,7 @@ module _ (program : PlainProgram) (r : Routine) (b : Numbering) (types : Types) 
 
   -- ---- regions
 
-  -- a local of this kind gets a value
+  -- The code that gives a value to a local of this kind is in range.
   named_in : (kind : Kind) (n : ℕ) (o : Operand) → n < b.locals → HasRoom types n kind → HasOperand r b types locals levels o (words_of_kind kind) → AreIn program r b types locals levels globals called results following (named_code (starts_of types) (words_of_kind kind) n o)
   named_in kind n o within room inside = (move_in program r b types locals levels globals called results following kind (slot_of (starts_of types) n) o (omega (arith, locals n within, room)) inside, tt)
 
@@ -87,7 +87,7 @@ module _ (program : PlainProgram) (r : Routine) (b : Numbering) (types : Types) 
 
   -- ---- exits
 
-  -- true if the record of the outermost handler, or the mark of the outermost lexical region, is in slots of the function
+  -- Holds if the handler record or the saved region count that begins at this slot, if any, is in slots of the function.
   abbrev IsRecord : Option ℕ → Type 0
   IsRecord None = Unit {0}
   IsRecord (Some first) = first + RECORD_WORDS ≤ r.slots
@@ -113,7 +113,7 @@ module _ (program : PlainProgram) (r : Routine) (b : Numbering) (types : Types) 
   leave_in : (opened : Opened) → CanLeave opened → AreIn program r b types locals levels globals called results following (leave_code opened)
   leave_in opened (record_inside, mark_inside) = append program r b types locals levels globals called results following (handlers_code opened.handler) (marks_code opened.mark) (handlers_in opened.handler record_inside) (marks_in opened.mark mark_inside)
 
-  -- the number that a `try` keeps is in range
+  -- The slot in which a `try` saves the number of open regions is in range.
   kept_in : (known : Option ℕ) (t : ℕ) → t + RECORD_WORDS < r.slots → AreIn program r b types locals levels globals called results following (kept_code_in known t)
   kept_in None t free = tt
   kept_in (Some place) t free = (free, tt)
@@ -249,7 +249,8 @@ module _ (program : PlainProgram) (r : Routine) (b : Numbering) (types : Types) 
   caught_in None t numbered few = tt
   caught_in (Some n) t (within, room) few = ((omega (arith, locals n within, room), few), tt)
 
-  -- one more handler is open inside a `try`, and one more region after its item
+  -- Inside a `try` one more handler is open, and after the item that opens a region one more region
+  -- is open.
   record_after : (first : Option ℕ) (slot : ℕ) → IsRecord first → slot + RECORD_WORDS ≤ r.slots → IsRecord (outermost first slot)
   record_after None slot inside room = room
   record_after (Some first) slot inside room = inside

@@ -1,4 +1,5 @@
--- The code of a well-formed function leads at most to the code after its body.
+-- The jumps in the body of a well-formed function go at most to the exception blocks after the
+-- body.
 use Rattle.std.proofs.Common.{ℕ, zero, suc, ◌-◌, ◌≤◌, List, [], ◌∷◌, ◌++◌, length, map, take, Option, All, subst, arith, length-append, length-take}
 use Rattle.std.specs.List.{AllByRecursion}
 use Rattle.std.proofs.lemmas.Option.{same_Some, none-some}

@@ -1,4 +1,5 @@
--- The code of values, pointers, places and objects refers only to existing things.
+-- This file proves that the code of values, pointers, memory accesses and objects refers only to
+-- existing things.
 use Rattle.std.proofs.Common.{◌≡◌, ℕ, zero, suc, ◌+◌, ◌≤◌, ◌<◌, Bool, true, false, List, [], ◌∷◌, ◌++◌, length, Option, None, Some, slice_get, refl, sym, ap, subst, ◌∙◌, arith, length-append, inl, inr}
 use Rattle.std.specs.List.{AllByRecursion}
 use Rattle.cyc_types.specs.declared.typed.Kind.{Kind}
@@ -56,7 +57,7 @@ module _ (program : PlainProgram) (r : Routine) (b : Numbering) (types : Types) 
   pub append : (x y : List Instruction) → AreIn x → AreIn y → AreIn (x ++ y)
   append x y first rest = all_append (IsIn program r types.locals) x y first rest
 
-  -- code that is omitted if an operand is known
+  -- If code is omitted because an operand is known, then it need not be in range.
   pub unless_in : (known : Option Operand) (x : List Instruction) (p : ℕ) → p + length (code_unless known x) < length r.code → (p + length x < length r.code → AreIn x) → AreIn (code_unless known x)
   unless_in (Some o) x p short inside = tt
   unless_in None x p short inside = inside short
@@ -66,7 +67,7 @@ module _ (program : PlainProgram) (r : Routine) (b : Numbering) (types : Types) 
   unless_slot_in (Some (operands.Word n)) x p short inside = inside short
   unless_slot_in None x p short inside = inside short
 
-  -- the code that moves a value is in range
+  -- The code that moves a value is in range, that is, it refers only to existing slots.
   pub move_in : (kind : Kind) (d : ℕ) (o : Operand) → d + words_of_kind kind ≤ r.slots → HasOperand r b types locals levels o (words_of_kind kind) → IsIn program r types.locals (move_of (words_of_kind kind) d o)
   move_in kind d (operands.Word w) room inside = (omega (arith, room, kind_positive kind), tt)
   move_in kind d (operands.Slot n) room inside = by (words_of_kind kind == 1)
@@ -154,7 +155,7 @@ module _ (program : PlainProgram) (r : Routine) (b : Numbering) (types : Types) 
   thinned_in kinds.Nullable span (operands.Slot n) p inside short = ((omega (arith, inside), tt, omega (arith, short, past_long (starts_of types) span n (n + 2) n)), bounded_in span n (n + 2) n (omega (arith, inside)) (omega (arith, inside)) inside)
   thinned_in to span o p inside short = tt
 
-  -- the conversion of a fat pointer uses three words
+  -- Converting a fat pointer needs room for three words.
   conversion_by_in : (same : Bool) (to : Kind) (span : Option ℕ) (o : Operand) (p words : ℕ) → words_of_kind to ≤ words → (same ≡ false → (to ≡ kinds.Char) ⊎ (3 ≤ words)) → HasOperand r b types locals levels o words
       → p + length (conversion_by (starts_of types) same to span o p) < length r.code → AreIn (conversion_by (starts_of types) same to span o p)
   conversion_by_in true to span o p words least three inside short = tested_in to o (operand_in r b types locals levels o to (less_operand r b types locals levels o words (words_of_kind to) least inside))
@@ -202,7 +203,8 @@ module _ (program : PlainProgram) (r : Routine) (b : Numbering) (types : Types) 
   blank_in kinds.Char slot few = ((few, tt), tt)
   blank_in kind slot few = tt
 
-  -- the code that loads words of globals into slots, and the code that stores them
+  -- The code that loads words of globals into slots is in range, and so is the code that stores
+  -- them.
   pub loads_in : (words first d : ℕ) → first + words ≤ length program.globals → d + words ≤ r.slots → AreIn (word_by_word load_word words first d)
   loads_in zero first d inside few = tt
   loads_in (suc words) first d inside few = ((omega (arith, few), omega (arith, inside)), loads_in words (suc first) (suc d) (omega (arith, inside)) (omega (arith, few)))
@@ -215,7 +217,7 @@ module _ (program : PlainProgram) (r : Routine) (b : Numbering) (types : Types) 
   global_in words first (operands.Slot n) some inside few = saves_in words first n inside few
   global_in words first (operands.Word n) some inside few = ((omega (arith, some, inside), few), tt)
 
-  -- all words of a value have room in a global
+  -- The global to which a value is assigned has room for all words of the value.
   pub assigned_in : (n : ℕ) (c : Converted) (o : Operand) → HasGlobal types n (kind_passed c) → HasOperand r b types locals levels o (words_of_kind (kind_passed c)) → AreIn (global_code (passed_words c) (global_of (starts_of types) n) o)
   assigned_in n c o room few =
       subst (λ words. AreIn (global_code words (global_of (starts_of types) n) o)) (sym (passed_is c))
@@ -230,7 +232,8 @@ module _ (program : PlainProgram) (r : Routine) (b : Numbering) (types : Types) 
   copy_in true c o d inside few = tt
   copy_in false c o d inside few = (subst (λ words. IsIn program r types.locals (move_of words d o)) (sym (passed_is c)) (move_in (kind_passed c) d o few inside), tt)
 
-  -- the code that copies a fat pointer to another slot is in range
+  -- The code that copies a fat pointer to another slot is in range, that is, it refers only to
+  -- existing slots.
   pub pointer_copied : (d t : ℕ) → d + 3 ≤ r.slots → t + 3 ≤ r.slots → AreIn (copy_code 3 (operands.Slot t) d)
   pointer_copied d t few inside = by (t == d)
     where
@@ -273,7 +276,7 @@ module _ (program : PlainProgram) (r : Routine) (b : Numbering) (types : Types) 
       let long = length-append operand (truth_code t d) in
       ((room, tt, omega (arith, short, long)), append operand (truth_code t d) inside ((few, room, tt), tt))
 
-  -- the code that stores a word of a value in a cell, and the code that loads it
+  -- The code that stores a word of a value in a cell is in range, and so is the code that loads it.
   store_in : (kind : Kind) (address : Operand) (offset : ℕ) (o : Operand) → IsOperand r address → IsOperand r o → IsIn program r types.locals (store_of kind address offset o)
   store_in kinds.Char address offset o first second = (first, second)
   store_in kind address offset o first second = (first, second)
@@ -287,7 +290,7 @@ module _ (program : PlainProgram) (r : Routine) (b : Numbering) (types : Types) 
   stores_in kind (suc many) address offset slot room few =
       (store_in kind (operands.Slot address) offset (operands.Slot slot) room (omega (arith, few)), stores_in kind many address (offset + 4) (suc slot) room (omega (arith, few)))
 
-  -- the code that begins an array is in range
+  -- The code that begins an array is in range, that is, it refers only to existing slots.
   sized_in : (kind : Kind) (t : ℕ) → t < r.slots → AreIn (sized_code kind t)
   sized_in kinds.Char t room = ((room, room, tt), ((room, room, tt), tt))
   sized_in kind t room = ((room, room, tt), tt)
@@ -312,7 +315,8 @@ module _ (program : PlainProgram) (r : Routine) (b : Numbering) (types : Types) 
         ),
       ))
 
-  -- the code that stores an element of an array in its cell is in range
+  -- The code that stores an element of an array in its cell is in range, that is, it refers only to
+  -- existing slots.
   pub filled_in : (kind : Kind) (head t : ℕ) → t + 3 + words_of_kind kind < r.slots → head < length r.code → AreIn (filled_code kind head t)
   filled_in kind head t few short =
       let z = t + 3 + words_of_kind kind in
@@ -358,13 +362,13 @@ module _ (program : PlainProgram) (r : Routine) (b : Numbering) (types : Types) 
       let three : words_of_kind kind ≡ 3 = ap words_of_kind (wide_kind kind wide) in
       append (address_code o bytes t) _ (address_in o bytes t inside free) ((omega (arith, room, three), free), ((omega (arith, room, three), free), ((omega (arith, room, three), free), tt)))
 
-  -- a place needs its own words
+  -- A memory access needs at least the slots for the words of its own value.
   pub own_needed : (x : Dereference) (own : ℕ) → own ≤ dereference_need x own
   own_needed (Target k a ty) own = omega arith
   own_needed (Member k a s f ty) own = omega arith
   own_needed (Element a i ty) own = omega arith
 
-  -- a fat pointer whose index is evaluated has room in its place
+  -- If a fat pointer stays in its slots while an index is evaluated, then these slots are in range.
   pub pointer_room : (a i : Expression) (t : ℕ) → kind_at r b types locals levels a ≡ kinds.Fat → Fits b types a → t + 3 ≤ r.slots → pointer_slot (starts_of types) a i t + 3 ≤ r.slots
   pointer_room a i t fat numbered room = by (is_simple (starts_of types) i)
     where
@@ -416,7 +420,7 @@ module _ (program : PlainProgram) (r : Routine) (b : Numbering) (types : Types) 
 
   -- ---- expressions
 
-  -- an operator on pointers is in range with its right operand, which is evaluated after the left one
+  -- A pointer operator is in range with its right operand, which is evaluated after the left operand.
   pub right_in : (o : PointerOperator) (a : Expression) (ty : Ty) (p : ℕ) (l : Operand) (d t left : ℕ) → Fits b types a → words_of_kind (left_kind o) ≤ left → d + words_of_kind (operator_kind o) ≤ r.slots → HasOperand r b types locals levels l (words_of_kind (left_kind o)) → IsOperand r l
       → t + max (left + operand_words (type_of a) + words_of ty) (left + expression_need a) ≤ r.slots
       → p + length (pointer_code o l (value_operand (starts_of types) a (after_left o t)) (code_unless (operand_of (starts_of types) a) (expression_code (starts_of types) a p (value_slot (starts_of types) a (after_left o t)) (after_left o t))) d) < length r.code
@@ -434,7 +438,8 @@ module _ (program : PlainProgram) (r : Routine) (b : Numbering) (types : Types) 
       (unless_in (operand_of (starts_of types) a) inner p (omega (arith, short, length-append operand back)) (λ less. computed slot (slot_fits r b types locals levels a u numbered free) less))
       (pointer_in o l m d room all inside (value_in r b types locals levels a u numbered free))
 
-  -- an int that becomes a char is an operand, and its low byte is moved to a slot
+  -- An int that becomes a char is an operand, and the code that moves its low byte to a slot is in
+  -- range.
   pub brought_by : (masking : Bool) (a : Expression) (p d t : ℕ) → Fits b types a → d + words_of_kind (kind_at r b types locals levels a) ≤ r.slots → t + words_of_kind (kind_at r b types locals levels a) ≤ r.slots
       → ((slot : ℕ) → slot + words_of_kind (kind_at r b types locals levels a) ≤ r.slots → p + length (expression_code (starts_of types) a p slot t) < length r.code → AreIn (expression_code (starts_of types) a p slot t))
       → p + length (if masking then masked_by (operand_of (starts_of types) a) (expression_code (starts_of types) a p (value_slot (starts_of types) a t) t) (value_operand (starts_of types) a t) d else expression_code (starts_of types) a p d t) < length r.code

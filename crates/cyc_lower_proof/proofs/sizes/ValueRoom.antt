@@ -1,4 +1,4 @@
--- Values and the operands of operators have room in the slots of a function.
+-- This file proves that values and the operands of operators have room in the slots of a function.
 use Rattle.std.proofs.Common.{◌≡◌, ℕ, ◌+◌, ◌≤◌, ◌<◌, Bool, true, false, Option, None, Some, slice_get, refl, ap, subst, arith}
 use Rattle.cyc_types.specs.declared.typed.Kind.{Kind}
 use Rattle.cyc_types.specs.declared.typed.Kind.TheVariants as kinds
@@ -31,7 +31,7 @@ module _ (r : Routine) (b : Numbering) (types : Types) (locals : (n : ℕ) → n
   abbrev pub kind_at : Expression → Kind
   kind_at a = given b.functions a
 
-  -- true if a value of this number of words is in slots of the function, or in one word
+  -- Holds if a value of this number of words is in slots of the function, or is a constant word.
   abbrev pub HasOperand : Operand → (words : ℕ) → Type 0
   HasOperand (operands.Slot n) words = n + words ≤ r.slots
   HasOperand (operands.Word w) words = Unit {0}
@@ -43,7 +43,8 @@ module _ (r : Routine) (b : Numbering) (types : Types) (locals : (n : ℕ) → n
   pub assigned_kind : (l : Lvalue) (c : Converted) (ty : ValueType) → kind_at (Assign l c ty) ≡ kind_passed c
   assigned_kind l (Convert from to a) ty = refl
 
-  -- the result of a chain has at most as many words as its left operand or as its operators need
+  -- The result of a pointer operator or of a chain has at most as many words as the left operand or
+  -- as the operators need.
   pub operator_few : (o : PointerOperator) → words_of_kind (operator_kind o) ≤ words_of_kind (left_kind o)
   operator_few pointers.AddFat = omega arith
   operator_few pointers.SubtractFat = omega arith
@@ -66,7 +67,7 @@ module _ (r : Routine) (b : Numbering) (types : Types) (locals : (n : ℕ) → n
   pub stored_kind : (x : Dereference) (c : Converted) (ty : ValueType) → kind_at (Store x c ty) ≡ kind_passed c
   stored_kind x (Convert from to a) ty = refl
 
-  -- a result has at most as many words as its expression needs, or one
+  -- The result of an expression has at most as many words as the expression needs, or one word.
   pub given_needs : (a : Expression) → Fits b types a → words_of_kind (kind_at a) ≤ max 1 (expression_need a)
   given_needs (Number n) numbered = omega arith
   given_needs NullPointer numbered = omega arith
@@ -126,7 +127,7 @@ module _ (r : Routine) (b : Numbering) (types : Types) (locals : (n : ℕ) → n
   pub value_in : (a : Expression) (t : ℕ) → Fits b types a → t + words_of_kind (kind_at a) ≤ r.slots → IsOperand r (value_operand (starts_of types) a t)
   value_in a t numbered few = operand_in (value_operand (starts_of types) a t) (kind_at a) (value_room a t numbered few)
 
-  -- a converted value has room before and after the conversion
+  -- A converted value has room both before and after the conversion.
   pub source_fits : (from to : Kind) (a : Expression) (t : ℕ) → FitsConverted b types (Convert from to a) → t + converted_words (Convert from to a) ≤ r.slots
       → source_slot (starts_of types) (Convert from to a) t + words_of_kind (kind_at a) ≤ r.slots
   source_fits from to a t (kind, wide, numbered) few = by (keeps_words from to)
@@ -162,7 +163,7 @@ module _ (r : Routine) (b : Numbering) (types : Types) (locals : (n : ℕ) → n
   printed_value_in (MoreArguments c cs) o t (first, rest) inside few =
       printed_value_in cs (converted_operand (starts_of types) c t) t rest (converted_value_in c t first (omega (arith, few))) (omega (arith, few))
 
-  -- the slot for the result of an operator has room for it
+  -- The slot for the result of an operator has room for this result.
   pub next_in : (os : Operations) (kind : Kind) (d t : ℕ) → d + words_of_kind (chain_kind kind os) ≤ r.slots → t + words_of_kind kind ≤ r.slots → next_slot os d t + words_of_kind kind ≤ r.slots
   next_in NoOperations kind d t few room = few
   next_in (ThenCompute o a os) kind d t few room = room
@@ -170,7 +171,7 @@ module _ (r : Routine) (b : Numbering) (types : Types) (locals : (n : ℕ) → n
   next_in (ThenPointer o a os) kind d t few room = room
   next_in (ThenPointerPeek n o a os) kind d t few room = room
 
-  -- true if a left operand of an operator on pointers has its words in range
+  -- Holds if the words of a left operand of a pointer operator are in range.
   abbrev pub LeftIn : Operations → Operand → Type 0
   LeftIn (ThenPointer o a os) l = HasOperand l (words_of_kind (left_kind o))
   LeftIn (ThenPointerPeek n o a os) l = HasOperand l (words_of_kind (left_kind o))
@@ -191,7 +192,7 @@ module _ (r : Routine) (b : Numbering) (types : Types) (locals : (n : ℕ) → n
   first_left_in a (ThenPointer o c os) ty d t left (wide, numbered, rest) few = omega (arith, few, wide)
   first_left_in a (ThenPointerPeek n o c os) ty d t left (wide, numbered, rest) few = omega (arith, few, wide)
 
-  -- true if operators follow and there is room for a value
+  -- Holds if no operators follow, or if slot t is in the function's slots.
   abbrev RoomFor : Operations → ℕ → Type 0
   RoomFor NoOperations t = Unit {0}
   RoomFor os t = t < r.slots
@@ -211,7 +212,7 @@ module _ (r : Routine) (b : Numbering) (types : Types) (locals : (n : ℕ) → n
   left_with_in true a t numbered few = value_in a t numbered few
   left_with_in false a t numbered few = omega (arith, few, kind_positive (kind_at a))
 
-  -- true if there is room for the left operand that they begin with
+  -- Holds if no operators follow, or if there is room for their left operand.
   abbrev LeftRoom : Operations → Expression → ℕ → Type 0
   LeftRoom NoOperations a t = Unit {0}
   LeftRoom os a t = t + words_of_kind (kind_at a) ≤ r.slots

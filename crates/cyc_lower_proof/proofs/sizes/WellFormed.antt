@@ -1,4 +1,5 @@
--- The lowered program is well-formed: its instructions refer only to existing things, and its frames have room.
+-- The lowered program is well-formed: its instructions refer only to existing things, and its frames have room
+-- for all slots.
 use Rattle.std.proofs.Common.{◌≡◌, ℕ, zero, suc, ◌≤◌, ◌<◌, ◌-◌, true, false, List, [], ◌∷◌, length, map, take, Option, Some, slice_get, slice_index_or, refl, ap, arith, length-append}
 use Rattle.std.specs.List.{AllByRecursion}
 use Rattle.std.proofs.lemmas.Option.{same_Some, none-some}
@@ -50,7 +51,8 @@ module _ (source : Program) (is_fitting : IsFitting source) where
     room = omega (arith, global_words_counted source.globals);
   }
 
-  -- all instructions of the code of a function are in range
+  -- All instructions of the code of a function are in range, that is, they refer only to existing
+  -- things.
   code_in : (h : Function) → AreOfWordsItems h.body → FitItems (numbering_of (length source.globals) (signatures_of source.functions) h) (types_of source.structs (global_types source.globals) (scopes_of source) h) false h.body
       → AllByRecursion (IsIn (lower_program source) (lower_function source.structs (globals_of source) (scopes_of source) h) (slot_types h)) (function_code source.structs (globals_of source) (scopes_of source) h)
   code_in h words numbered_body =
@@ -89,7 +91,7 @@ module _ (source : Program) (is_fitting : IsFitting source) where
         last = end_leaves body (tag_slot h) (farthest body - types.raises);
       }
 
-  -- the code takes only the addresses of locals
+  -- The code of a function takes only the addresses of whole locals.
   pub function_takes : (h : Function) → AreOfWordsItems h.body → FitItems (numbering_of (length source.globals) (signatures_of source.functions) h) (types_of source.structs (global_types source.globals) (scopes_of source) h) false h.body
       → AllByRecursion (TakesLocal (slot_types h)) (function_code source.structs (globals_of source) (scopes_of source) h)
   function_takes h words numbered_body =
@@ -99,7 +101,7 @@ module _ (source : Program) (is_fitting : IsFitting source) where
   functions_well [] words numbered_all = tt
   functions_well (h ∷ hs) (own, others) (first, rest) = (function_well h own first, functions_well hs others rest)
 
-  -- the code of each function leads at most to the code after its body
+  -- The jumps in the body of each function go at most to the exception blocks after the body.
   pub code_close : IsOfWordsProgram source → AreClose source.structs (globals_of source) (scopes_of source) source.functions
   code_close words = functions_close (lower_program source) source.structs (globals_of source) (scopes_of source) source.functions (functions_well source.functions words.functions is_fitting.functions)
 

@@ -1,4 +1,4 @@
--- A lowered program consists of words if its source does.
+-- A lowered program contains only 32-bit words if its source program does.
 use Rattle.cyc_types.specs.typing.Expressions.{type_of_side}
 use Rattle.std.proofs.Common.{◌≡◌, ℕ, zero, suc, ◌+◌, ◌*◌, ◌≤◌, Bool, true, false, List, [], ◌∷◌, ◌++◌, length, map, take, Option, None, Some, All, refl, arith, ◌-◌}
 use Rattle.std.specs.List.{AllByRecursion}
@@ -59,7 +59,8 @@ module _ (starts : Starts) where
 
   -- ---- statements
 
-  -- the compared operands of a condition
+  -- The compared operands of a condition contain only 32-bit words if the condition's expressions
+  -- do.
   sides_words : (null beside : Option Comparison) (a b whole : Expression) → IsOfWords a → IsOfWords b → IsOfWords whole
       → IsOfWords (nulled_or null beside a b whole).left × IsOfWords (nulled_or null beside a b whole).right
   sides_words (Some failing) beside a b whole first second all = (first, omega arith)
@@ -97,7 +98,7 @@ module _ (starts : Starts) where
       let right = (compared_of a).right in
       (left_with_word starts (is_simple starts right) left (slot_with starts (is_simple starts right) left t) first, known_word starts right (value_slot starts right (suc t)) second)
 
-  -- the operands of tests
+  -- The jumps of a chain of tests contain only 32-bit words if the operands of the tests do.
   deciding_words : (u : LogicalOperator) (c : Condition) (x : ℕ) → IsOfWord c.left × IsOfWord c.right → IsMade (deciding_jump u c x)
   deciding_words logical.AndThen c x words = words
   deciding_words logical.OrElse c x words = words
@@ -244,7 +245,8 @@ module _ (starts : Starts) where
       (append second (third ++ fourth) (read_words y kind (right_slot x t) (t + 2 + words))
       (append third fourth (write_words x kind t (t + 2 + words)) (write_words y kind (right_slot x t) (t + 2))))))
 
-  -- The tag of an exception in an operand is less than 2 ^ 32.
+  -- The code that throws an exception contains only 32-bit words; the exception's tag is less than
+  -- 2 ^ 32.
   throw_words : (tag : ℕ) (v : Option Expression) (p : ℕ) (exits : Exits) (t : ℕ) → IsOfWordsThrown v → HaveWords (statement_code starts (Throw tag v) p exits t)
   throw_words tag None p exits t words = ((omega arith, omega arith), tt)
   throw_words tag (Some a) p exits t words =
@@ -355,7 +357,7 @@ module _ (starts : Starts) where
         ((tt, omega arith), append (caught ++ items) (instructions.Jump out ∷ []) (append caught items (caught_words x t) (items_words js (p + 1 + length caught) exits t first)) (tt, tt))
         (clauses_words cs (p + length clause) out exits t rest)
 
--- the code of a function with this number of blocks after it
+-- The code of a function with `count` exception blocks after its body.
 abbrev pub body_with : (structs : List StructType) (globals : List ℕ) (scopes : Option ℕ) (h : Function) (count : ℕ) → List Instruction
 body_with structs globals scopes h count = with_blocks (body_code (starts_with (raises_of structs globals scopes h) structs globals scopes h) h) (tag_slot h) count
 
@@ -370,7 +372,7 @@ function_has_words : (structs : List StructType) (globals : List ℕ) (scopes : 
 function_has_words structs globals scopes h words =
     body_words structs globals scopes h (blocks_kept (farthest (body_code (starts_with (raises_of structs globals scopes h) structs globals scopes h) h) - raises_of structs globals scopes h)) words
 
--- no function returns while handlers are open
+-- The code of a function's body contains no `Return` that leaves handlers open.
 pub body_has_no_return : (structs : List StructType) (globals : List ℕ) (scopes : Option ℕ) (h : Function) (n : ℕ) → AreOfWordsItems h.body → All (λ i. is_return i ≡ false) (body_with structs globals scopes h n)
 body_has_no_return structs globals scopes h n words =
     All-from_recursion (λ i. is_return i ≡ false) (body_with structs globals scopes h n) (all_weaker IsMade (λ i. is_return i ≡ false) made_no_return (body_with structs globals scopes h n) (body_words structs globals scopes h n words))
@@ -400,7 +402,7 @@ has_words source words =
       globals = All-from_recursion IsWord (lower_globals source.globals) (globals_words source.globals words.globals);
     }
 
--- no function has an `Enter`
+-- No lowered function contains an `Enter` instruction.
 abbrev is_no_enter : Instruction → Bool
 is_no_enter (instructions.Enter function) = false
 is_no_enter i = true

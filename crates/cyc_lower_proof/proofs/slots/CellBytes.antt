@@ -1,4 +1,5 @@
--- The bytes of cells by the words of their values. A cell has four bytes for each word, but a cell of a char has one byte.
+-- This file computes the bytes of cells from the words of their values. A cell has four bytes for each word, but a cell of
+-- a char has one byte.
 use Rattle.std.proofs.Common.{◌≡◌, ℕ, ◌+◌, ◌*◌, ◌<◌, ◌≤◌, true, false, List, [], ◌∷◌, length, refl, arith}
 use Rattle.std.specs.Prelude.{◌==◌}
 use Rattle.cyc_types.specs.declared.typed.Kind.{Kind}
@@ -10,7 +11,7 @@ use Rattle.cyc_lower_proof.specs.inside.Slots.{begins_word}
 use Rattle.cyc_lower_proof.specs.inside.ValueCode.{variable_bytes, all_passed, kinds_passed}
 use Rattle.cyc_lower_proof.specs.inside.ObjectCode.{slots_of_kinds}
 
--- a variable of a kind ends with its last word
+-- A variable of a kind ends where its last word ends.
 pub kind_bytes : (kind : Kind) → variable_bytes kind + bytes_of_kind kind ≡ 4 * words_of_kind kind
 kind_bytes kinds.Int = refl
 kind_bytes kinds.Char = refl
@@ -30,7 +31,8 @@ wide_cell kinds.Fat wide more = refl
 wide_cell kinds.Char wide more = absurd (let f : true ≡ false = more in cc)
 wide_cell kind wide more = absurd (let f : true ≡ false = wide in cc)
 
--- the computation of the beginning of a cell does not overflow, if the result is a word
+-- The computation of the first byte of a cell does not overflow if its result fits in a 32-bit
+-- word.
 pub begins_is : (kind : Kind) (at : ℕ) → begins kind at < 4294967296 → begins_word kind at ≡ begins kind at
 begins_is kinds.Int at below = omega (arith, below)
 begins_is kinds.Char at below = refl
@@ -42,7 +44,7 @@ begins_is kinds.Key at below = omega (arith, below)
 
 -- ---- cells by the slots of their values
 
--- after at most n words, a cell begins at word n or before
+-- If at most n words come before a cell, then the cell begins at word n or before.
 pub begins_within : (kind : Kind) (at n : ℕ) → at ≤ 4 * n → begins kind at ≤ 4 * n
 begins_within kinds.Int at n within = omega (arith, within)
 begins_within kinds.Char at n within = omega (arith, within)

@@ -1,4 +1,5 @@
--- The words of globals and their first words, in a loop that is not finished.
+-- This file has the invariants of the loop that computes the words of globals and their first
+-- words.
 use Rattle.std.proofs.Common.{◌≡◌, ℕ, ◌+◌, ◌-◌, List, ◌++◌, map, drop}
 use Rattle.std.specs.Prelude.{replicate}
 use Rattle.cyc_types.specs.declared.typed.Global.{Global}
@@ -8,7 +9,7 @@ use Rattle.cyc_meaning.specs.FrameCount.{words_of_all}
 use Rattle.cyc_lower_proof.specs.inside.Slots.{global_types, starts_from}
 use Rattle.cyc_lower_proof.specs.inside.Lowering.{lower_global, lower_globals}
 
--- the globals from one on
+-- The list of globals from index i on.
 abbrev following : List Global → ℕ → List GlobalVariable
 following gs i = map view_global (drop i gs)
 
@@ -21,7 +22,8 @@ StartsLeft gs i first starts =
 
 -- ---- the initial words
 
--- the words of one global, some of which remain, without the first
+-- Says that the words computed so far, extended by the zeros that are left, are the words of the
+-- earlier globals and of this global.
 abbrev pub ZerosLeft : (old words : List ℕ) → (g : GlobalVariable) → (left : ℕ) → Type 0
 ZerosLeft old words g left = words ++ replicate (left - 1) 0 ≡ old ++ lower_global g
 

@@ -1,4 +1,5 @@
--- The first slots of locals, and the bytes before a field, in a loop that is not finished.
+-- This file has the invariants of the loops that compute the first slots of locals and the bytes
+-- before a field.
 use Rattle.std.proofs.Common.{◌≡◌, ℕ, suc, ◌+◌, ◌<◌, ◌≤◌, List, [], ◌∷◌, ◌++◌, length, get_or, drop, sym, ap, ◌∙◌, arith, append_assoc, append-nil}
 use Rattle.std.proofs.lemmas.List.{drop_all, drop_more}
 use Rattle.cyc_words.specs.Word.{add_of}
@@ -8,9 +9,10 @@ use Rattle.cyc_meaning.specs.Values.{kind_of, bytes_of_kind}
 use Rattle.cyc_meaning.specs.FrameCount.{words_of_all}
 use Rattle.cyc_lower_proof.specs.inside.Slots.{starts_from, begins_word, field_from}
 
--- the types that these codes represent
+-- The types that the type codes of the list represent.
 module _ (view : List TyCode → List Ty) (one : TyCode → Ty) where
-  -- the list so far equals the whole when extended by the remaining types, whose first one has its slots from this slot on
+  -- Says that the list computed so far, extended by the first slots of the remaining types, is the complete list. The
+  -- first of the remaining types has its slots from `slot` on.
   abbrev pub SlotsLeft : List TyCode → (first i slot : ℕ) → (old starts : List ℕ) → Type 0
   SlotsLeft ts first i slot old starts =
       (slot + words_of_all (view (drop i ts)) ≡ first + words_of_all (view ts)) × (starts ++ starts_from slot (view (drop i ts)) ≡ old ++ starts_from first (view ts))
@@ -43,7 +45,8 @@ module _ (view : List TyCode → List Ty) (one : TyCode → Ty) where
 
   -- ---- fields
 
-  -- the bytes so far and the bytes of the remaining fields are the bytes before the field
+  -- Says that the bytes counted so far and the bytes of the remaining fields add up to the bytes
+  -- before the field.
   abbrev pub BytesLeft : List TyCode → (field i bytes left : ℕ) → Type 0
   BytesLeft ts field i bytes left = field_from bytes (view (drop i ts)) left ≡ field_from 0 (view ts) field
 

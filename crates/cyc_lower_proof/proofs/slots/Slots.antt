@@ -1,4 +1,4 @@
--- The slots of locals do not overlap, are in order, and leave no gaps.
+-- The slots of locals do not overlap, are in the order of the locals, and leave no gaps.
 use Rattle.std.specs.Prelude.{unwrap_or, ◌-◌}
 use Rattle.std.proofs.Common.{◌≡◌, ◌≢◌, ◌⊎◌, ℕ, zero, suc, ◌+◌, ◌≤◌, ◌<◌, List, [], ◌∷◌, ◌++◌, length, Option, Some, slice_get, refl, sym, ap, ◌∙◌, arith, inl, inr, length-append, append_assoc, None}
 use Rattle.std.specs.List.{AllByRecursion}
@@ -72,7 +72,7 @@ starts-from [] slot n inside = absurd (omega (arith, inside))
 starts-from (t ∷ ts) slot zero inside = omega arith
 starts-from (t ∷ ts) slot (suc n) inside = omega (arith, starts-from ts (slot + words_of t) n (omega (arith, inside)))
 
--- the list contains the first slot of each local
+-- The list of first slots contains the first slot of each local.
 pub starts-are : (ts : Types) (n : ℕ) → n < length ts.locals → slot_of (starts_of ts) n ≡ slot_in ts.locals n
 starts-are ts n inside = omega (arith, starts-from ts.locals 0 n inside)
 
@@ -81,7 +81,7 @@ type-there [] n inside = absurd (omega (arith, inside))
 type-there (t ∷ ts) zero inside = (t, refl)
 type-there (t ∷ ts) (suc n) inside = type-there ts n (omega (arith, inside))
 
--- The slot of any local number is at most the first slot for temporaries.
+-- The first slot of a local, for every local number, is at most the first slot for temporaries.
 low-from : (ts : List Ty) (slot n : ℕ) → unwrap_or (slice_get (starts_from slot ts) n) 0 ≤ slot + words_of_all ts
 low-from [] slot n = omega arith
 low-from (t ∷ ts) slot zero = omega arith
@@ -90,7 +90,8 @@ low-from (t ∷ ts) slot (suc n) = omega (arith, low-from ts (slot + words_of t)
 pub slot-low : (ts : Types) (n : ℕ) → slot_of (starts_of ts) n ≤ words_of_all ts.locals
 slot-low ts n = omega (arith, low-from ts.locals 0 n)
 
--- The words of a local end before those of the next one begin, and all end before the first temporary.
+-- The words of a local end before those of the next local begin, and all of them end before the first
+-- temporary.
 pub words-there : (ts : List Ty) (n : ℕ) (t : Ty) → slice_get ts n ≡ Some t → words_in ts n ≡ words_of t
 words-there [] n t at = absurd (none-some t at)
 words-there (u ∷ ts) zero t at = ap words_of (same_Some u t at)
@@ -122,7 +123,7 @@ slot-apart ts n m inside there other = elim (cases_lt n m) [
   ]
 ]
 
--- a local that has room for a value exists
+-- If there is room for a value in the local with this number, then the local exists.
 has-words : (ts : List Ty) (n : ℕ) → 1 ≤ words_in ts n → n < length ts
 has-words [] n some = absurd (omega (arith, some))
 has-words (t ∷ ts) zero some = omega arith
@@ -133,7 +134,8 @@ room-inside ts n kind room = has-words ts.locals n (omega (arith, room, kind_pos
 
 -- ---- globals
 
--- the words of globals are consecutive, as the slots of locals are
+-- The types of globals are treated as types of locals, because the words of globals are
+-- consecutive, like the slots of locals.
 abbrev as_locals : Types → Types
 as_locals ts = record { locals = ts.globals; structs = ts.structs; raises = ts.raises; counters = []; globals = []; scopes = None }
 
@@ -150,14 +152,14 @@ global-apart ts n m inside there other = slot-apart (as_locals ts) n m inside th
 pub global-inside : (ts : Types) (n : ℕ) (kind : Kind) → HasGlobal ts n kind → n < length ts.globals
 global-inside ts n kind room = room-inside (as_locals ts) n kind room
 
--- the number of words of all globals
+-- The word count of all globals equals the length of the list of their initial words.
 pub global_words_counted : (gs : List GlobalVariable) → words_of_all (global_types gs) ≡ length (lower_globals gs)
 global_words_counted [] = refl
 global_words_counted (g ∷ gs) = omega (arith, length-append (lower_global g) (lower_globals gs), length-replicate {A = ℕ} (words_of g.of_type - 1) 0, words_positive g.of_type, global_words_counted gs)
 
 -- ---- parameters
 
--- the slot of a parameter is after the words of the previous parameters
+-- The slot of a parameter comes after the words of the earlier parameters.
 pub slot-parameter : (structs : List StructType) (raises : ℕ) (globals : List Ty) (scopes : Option ℕ) (first rest : List Ty) (t : Ty) (more : List Ty)
     → slot_of (starts_of (record { locals = (first ++ t ∷ rest) ++ more; structs = structs; raises = raises; counters = []; globals = globals; scopes = scopes })) (length first) ≡ words_of_all first
 slot-parameter structs raises globals scopes first rest t more =
@@ -191,11 +193,12 @@ starts-append slot (t ∷ ts) us =
     (starts-append (slot + words_of t) ts us
     ∙ ap (λ (n : ℕ). starts_from (slot + words_of t) ts ++ starts_from n us) (let e : slot + words_of t + words_of_all ts ≡ slot + words_of_all (t ∷ ts) = omega arith in e))
 
--- the number of slots of the locals is their number of words
+-- The locals and parameters of a function have as many slots as they have words.
 pub slots-few : (h : Function) → tag_slot h ≡ words_of_all h.parameters + words_of_all h.locals
 slots-few h = words-append h.parameters h.locals
 
--- the slots of the parameters, followed by those of the other locals
+-- The first slots of the parameters, followed by those of the other locals, are the first slots of
+-- all locals.
 pub slots-made : (h : Function) (following end : ℕ) (first all : List ℕ) → following ≡ words_of_all h.parameters → first ≡ starts_from 0 h.parameters
     → end ≡ following + words_of_all h.locals → all ≡ first ++ starts_from following h.locals → (all ≡ starts_from 0 (slot_types h)) × (end ≡ tag_slot h) × (end + 1 ≡ first_temporary h)
 slots-made h following end first all following_is first_is end_is all_is = (

@@ -1,4 +1,4 @@
--- The kinds of the results of expressions, and the words of locals.
+-- This file is about the kinds of the results of expressions and the words of locals.
 use Rattle.std.proofs.Common.{◌≡◌, ◌⊎◌, ℕ, zero, suc, ◌+◌, ◌≤◌, ◌<◌, true, false, List, [], ◌∷◌, length, Option, None, Some, slice_get, refl, sym, ap, ◌∙◌, arith, inl, inr, Bool}
 use Rattle.std.specs.Prelude.{◌==◌, max, not, ◌&&◌, if◌then◌else◌}
 use Rattle.std.proofs.lemmas.Bool.{eqb-true, eqb-false, and_parts, cases_Bool}
@@ -40,7 +40,7 @@ kind_few kinds.Fat = omega arith
 kind_few kinds.Handle = omega arith
 kind_few kinds.Key = omega arith
 
--- a kind of more than one word
+-- A kind of more than one word is the kind of fat pointers.
 pub wide_kind : (kind : Kind) → (words_of_kind kind == 1) ≡ false → kind ≡ kinds.Fat
 wide_kind kinds.Fat wide = refl
 wide_kind kinds.Int wide = absurd (let f : true ≡ false = wide in cc)
@@ -59,7 +59,8 @@ one_or_three kinds.NonNull = inl refl
 one_or_three kinds.Handle = inl refl
 one_or_three kinds.Key = inl refl
 
--- if a conversion changes the number of words, there are three before or after it
+-- If a conversion changes the number of words, then the value has three words before or after the
+-- conversion.
 pub more_words : (from to : Kind) → (words_of_kind from == words_of_kind to) ≡ false → 3 ≤ max (words_of_kind from) (words_of_kind to)
 more_words from to apart = elim (one_or_three from) [
   | inl one ↦ elim (one_or_three to) [
@@ -69,11 +70,11 @@ more_words from to apart = elim (one_or_three from) [
   | inr three ↦ omega (arith, three)
 ]
 
--- a conversion that keeps the words keeps their number
+-- A conversion that keeps the words of a value keeps their number.
 pub keeps_wide : (from to : Kind) → keeps_words from to ≡ true → words_of_kind from ≡ words_of_kind to
 keeps_wide from to keeps = eqb-true (words_of_kind from) (words_of_kind to) (and_parts (are_as_wide from to) (not (masks from to)) keeps).0
 
--- a conversion that keeps the words masks nothing
+-- A conversion that keeps the words of a value does not mask them to a byte.
 pub keeps_whole : (from to : Kind) → keeps_words from to ≡ true → masks from to ≡ false
 keeps_whole from to keeps = elim (cases_Bool (masks from to)) [
   | inl masked ↦ absurd (let f : false ≡ true = sym (ap (λ (b : Bool). not b) masked) ∙ (and_parts (are_as_wide from to) (not (masks from to)) keeps).1 in cc)
@@ -84,7 +85,8 @@ masks_are : (from to : Kind) → masks from to ≡ true → (from ≡ kinds.Int)
 masks_are kinds.Int kinds.Char is = (refl, refl)
 masks_are from to is = absurd (let f : false ≡ true = is in cc)
 
--- any other conversion is from an int to a char, or changes the number of words
+-- A conversion that does not keep the words of a value is from an int to a char, or changes the
+-- number of words.
 pub changes_words : (from to : Kind) → keeps_words from to ≡ false → ((from ≡ kinds.Int) × (to ≡ kinds.Char)) ⊎ (are_as_wide from to ≡ false)
 changes_words from to changes = elim (cases_Bool (are_as_wide from to)) [
   | inl wide ↦ elim (cases_Bool (masks from to)) [
@@ -96,21 +98,21 @@ changes_words from to changes = elim (cases_Bool (are_as_wide from to)) [
   | inr narrow ↦ inr narrow
 ]
 
--- a conversion to a kind that is not char changes the number of words
+-- A conversion to a kind other than char that does not keep the words changes their number.
 pub changes_wide : (from to : Kind) → is_kind to kinds.Char ≡ false → keeps_words from to ≡ false → are_as_wide from to ≡ false
 changes_wide from to plain changes = elim (changes_words from to changes) [
   | inl masked ↦ absurd (let f : true ≡ false = sym (ap (λ (k : Kind). is_kind k kinds.Char) masked.1) ∙ plain in cc)
   | inr narrow ↦ narrow
 ]
 
--- if a conversion to another kind changes the words, its target is a pointer or a char
+-- If a conversion to another kind does not keep the words, then its target is a pointer or a char.
 pub changes : (from to : Kind) → is_converted from to ≡ true → keeps_words from to ≡ false → (to ≡ kinds.Char) ⊎ (is_pointer to ≡ true)
 changes from to known changed = elim (changes_words from to changed) [
   | inl masked ↦ inl masked.1
   | inr narrow ↦ inr (sym (ap (λ (b : Bool). if b then true else is_pointer to) narrow) ∙ known)
 ]
 
--- a cell of a type has the words of its kind
+-- A value of a type has as many words as its kind.
 pub type_words : (t : Ty) → words_of_kind (kind_of t) ≡ words_of t
 type_words types.Int = refl
 type_words types.Char = refl
@@ -152,7 +154,7 @@ same_kinds (a ∷ these) (b ∷ those) are =
 
 -- ---- the results of expressions
 
--- the kind of the result of a function or of a callee
+-- The kind of the result of a function.
 abbrev pub kind_of_result : Option Ty → Kind
 kind_of_result None = kinds.Int
 kind_of_result (Some t) = kind_of t
@@ -161,7 +163,7 @@ abbrev pub result_kind : Option Signature → Kind
 result_kind None = kinds.Int
 result_kind (Some s) = kind_of_result s.result
 
--- the kind of the result of operators, after a left operand of a kind
+-- The kind of the result of an operator chain, given the kind of its left operand.
 abbrev pub chain_kind : Kind → Operations → Kind
 chain_kind kind NoOperations = kind
 chain_kind kind (ThenCompute o b os) = chain_kind kinds.Int os
@@ -205,33 +207,34 @@ words_in [] n = 0
 words_in (t ∷ ts) zero = words_of t
 words_in (t ∷ ts) (suc n) = words_in ts n
 
--- true if the local with this number has room for a value of this kind
+-- Holds if the local with this number has room for a value of this kind.
 abbrev pub HasRoom : Types → ℕ → Kind → Type 0
 HasRoom types n kind = words_of_kind kind ≤ words_in types.locals n
 
--- the kind of the local, or global, with this number
+-- The kind of the local or global with number n in a list of types.
 abbrev pub kind_in : List Ty → ℕ → Kind
 kind_in [] n = kinds.Int
 kind_in (t ∷ ts) zero = kind_of t
 kind_in (t ∷ ts) (suc n) = kind_in ts n
 
--- true if the local with this number has this kind, and room for such a value
+-- Holds if the local with this number has this kind and has room for a value of the kind.
 abbrev pub HasLocal : Types → ℕ → Kind → Type 0
 HasLocal types n kind = HasRoom types n kind × (kind_in types.locals n ≡ kind)
 
--- true if the global with this number has this kind, and room for such a value
+-- Holds if the global with this number has room for a value of this kind.
 abbrev pub HasGlobal : Types → ℕ → Kind → Type 0
 HasGlobal types n kind = words_of_kind kind ≤ words_in types.globals n
 
--- true if the local, or global, with this number has the kind of the target of such a pointer
+-- Holds if the local or global with this number has the kind to which a pointer of type `pointer`
+-- points.
 abbrev pub HasVariable : List Ty → ℕ → (pointer : Ty) → Type 0
 HasVariable ts n pointer = (t : Ty) × (slice_get ts n ≡ Some t) × (kind_after pointer ≡ kind_of t)
 
--- true if the struct with this number has a field with that number
+-- Holds if the struct with this number has a field with index `field`.
 abbrev pub HasField : Types → (number field : ℕ) → Type 0
 HasField types number field = (s : StructType) × (slice_get types.structs number ≡ Some s) × (field < length s.fields)
 
--- true if n is outside of these consecutive places
+-- Holds if n is not one of the `many` numbers from `first` on.
 abbrev pub Outside : (first many n : ℕ) → Type 0
 Outside first many n = (n < first) ⊎ (first + many ≤ n)
 
@@ -240,6 +243,6 @@ pub unary_one_word : (o : UnaryOperator) → words_of_kind (unary_kind o) ≡ 1
 unary_one_word unary.LowByte = refl
 unary_one_word o = refl
 
--- a value is passed with the number of words of its converted kind
+-- A value is passed with as many words as the kind to which it is converted.
 pub passed_is : (c : Converted) → passed_words c ≡ words_of_kind (kind_passed c)
 passed_is (Convert from to a) = refl

@@ -1,4 +1,5 @@
--- The steps that pass a value to an assigned place, and then to the user of the value of the assignment.
+-- This file proves the steps that pass a value to an assigned variable or cell, and then to the code
+-- that uses the value of the assignment.
 use Rattle.std.proofs.Common.{◌≡◌, ◌≢◌, ℕ, ◌+◌, ◌<◌, Bool, true, false, List, [], ◌∷◌, Option, Some, refl, sym, ap, subst, ◌∙◌, arith, inl, inr, length, ◌*◌, ◌++◌, ◌≤◌}
 use Rattle.std.specs.Prelude.{◌==◌}
 use Rattle.std.proofs.lemmas.Bool.{eqb-true}
@@ -58,13 +59,13 @@ use Rattle.cyc_lower_proof.proofs.value_steps.Conversions.{Stands, GoesAfter}
 module _ (source : Program) (pages calls : ℕ) where
   -- ---- assignments
 
-  -- the value of an assignment is at its destination, or one instruction moves it there
+  -- The value of an assignment is at its destination, or one instruction moves it there.
   pub data Handed (v : Kinded) (k : List Entry) (e : Environment) (w : World) (c : Configuration) : Type 0 where
     at_once : Related source pages calls (Given v) k e w c → Handed v k e w c
     by_copy : (i : Instruction) → At (code_of source c.active.function) c.active.next i
         → ((choice : Choice) → Matches source pages calls (Running (Given v) k e w) (performed (lower_program source) choice c i)) → Handed v k e w c
 
-  -- a value that is already in a slot is at its destination
+  -- A value that is already in the slot of its destination needs no move.
   pub landed_there : (v : Kinded) (d : ℕ) (k : List Entry) (e : Environment) (w : World) (c : Configuration) (q : ℕ) → Stands source pages calls v (operands.Slot d) k e w c → c.active.next ≡ q
       → LandsStack source c.active.function e.locals v.kind d q c.frames k → Related source pages calls (Given v) k e w c
   landed_there v d k e w c q (shared, facts, is, holds) end (in_temporary least stack) =
@@ -91,7 +92,7 @@ module _ (source : Program) (pages calls : ℕ) where
   handed v o k e w c q here stands (copies d r copy lands) =
       copied (is_in o d) v o d k e w c r refl stands (subst (λ x. CopyAt (code_of source c.active.function) (words_of_kind v.kind) o d x r) (sym here) copy) lands
 
-  -- a step passes the value on after one instruction or none
+  -- After one instruction or none, a step passes the assigned value on.
   hands_after : {focus : Focus} {before : List Entry} {w0 : World} {i : Instruction} (v : Kinded) (k : List Entry) (e : Environment) (w : World) (c d : Configuration)
       → step source (Running focus before e w0) ≡ Running (Given v) k e w → SharedAt source pages calls before e w0 c → SharedAt source pages calls before e w0 d
       → At (code_of source c.active.function) c.active.next i → ((choice : Choice) → performed (lower_program source) choice c i ≡ plain.Running d) → c.active.next ≢ d.active.next
@@ -101,7 +102,7 @@ module _ (source : Program) (pages calls : ℕ) where
   hands_after {focus} {before} {w0} {i} v k e w c d does shared shared_d here first other (by_copy j at goes) =
       by_two source pages calls d does shared shared_d here first at other goes
 
-  -- a step passes the value on after several instructions
+  -- After several instructions, a step passes the assigned value on.
   hands_through : {focus : Focus} {before : List Entry} {w0 : World} (v : Kinded) (k : List Entry) (e : Environment) (w : World) (c d : Configuration) (links : List Link) → 0 < length links
       → step source (Running focus before e w0) ≡ Running (Given v) k e w → SharedAt source pages calls before e w0 c → IsPath source c links → end_of c links ≡ d
       → Handed v k e w d → IsMatched source pages calls (Running focus before e w0) (plain.Running c)
@@ -111,11 +112,11 @@ module _ (source : Program) (pages calls : ℕ) where
       by_path source pages calls focus before e w0 c (Running (Given v) k e w) links j does shared path (subst (λ x. At (code_of source x.active.function) x.active.next j) (sym end) here)
       (λ choice. subst (λ x. Matches source pages calls (Running (Given v) k e w) (performed (lower_program source) choice x j)) (sym end) (goes choice))
 
-  -- true if the word of the value is in an operand now
+  -- Holds if an operand contains the word of the value in this configuration.
   abbrev IsWordNow : Configuration → Kinded → Operand → Type 0
   IsWordNow c v o = (t : Tables) → IsIn t v c.active.slots o → IsWord t v.kind v.value (operand_word c.active.slots o)
 
-  -- a step stores a value and passes it on after several instructions
+  -- A step stores a value, and after several instructions the value is passed on.
   hands_stored : {i : Instruction} (v : Kinded) (before : List Entry) (k : List Entry) (e : Environment) (w0 w : World) (c d : Configuration) (links : List Link)
       → step source (Running (Given v) before e w0) ≡ Running (Given v) k e w → SharedAt source pages calls before e w0 c → IsPath source c links
       → At (code_of source (end_of c links).active.function) (end_of c links).active.next i → ((choice : Choice) → performed (lower_program source) choice (end_of c links) i ≡ plain.Running d)
@@ -128,7 +129,7 @@ module _ (source : Program) (pages calls : ℕ) where
       (subst (λ (x : Configuration). At (code_of source x.active.function) x.active.next j) (sym ends) at)
       (λ choice. subst (λ (x : Configuration). Matches source pages calls (Running (Given v) k e w) (performed (lower_program source) choice x j)) (sym ends) (goes choice))
 
-  -- a step stores a value in memory and passes it on after several instructions
+  -- A step stores a value in memory, and after several instructions the value is passed on.
   hands_saved : {i : Instruction} (v : Kinded) (before : List Entry) (k : List Entry) (e : Environment) (w0 w : World) (c d : Configuration)
       → step source (Running (Given v) before e w0) ≡ Running (Given v) k e w → SharedAt source pages calls before e w0 c → plain_step.is_within pages calls (plain.Running d) ≡ true → plain.seen_of (plain.Running d) ≡ seen_in w0
       → At (code_of source c.active.function) c.active.next i → ((choice : Choice) → performed (lower_program source) choice c i ≡ plain.Running d) → c.active.next ≢ d.active.next
@@ -208,7 +209,7 @@ module _ (source : Program) (pages calls : ℕ) where
       subst (λ p. GoesAfter source pages calls v (Needs (Store p) ∷ k) e w c) (sym place_is)
       (stores object v l o to k e w c q (sym (object_of_same l e) ∙ found) (subst (λ p. IsWell (stored_at p v (Given v) k e w)) place_is well) stands here hands)
 
-  -- a stored word is a word
+  -- The word in a store instruction is a 32-bit word.
   stored_has : (kind : Kind) (address : Operand) (bytes n : ℕ) → HasWord (store_of kind address bytes (operands.Word n)) → IsMachineWord n
   stored_has kinds.Char address bytes n has = has.2
   stored_has kind address bytes n has = has.2
@@ -223,12 +224,13 @@ module _ (source : Program) (pages calls : ℕ) where
       (All_at HasWord (code_of source g) p (store_of kind address bytes (operands.Word n))
       (of_words.functions g no_routine (function_known (lower_program source) place (store_of kind address bytes (operands.Word n)) here)) here)
 
-  -- an operand of one word keeps its value when that word is written
+  -- Writing the word of a one-word value over words of the same content does not change the value
+  -- in an operand.
   stays_in : (t : Tables) (v : Kinded) (o : Operand) (slots other : Words) → ((n : ℕ) → slots n ≡ operand_word slots o → other n ≡ operand_word slots o) → IsWord t v.kind v.value (operand_word slots o) → IsIn t v slots o → IsIn t v other o
   stays_in t v (operands.Slot n) slots other same tells is = IsWord-is t v.kind v.value (slots n) other n (same n refl) tells
   stays_in t v (operands.Word w) slots other same tells is = is
 
-  -- A value of one word is stored in a cell, whose address is pending in a temporary. After the store, the value of one word is passed on.
+  -- A value of one word is stored in a cell, whose address waits in a temporary. After the store, the value of one word is passed on.
   stores_word : (peek : Option ℕ) (object offset : ℕ) (v : Kinded) (o : Operand) (q : ℕ) (k : List Entry) (e : Environment) (w : World) (c : Configuration) → HasWords (lower_program source) → plain.HoldsWords (plain.Running c) → AreNamed source e.locals (callers k) w c.active.function c.active.base c.frames c.store
       → IsWell (step source (Running (Given v) (Needs (StoreCell peek (Thin object offset)) ∷ k) e w)) → Stands source pages calls v o (Needs (StoreCell peek (Thin object offset)) ∷ k) e w c
       → IsWordNow c v o → At (code_of source c.active.function) c.active.next (store_of v.kind (operands.Slot (top source c.active.function k)) 0 o) → c.active.next + 1 ≡ q
@@ -258,7 +260,7 @@ module _ (source : Program) (pages calls : ℕ) where
         Holds-above shared.tables c.active.slots after.active.slots (floor source g k) (held k) (λ m above. above_there source pages calls k e w c shared names facts object offset address word at v.value found points is_word fits m (omega (arith, above, floor-least source g k))) holds,
       ) (hands_moves source g e.locals v.kind o q c.frames after.frames (frames_there source pages calls k e w c shared names facts object offset address word at v.value found points is_word fits) k hands))
 
-  -- A value of three words is stored in a cell, whose address is pending in a temporary. After the store, the value of three words is
+  -- A value of three words is stored in a cell, whose address waits in a temporary. After the store, the value of three words is
   -- passed on.
   stores_words : (peek : Option ℕ) (object offset : ℕ) (v : Kinded) (n q : ℕ) (k : List Entry) (e : Environment) (w : World) (c : Configuration) → plain.HoldsWords (plain.Running c) → AreNamed source e.locals (callers k) w c.active.function c.active.base c.frames c.store
       → IsWell (step source (Running (Given v) (Needs (StoreCell peek (Thin object offset)) ∷ k) e w)) → Stands source pages calls v (operands.Slot n) (Needs (StoreCell peek (Thin object offset)) ∷ k) e w c
@@ -323,7 +325,7 @@ module _ (source : Program) (pages calls : ℕ) where
           (subst (λ i. StoresAt (code_of source g) (bounds_at source g) (types_on source g k) i (words_of_kind i) (top source g k) 0 n c.active.next q) fat here) hands
   stores_cell peek place v o k e w c of_words words names well stands stack = absurd (well refl)
 
-  -- the local already has the value
+  -- The local already has the value in its slots when the source assigns it.
   pub catches_up : (object n : ℕ) (old : Words) (v : Kinded) (k : List Entry) (e : Environment) (w : World) (c : Configuration) (shared : SharedAt source pages calls k e w c)
       → e.locals n ≡ Some object → IsWell (stored_at (Thin object 0) v (Given v) k e w)
       → ((m : ℕ) → Outside (slot_of (starts_on source c.active.function k) n) (words_of_kind v.kind) m → old m ≡ c.active.slots m) → DataIn source shared.tables old k e w c

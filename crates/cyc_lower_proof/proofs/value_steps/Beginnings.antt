@@ -1,4 +1,5 @@
--- The steps that begin an expression whose value is moved to a slot or to an operand, or is dropped.
+-- This file proves the steps that begin an expression whose value is moved to a slot or to an
+-- operand, or is dropped.
 use Rattle.std.proofs.Common.{◌≡◌, ℕ, ◌+◌, ◌≤◌, ◌<◌, Bool, true, false, List, [], ◌∷◌, Option, None, Some, slice_get, refl, sym, ap, subst, ◌∙◌, arith, inr, zero, suc, ◌-◌, ◌*◌, add-zero}
 use Rattle.std.specs.Prelude.{if◌then◌else◌}
 use Rattle.std.proofs.lemmas.Bool.{eq-eqb}
@@ -70,7 +71,7 @@ use Rattle.cyc_lower_proof.proofs.value_steps.Landings.{lands_made, landed, land
 module _ (source : Program) (pages calls : ℕ) where
   -- ---- expressions, by the destination of the value
 
-  -- the facts at each of these steps
+  -- The facts that are known at each step that begins an expression.
   abbrev pub At_step : Expression → List Entry → Environment → World → Configuration → Type 0
   At_step a k e w c = IsWell (step source (Running (Evaluating a) k e w)) × (shared : SharedAt source pages calls k e w c) × DataIn source shared.tables c.active.slots k e w c
       × Holds shared.tables c.active.slots (floor source c.active.function k) (held k)
@@ -91,7 +92,7 @@ module _ (source : Program) (pages calls : ℕ) where
       )
       (omega (arith, found.some))
 
-  -- without masking, the code is that of the expression
+  -- If a conversion does not mask a value, then its code begins with the code of the expression.
   plain_operand : (from to : Kind) (a : Expression) (k : List Entry) (c : Configuration) (slot : ℕ) (o : Operand) (m : ℕ) → masks from to ≡ false
       → OperandBy (code_of source c.active.function) (bounds_at source c.active.function) (types_on source c.active.function k) (operand_of (starts_on source c.active.function k) a)
       (BroughtAt (code_of source c.active.function) (bounds_at source c.active.function) (types_on source c.active.function k) (Convert from to a) slot (top source c.active.function k) c.active.next m) slot o c.active.next m
@@ -100,7 +101,8 @@ module _ (source : Program) (pages calls : ℕ) where
   plain_operand kinds.Int kinds.Char a k c slot o m whole at = absurd (let f : true ≡ false = whole in cc)
   plain_operand from to a k c slot o m whole at = at
 
-  -- A value that will be converted: it is in an operand, or in a temporary if its words change.
+  -- A value that will be converted is in an operand, or in a temporary if the conversion changes
+  -- its words.
   pub sources : (t : Tables) (from to : Kind) (a : Expression) (k : List Entry) (e : Environment) (w : World) (c : Configuration) (o : Operand) (m q : ℕ)
       → OperandBy (code_of source c.active.function) (bounds_at source c.active.function) (types_on source c.active.function k) (source_of (starts_on source c.active.function k) (Convert from to a))
       (BroughtAt (code_of source c.active.function) (bounds_at source c.active.function) (types_on source c.active.function k) (Convert from to a) (source_slot (starts_on source c.active.function k) (Convert from to a) (top source c.active.function k)) (top source c.active.function k) c.active.next m)
@@ -127,7 +129,7 @@ module _ (source : Program) (pages calls : ℕ) where
           (subst (λ x. ConversionAt (code_of source c.active.function) (bounds_at source c.active.function) (types_on source c.active.function k) from to (span_of a) x (top source c.active.function k) m q) is at_to) holds
           (subst (λ x. ValueStack source c.active.function e.locals to x q c.frames k) is stack)
 
-  -- An assigned value is moved to the slots of the local at once, or after its conversion.
+  -- An assigned value is moved to the slots of the local before its conversion or after it.
   assigns_local : (there : Bool) (n : ℕ) (from to : Kind) (a : Expression) (k : List Entry) (e : Environment) (w : World) (c : Configuration) (object : ℕ) (o : Operand) (m : ℕ)
       → converts_there from to ≡ there → e.locals n ≡ Some object → (shared : SharedAt source pages calls k e w c) → DataIn source shared.tables c.active.slots k e w c
       → Holds shared.tables c.active.slots (floor source c.active.function k) (held k)
@@ -147,7 +149,7 @@ module _ (source : Program) (pages calls : ℕ) where
       let place : Lvalue = Local (record { line = 0; column = 0 }) n in
       (shared, facts, sources shared.tables from to a (Needs (Store (Thin object 0)) ∷ k) e w c x r s at_a at_to holds (place, o, m, (move, end, there, room), (object, refl, found), hands))
 
-  -- a place is assigned, and then the value of the assignment is passed on
+  -- A variable is assigned, and then the value of the assignment is passed on.
   assigns : (l : Lvalue) (from to : Kind) (a : Expression) (t : ValueType) (k : List Entry) (e : Environment) (w : World) (c : Configuration) (object : Option ℕ) (o : Operand) (m : ℕ)
       → object_of e l ≡ object → At_step (Assign l (Convert from to a) t) k e w c
       → AssignmentAt (code_of source c.active.function) (bounds_at source c.active.function) (types_on source c.active.function k) l (Convert from to a) o (top source c.active.function k) c.active.next m
@@ -167,7 +169,7 @@ module _ (source : Program) (pages calls : ℕ) where
       (shared, facts, sources shared.tables from to a (Needs (Store (Thin object 0)) ∷ k) e w c o r s at_a at_to holds (Global n, o, m, (store, refl, room), (object, refl, found), hands))
       (omega arith)
 
-  -- storing in a cell begins with the evaluation of its place
+  -- Storing in a cell begins with the evaluation of the cell's address.
   cell_begins : (x : Dereference) (from to : Kind) (a : Expression) (t : ValueType) (k : List Entry) (e : Environment) (w : World) (c : Configuration) (o : Operand) (m : ℕ)
       → At_step (typed.Store x (Convert from to a) t) k e w c
       → StoredAt (code_of source c.active.function) (bounds_at source c.active.function) (types_on source c.active.function k) x (Convert from to a) (top source c.active.function k) o c.active.next m
@@ -177,7 +179,7 @@ module _ (source : Program) (pages calls : ℕ) where
       (shared, facts, (b, offset, r, at, holds, (o, s, u, m, address, at_a, store, hands)))
       (omega arith)
 
-  -- a byte is printed
+  -- A call of `putchar` prints a byte.
   prints : (cs : Arguments) (t : ValueType) (k : List Entry) (e : Environment) (w : World) (c : Configuration) (o : Operand) (m : ℕ) → At_step (Call callees.Putchar cs t) k e w c
       → PrintedAt (code_of source c.active.function) (bounds_at source c.active.function) (types_on source c.active.function k) cs (top source c.active.function k) o c.active.next m
       → PrintsStack source c.active.function e.locals o m c.frames k → IsBegun (Call callees.Putchar cs t) k e w c
@@ -198,7 +200,7 @@ module _ (source : Program) (pages calls : ℕ) where
       (passes_related source pages calls f [] cs k e w c d m q (all_passed cs) shared facts at call (omega arith) holds lands)
       (omega (arith, passes_weight source pages calls f [] cs k e w))
 
-  -- the operand of an expression is a local or the next temporary
+  -- The operand of an expression is a local, a constant, or the next temporary.
   operand_is : (code : List Instruction) (b : Numbering) (types : Types) (a : Expression) (t p q : ℕ) (o : Operand) → ValueAt code b types a t o p q → o ≡ operand_or (operand_of (starts_of types) a) (value_slot (starts_of types) a t)
   operand_is code b types a t p q o at = by (operand_of (starts_of types) a) at
     where
@@ -228,7 +230,7 @@ module _ (source : Program) (pages calls : ℕ) where
       by (Unary unary.Widen x) = by x
       by x = omega arith
 
-  -- the operand is at most that temporary
+  -- The operand of an expression is a constant or is in a slot up to the next temporary.
   pub low_here : (a : Expression) (k : List Entry) (c : Configuration) (o : Operand) (q : ℕ)
       → ValueAt (code_of source c.active.function) (bounds_at source c.active.function) (types_on source c.active.function k) a (top source c.active.function k) o c.active.next q → IsLow o (top source c.active.function k)
   low_here a k c o q at =
@@ -236,7 +238,7 @@ module _ (source : Program) (pages calls : ℕ) where
       operand_low (types_on source g k) a (top source g k) o (omega (arith, height-least (floor source g k) (held k), floor-least source g k)) (counters_low (floor source g k) k)
       (operand_is (code_of source g) (bounds_at source g) (types_on source g k) a (top source g k) c.active.next q o at)
 
-  -- the first operand of a chain: it may have no code if the second is simple
+  -- The first operand of an operator chain may have no code if the second operand is simple.
   pub chain_begins : (simple : Bool) (a : Expression) (os : Operations) (t : Ty) (k : List Entry) (e : Environment) (w : World) (c : Configuration) (l : Operand) (m : ℕ) → At_step (Binary a os t) k e w c
       → OperandBy (code_of source c.active.function) (bounds_at source c.active.function) (types_on source c.active.function k) (left_with simple (operand_of (starts_on source c.active.function k) a))
       (ExpressionAt (code_of source c.active.function) (bounds_at source c.active.function) (types_on source c.active.function k) a (slot_with (starts_on source c.active.function k) simple a (top source c.active.function k)) (top source c.active.function k) c.active.next m)
@@ -253,7 +255,7 @@ module _ (source : Program) (pages calls : ℕ) where
       (shared, facts, into_slot (top source g k) m at holds (in_temporary (omega arith) (subst (λ x. ValueStack source g e.locals (given_at source g a) x m c.frames (Needs (Chain os) ∷ k)) is (stack low))))
       (omega arith)
 
-  -- the value of a local is moved
+  -- The value of a local is moved to slot d.
   comes_from : (a : Expression) (n : ℕ) (t : Ty) (k : List Entry) (e : Environment) (w : World) (c : Configuration) (d q : ℕ)
       → step source (Running (Evaluating a) k e w) ≡ loaded_from (kind_of t) (e.locals n) k e w → IsWell (loaded_from (kind_of t) (e.locals n) k e w)
       → (shared : SharedAt source pages calls k e w c) → DataIn source shared.tables c.active.slots k e w c → Holds shared.tables c.active.slots (floor source c.active.function k) (held k)
@@ -267,7 +269,8 @@ module _ (source : Program) (pages calls : ℕ) where
       by_one source pages calls (does ∙ found.gives) shared (subst (λ x. CodeAt (code_of source g) c.active.next (move_of x d o)) (sym (type_words t)) at)
       (λ choice. landed_moved source pages calls v o d k e w c q choice shared (facts.0.2.holds n found.number v found.there found.has).0 facts holds end lands)
 
-  -- The values of a new object are moved to slots, in the region of this handle. The step outweighs the content of the object.
+  -- The values of a new object are moved to slots; the object is allocated in the region of this handle. The weight of the
+  -- step exceeds the weight of the object's content.
   pub made_of : (focus : Focus) (k₀ : List Entry) (owner : Owner) (handle : Operand) (i : Initial) (k : List Entry) (e : Environment) (w : World) (c : Configuration) (d q : ℕ)
       → step source (Running focus k₀ e w) ≡ makes owner i k e w → suc (object_weight i + stack_weight k) < weight (Running focus k₀ e w)
       → IsHandleOf owner handle (top source c.active.function k) k → (shared : SharedAt source pages calls k e w c) → DataIn source shared.tables c.active.slots k e w c
@@ -298,7 +301,7 @@ module _ (source : Program) (pages calls : ℕ) where
       (shared, facts, into_slot (top source g k) m at_n holds (in_temporary (omega arith) (handle, d, h, r, s, q, owned, refl, begun, level_is, at_a, lands)))
       (omega (arith, lighter))
 
-  -- a value is loaded from a global
+  -- A value is loaded from a global into slots.
   global_comes : {focus : Focus} (v : Kinded) (words first d : ℕ) (k : List Entry) (e : Environment) (w : World) (c : Configuration) (q : ℕ) → words_of_kind v.kind ≡ words
       → step source (Running focus k e w) ≡ Running (Given v) k e w → (shared : SharedAt source pages calls k e w c) → Is shared.tables v.kind v.value c.globals first
       → DataIn source shared.tables c.active.slots k e w c → Holds shared.tables c.active.slots (floor source c.active.function k) (held k)
@@ -327,7 +330,8 @@ module _ (source : Program) (pages calls : ℕ) where
       (landed source pages calls v (put c.active.slots d word) d k e w c q shared (subst (Points shared.tables object 0) (sym (put-same c.active.slots d word)) points)
       (λ m out. put_elsewhere c.active.slots d word 1 m (omega arith) out) facts holds end lands))
 
-  -- the address of a char is that of the last byte of its word, and is moved to a slot
+  -- The address of a variable of type char is the address of the last byte of its word, and this
+  -- address is moved to a slot.
   addresses_last : (kind : Kind) (object x d : ℕ) (a : Expression) (i : Instruction) (k : List Entry) (e : Environment) (w : World) (c : Configuration) (q : ℕ)
       → step source (Running (Evaluating a) k e w) ≡ Running (Given (record { kind = kinds.NonNull; value = Thin object 0 })) k e w → CodeAt (code_of source c.active.function) c.active.next i
       → ((choice : Choice) → performed (lower_program source) choice c i ≡ plain.Running (advanced (with_slots c (put c.active.slots d x))))
@@ -351,7 +355,7 @@ module _ (source : Program) (pages calls : ℕ) where
   widened_lands g locals kind d q frames k one (in_temporary least stack) = in_temporary least stack
   widened_lands g locals kind d q frames k one (in_local below stack) = in_local (omega (arith, below, one)) (one, stack)
 
-  -- the operand of an operator is evaluated
+  -- The operand of a unary operator is evaluated.
   computes : (u : UnaryOperator) (a : Expression) (k : List Entry) (e : Environment) (w : World) (c : Configuration) (o : Operand) (m : ℕ) → At_step (Unary u a) k e w c
       → ValueAt (code_of source c.active.function) (bounds_at source c.active.function) (types_on source c.active.function k) a (top source c.active.function k) o c.active.next m
       → ValueStack source c.active.function e.locals (given_at source c.active.function a) o m c.frames (Needs (Operate u) ∷ k) → IsBegun (Unary u a) k e w c
@@ -488,7 +492,7 @@ module _ (source : Program) (pages calls : ℕ) where
   in_top a k e w c o q known (is, at) stack =
       comes a k e w c (top source c.active.function k) q known at (in_temporary (omega arith) (subst (λ x. ValueStack source c.active.function e.locals (given_at source c.active.function a) x q c.frames k) is stack))
 
-  -- the code of an operand, without the further facts about it
+  -- The code of an operand, without the further facts that the relation states about it.
   pub only_computed : (code : List Instruction) (b : Numbering) (types : Types) (known : Option Operand) (one computed : Type 0) (slot : ℕ) (o : Operand) (p q : ℕ)
       → OperandBy code b types known (one × computed) slot o p q → OperandBy code b types known computed slot o p q
   only_computed code b types (Some x) one computed slot o p q at = at

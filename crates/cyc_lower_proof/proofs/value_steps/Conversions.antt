@@ -1,4 +1,5 @@
--- Checks that raise an exception, and the steps that pass a value to a conversion.
+-- This file proves the checks that raise an exception, and the steps that pass a value to a
+-- conversion.
 use Rattle.std.proofs.Common.{◌≡◌, ℕ, ◌+◌, Bool, true, false, List, ◌∷◌, Option, refl, sym, ap, subst, ◌∙◌, arith, inl, inr, bit_and}
 use Rattle.std.specs.Prelude.{◌==◌, ◌&&◌, if◌then◌else◌, ◌%◌, option_map}
 use Rattle.std.proofs.lemmas.Bool.{eqb-false, and_parts}
@@ -43,14 +44,14 @@ use Rattle.cyc_lower_proof.proofs.value_steps.Landings.{landed_char}
 use Rattle.cyc_lower_proof.proofs.value_steps.ValueWords.{of_kind, as_wide, int_is, not_zero, not_widened, not_narrowed, kept_at, kept_in, char_low}
 
 module _ (source : Program) (pages calls : ℕ) where
-  -- a branch that is taken, and one that is not
+  -- The state after a branch that is taken, and the state after a branch that is not taken.
   pub taken : (s : State) (c : Configuration) (b : Bool) (target : ℕ) → b ≡ true → Matches source pages calls s (plain.Running (at c target)) → Matches source pages calls s (plain_step.branches c b target)
   taken s c b target is m = subst (λ (x : Bool). Matches source pages calls s (plain_step.branches c x target)) (sym is) m
 
   pub not_taken : (s : State) (c : Configuration) (b : Bool) (target : ℕ) → b ≡ false → Matches source pages calls s (plain.Running (at c (c.active.next + 1))) → Matches source pages calls s (plain_step.branches c b target)
   not_taken s c b target is m = subst (λ (x : Bool). Matches source pages calls s (plain_step.branches c x target)) (sym is) m
 
-  -- if a check fails, its exception is raised
+  -- If a check fails, then the exception of the check is raised.
   pub guard_fails : {focus : Focus} {l : List Entry} (tag : ℕ) (failing : Comparison) (x y : Operand) (k : List Entry) (e : Environment) (w : World) (c : Configuration) (q : ℕ)
       → step source (Running focus l e w) ≡ Running (Throwing tag 0) k e w → SharedAt source pages calls l e w c → (shared : SharedAt source pages calls k e w c) → IsMachineWord tag → DataIn source shared.tables c.active.slots k e w c
       → GuardAt (code_of source c.active.function) (bounds_at source c.active.function) (types_on source c.active.function k) tag failing x y c.active.next q
@@ -60,7 +61,7 @@ module _ (source : Program) (pages calls : ℕ) where
       (λ choice. taken (Running (Throwing tag 0) k e w) c (compares failing (operand_word c.active.slots x) (operand_word c.active.slots y)) s fails
       (raised source pages calls tag 0 k e w (at c s) (operands.Word tag) (operands.Word 0) word shared_there facts raising_it refl refl))
 
-  -- if a check does not fail, the run continues after it
+  -- If a check does not fail, then the run continues after the check.
   pub guard_passes : {focus : Focus} {l : List Entry} (next : State) (tag : ℕ) (failing : Comparison) (x y : Operand) (e : Environment) (w : World) (c : Configuration) (q : ℕ)
       → step source (Running focus l e w) ≡ next → SharedAt source pages calls l e w c
       → GuardAt (code_of source c.active.function) (bounds_at source c.active.function) (types_at source c.active.function) tag failing x y c.active.next q
@@ -71,7 +72,7 @@ module _ (source : Program) (pages calls : ℕ) where
       (λ choice. not_taken next c (compares failing (operand_word c.active.slots x) (operand_word c.active.slots y)) s passes
       (subst (λ n. Matches source pages calls next (plain.Running (at c n))) (sym end) goes))
 
-  -- the facts about a value in an operand
+  -- States the facts that are known about a value in an operand.
   abbrev pub Stands : Kinded → Operand → List Entry → Environment → World → Configuration → Type 0
   Stands v o k e w c = (shared : SharedAt source pages calls k e w c) × DataIn source shared.tables c.active.slots k e w c × IsIn shared.tables v c.active.slots o
       × Holds shared.tables c.active.slots (floor source c.active.function k) (held k)
@@ -81,7 +82,7 @@ module _ (source : Program) (pages calls : ℕ) where
 
   -- ---- conversions
 
-  -- the given value is passed on, and nothing is executed
+  -- A conversion that keeps the words passes the value on and executes no instruction.
   kept_value : (from to : Kind) (target : Option Kind) (i : Kind) (v : Value) (o : Operand) (k : List Entry) (e : Environment) (w : World) (c : Configuration) (q : ℕ)
       → words_of_kind i ≡ words_of_kind to → conversion to v ≡ Gives v
       → step source (Running (Given (of_kind i v)) (Needs (ConvertTo from to target) ∷ k) e w) ≡ Running (Given (of_kind to v)) k e w → Stands (of_kind i v) o k e w c
@@ -91,19 +92,19 @@ module _ (source : Program) (pages calls : ℕ) where
       (shared, in_operand o facts (kept_in shared.tables i to v c.active.slots o wide gives is) (kept_holds _ _ _ k holds) (subst (λ r. ValueStack source c.active.function e.locals to o r c.frames k) (sym end) stack))
       (omega arith)
 
-  -- a value is converted from its own kind
+  -- A value is converted from the kind that it has.
   converts_kind : (from to : Kind) (target : Option Kind) (v : Kinded) (k : List Entry) (e : Environment) (w : World) → IsWell (step source (Running (Given v) (Needs (ConvertTo from to target) ∷ k) e w))
       → step source (Running (Given v) (Needs (ConvertTo from to target) ∷ k) e w) ≡ computed to (conversion to v.value) k e w
   converts_kind from to target v k e w well =
       ap (λ (b : Bool). if b then computed to (conversion to v.value) k e w else wrong w) (is_fitting (is_kind v.kind from && leads_to w target (followed v.value)) (computed to (conversion to v.value) k e w) w well)
 
-  -- the value has the kind that it is converted from
+  -- If a conversion is not a fault, then its value has the kind from which it is converted.
   converted_from : (from to : Kind) (target : Option Kind) (v : Kinded) (k : List Entry) (e : Environment) (w : World) → IsWell (step source (Running (Given v) (Needs (ConvertTo from to target) ∷ k) e w)) → v.kind ≡ from
   converted_from from to target v k e w well =
       same_kind v.kind from
       (and_left (is_kind v.kind from) (leads_to w target (followed v.value)) (is_fitting (is_kind v.kind from && leads_to w target (followed v.value)) (computed to (conversion to v.value) k e w) w well))
 
-  -- a char remains a char
+  -- Converting a char to a char keeps its word.
   kept_char : (from : Kind) (target : Option Kind) (a : ℕ) (o : Operand) (k : List Entry) (e : Environment) (w : World) (c : Configuration)
       → step source (Running (Given (of_kind kinds.Char (Int a))) (Needs (ConvertTo from kinds.Char target) ∷ k) e w) ≡ Running (Given (of_kind kinds.Char (Int (a % 256)))) k e w
       → Stands (of_kind kinds.Char (Int a)) o k e w c
@@ -163,7 +164,7 @@ module _ (source : Program) (pages calls : ℕ) where
       (λ choice. landed_char source pages calls (a % 256) word d k e w c (c.active.next + 1) same (omega arith) shared facts holds refl lands)
   masked from target i v o d k e w c does well stands here lands = absurd (well refl)
 
-  -- only an int becomes a char with a change of its words
+  -- Among the values that become a char, only an int changes its words.
   never_char : (t : Tables) (i : Kind) (v : Value) (slots : Words) (o : Operand) (k : List Entry) (e : Environment) (w : World)
       → keeps_words i kinds.Char ≡ false → masks i kinds.Char ≡ false → IsWell (computed kinds.Char (conversion kinds.Char v) k e w) → IsIn t (of_kind i v) slots o → ⊥
   never_char t kinds.Int (Int a) slots o k e w changes whole well is = let f : true ≡ false = whole in cc
@@ -171,7 +172,7 @@ module _ (source : Program) (pages calls : ℕ) where
   never_char t i (Int a) slots o k e w changes whole well is = let (words, p, same, is_it) = in_words t (of_kind i (Int a)) slots o is in is_it
   never_char t i v slots o k e w changes whole well is = well refl
 
-  -- a conversion keeps the words, or makes them more or fewer
+  -- A conversion keeps the words of the value, or makes them more or fewer.
   converts_by : (same : Bool) (from to : Kind) (target : Option Kind) (v : Kinded) (o : Operand) (q : ℕ) (k : List Entry) (e : Environment) (w : World) (c : Configuration) → keeps_words from to ≡ same → masks from to ≡ false
       → step source (Running (Given v) (Needs (ConvertTo from to target) ∷ k) e w) ≡ computed to (conversion to v.value) k e w → leads_to w target (followed v.value) ≡ true → v.kind ≡ from → IsWell (computed to (conversion to v.value) k e w)
       → Stands v o k e w c
@@ -202,7 +203,8 @@ module _ (source : Program) (pages calls : ℕ) where
       converts_by (keeps_words from to) from to target v o q k e w c refl whole (converts_kind from to target v k e w well) (converted_leads from to target v k e w well) (converted_from from to target v k e w well)
       (subst IsWell (converts_kind from to target v k e w well) well) stands at stack
 
-  -- a conversion that raises no exception, of a value in the slots of a local that is about to get it
+  -- A value is converted, without an exception, in the slots of the local to which it will be
+  -- assigned.
   converted_ahead : (t : Tables) (from to i : Kind) (v : Value) (words : Words) (n : ℕ) (k : List Entry) (e : Environment) (w : World)
       → IsWell (computed to (conversion to v) k e w) → converts_there from to ≡ true → masks i to ≡ false → words_of_kind i ≡ words_of_kind to → Is t i v words n
       → (computed to (conversion to v) k e w ≡ Running (Given (of_kind to v)) k e w) × Is t to v words n
@@ -223,7 +225,8 @@ module _ (source : Program) (pages calls : ℕ) where
   converted_ahead t from kinds.Key i (Key region) words n k e w well quiet whole wide is = (refl, kept_at t i kinds.Key (Key region) words n wide refl is)
   converted_ahead t from to i v words n k e w well quiet whole wide is = absurd (well refl)
 
-  -- the value has the kind that it is converted from, and the conversion keeps its number of words
+  -- In a conversion in the slots of a local, the value has the kind from which it is converted, and
+  -- the conversion keeps its number of words.
   pub converts_ahead : (t : Tables) (from to : Kind) (target : Option Kind) (v : Kinded) (n : ℕ) (k : List Entry) (e : Environment) (w : World) (c : Configuration)
       → IsWell (step source (Running (Given v) (Needs (ConvertTo from to target) ∷ k) e w)) → converts_there from to ≡ true → masks from to ≡ false → Is t v.kind v.value c.active.slots n
       → (step source (Running (Given v) (Needs (ConvertTo from to target) ∷ k) e w) ≡ Running (Given (of_kind to v.value)) k e w) × Is t to v.value c.active.slots n

@@ -1,5 +1,5 @@
--- The use of a value that is only tested: the plain program is before the branch on it. The plain program takes this branch when the next
--- operand is evaluated or a statement is chosen.
+-- This file is about the use of a value that is only tested: the plain program is before the branch on the value. The plain program takes
+-- this branch when the next operand is evaluated or a statement is chosen.
 use Rattle.std.proofs.Common.{◌≡◌, ℕ, ◌+◌, Bool, true, false, not, List, ◌∷◌, Option, None, Some, refl, sym, ap, subst, ◌∙◌, arith, inl, inr}
 use Rattle.std.specs.Prelude.{◌==◌, if◌then◌else◌}
 use Rattle.cyc_words.proofs.Booleans.{not_not}
@@ -31,7 +31,7 @@ use Rattle.cyc_lower_proof.proofs.relation.simulation.Matched.{IsMatched, silent
 use Rattle.cyc_lower_proof.proofs.value_steps.ValueWords.{int_of, untrue, opposed, other_place, zero_is}
 
 module _ (source : Program) (pages calls : ℕ) where
-  -- the targets of a fork
+  -- The two targets of a comparing jump, for a failing and for a holding condition.
   forked : (c : Configuration) (failing : Comparison) (l r : Operand) (k : List Entry) (f h : ℕ) (fails : Bool)
       → ForkAt (code_of source c.active.function) (bounds_at source c.active.function) (types_on source c.active.function k) failing l r c.active.next f h
       → compares failing (operand_word c.active.slots l) (operand_word c.active.slots r) ≡ fails → LeadsTo source c (if fails then f else h)
@@ -40,7 +40,7 @@ module _ (source : Program) (pages calls : ℕ) where
   forked c failing l r k f h true (inr (here, following)) reported = (opposite failing, l, r, h, here, ap (λ (b : Bool). if b then h else c.active.next + 1) (opposed failing _ _ ∙ ap not reported) ∙ following)
   forked c failing l r k f h false (inr (here, following)) reported = (opposite failing, l, r, h, here, ap (λ (b : Bool). if b then h else c.active.next + 1) (opposed failing _ _ ∙ ap not reported))
 
-  -- a comparison that is known to fail or to hold
+  -- A comparison is known to fail or to hold, so its value is passed on.
   pub given_compared : (t : Tables) (v : Kinded) (failing : Comparison) (l r : Operand) (k : List Entry) (e : Environment) (w : World) (c : Configuration) (fails : Bool)
       → is_zero v.value ≡ Some fails → compares failing (operand_word c.active.slots l) (operand_word c.active.slots r) ≡ fails
       → DataIn source t c.active.slots k e w c → Holds t c.active.slots (floor source c.active.function k) (held k)
@@ -48,7 +48,7 @@ module _ (source : Program) (pages calls : ℕ) where
   given_compared t v failing l r k e w c true zero reported facts holds (f, h, fork, first, second) = decided true f facts zero holds (forked c failing l r k f h true fork reported) first
   given_compared t v failing l r k e w c false zero reported facts holds (f, h, fork, first, second) = decided false h facts zero holds (forked c failing l r k f h false fork reported) second
 
-  -- the branch is taken
+  -- The plain program takes the branch on a tested value.
   goes_on : {focus : Focus} {l : List Entry} {e : Environment} {w : World} (next : State) (c : Configuration) (p : ℕ) → step source (Running focus l e w) ≡ next → SharedAt source pages calls l e w c → LeadsTo source c p
       → Matches source pages calls next (plain.Running (at c p)) → IsMatched source pages calls (Running focus l e w) (plain.Running c)
   goes_on next c p does shared (comparison, l, r, target, here, is) m =
@@ -113,7 +113,7 @@ module _ (source : Program) (pages calls : ℕ) where
       )
   decided_given v fails p k e w c shared facts zero holds leads stack = absurd stack
 
-  -- a value in an operand that is only tested
+  -- A value in an operand is only tested.
   pub tested_given : (v : Kinded) (o : Operand) (k : List Entry) (e : Environment) (w : World) (c : Configuration) → (is_zero v.value ≡ None → ⊥) → (shared : SharedAt source pages calls k e w c)
       → DataIn source shared.tables c.active.slots k e w c → IsIn shared.tables v c.active.slots o → Holds shared.tables c.active.slots (floor source c.active.function k) (held k)
       → ConditionStack source c.active.function comparisons.Equal o (operands.Word 0) c.active.next c.frames k → IsMatched source pages calls (Running (Given v) k e w) (plain.Running c)

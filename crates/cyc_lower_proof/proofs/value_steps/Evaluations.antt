@@ -1,4 +1,5 @@
--- The steps that begin an expression, for every destination of its value, also beside a left operand and in a condition.
+-- This file proves the steps that begin an expression, for every destination of its value, also beside a left operand
+-- and in a condition.
 use Rattle.std.proofs.Common.{◌≡◌, ℕ, ◌+◌, Bool, true, false, List, [], ◌∷◌, map, Option, None, Some, refl, sym, ap, subst, ◌∙◌, arith, inl, inr}
 use Rattle.std.specs.Prelude.{option_map, is_some}
 use Rattle.std.proofs.lemmas.List.{length-map}
@@ -47,20 +48,20 @@ use Rattle.cyc_lower_proof.proofs.value_steps.Landings.{IsStep, reads}
 use Rattle.cyc_lower_proof.proofs.value_steps.Beginnings.{At_step, IsBegun, low_here, chain_begins, comes, only_computed, operand, for_its_effect}
 
 module _ (source : Program) (pages calls : ℕ) where
-  -- an expression without code is simple
+  -- An expression that needs no code is simple.
   pub known_simple : (starts : Starts) (a : Expression) → is_some (operand_of starts a) ≡ true → is_simple starts a ≡ true
   known_simple starts (Binary a os t) some = absurd (let f : false ≡ true = some in cc)
   known_simple starts (Unary unary.Widen a) some = some
   known_simple starts (Unary u a) some = absurd (let f : false ≡ true = some in cc)
   known_simple starts a some = some
 
-  -- an operand without code
+  -- A known operand needs no code, and it is the operand of the expression.
   pub known_operand_is : (code : List Instruction) (b : Numbering) (types : Types) (known : Option Operand) (computed : Type 0) (slot : ℕ) (o : Operand) (p q : ℕ) → is_some known ≡ true
       → OperandBy code b types known computed slot o p q → (known ≡ Some o) × (p ≡ q)
   known_operand_is code b types (Some x) computed slot o p q some (is, end) = (ap Some (sym is), end)
   known_operand_is code b types None computed slot o p q some at = absurd (let f : false ≡ true = some in cc)
 
-  -- the counters of arrays are in slots while a left operand is pending in its place
+  -- The counters of arrays stay in their slots while a left operand stays in its operand.
   counters_beside : (t : Tables) (e : Environment) (g : ℕ) (o : Operand) (p : ℕ) (slots : Words) (frames : List Frame) (k : List Entry) → AreCounted e.counters k → BesideAt source t e.locals g o p slots frames k
       → CountersHold e.counters slots (floor source g k) k
   counters_beside t e g o p slots frames (Needs (Apply u left) ∷ k) counted (l, is, low, inl (holds, applied)) = counters_hold t e.counters slots (floor source g k) k counted holds
@@ -72,7 +73,8 @@ module _ (source : Program) (pages calls : ℕ) where
   counters_beside t e g o p slots frames (Needs (Operate u) ∷ k) counted (at, beside) = counters_beside t e g (operands.Slot (top source g k)) (p + 1) slots frames k counted beside
   counters_beside t e g o p slots frames k counted beside = absurd beside
 
-  -- the first operand of a chain that is a simple right operand is simple too
+  -- If an operator chain is a simple right operand, then the first operand of the chain is simple
+  -- too.
   simple_begins : (u : Operator) (a b : Expression) (os : Operations) (ty : Ty) (k : List Entry) (e : Environment) (w : World) (c : Configuration) (r : Operand) (q : ℕ) (shared : SharedAt source pages calls k e w c) → DataIn source shared.tables c.active.slots k e w c
       → is_simple (starts_on source c.active.function k) (Binary a (ThenCompute u b os) ty) ≡ true
       → ValueAt (code_of source c.active.function) (bounds_at source c.active.function) (types_on source c.active.function k) (Binary a (ThenCompute u b os) ty) (top source c.active.function k) r c.active.next q
@@ -100,7 +102,7 @@ module _ (source : Program) (pages calls : ℕ) where
       )
       (omega arith)
 
-  -- a unary operator without code
+  -- A unary operator that needs no code is evaluated.
   simple_computes : (u : UnaryOperator) (a : Expression) (k : List Entry) (e : Environment) (w : World) (c : Configuration) (o : Operand) (m : ℕ) (shared : SharedAt source pages calls k e w c) → DataIn source shared.tables c.active.slots k e w c
       → is_some (operand_of (starts_on source c.active.function k) a) ≡ true
       → ValueAt (code_of source c.active.function) (bounds_at source c.active.function) (types_on source c.active.function k) a (top source c.active.function k) o c.active.next m
@@ -110,13 +112,13 @@ module _ (source : Program) (pages calls : ℕ) where
       (shared, facts, as_right (o, m, known_simple (starts_on source c.active.function k) a some, at_a, beside))
       (omega arith)
 
-  -- the result of a unary operator without code
+  -- The result of a unary operator without code is the right operand beside a left operand.
   unary_beside : (t : Tables) (locals : ℕ → Option ℕ) (g : ℕ) (r : Operand) (m q : ℕ) (slots : Words) (frames : List Frame) (k : List Entry) → r ≡ operands.Slot (top source g k) → m + 1 ≡ q → BesideAt source t locals g r q slots frames k
       → BesideAt source t locals g (operands.Slot (top source g k)) (m + 1) slots frames k
   unary_beside t locals g r m q slots frames k is end beside =
       subst (λ p. BesideAt source t locals g (operands.Slot (top source g k)) p slots frames k) (sym end) (subst (λ x. BesideAt source t locals g x q slots frames k) is beside)
 
-  -- a simple right operand, with the left one in its place
+  -- A simple right operand is evaluated, while the left operand stays in its operand.
   beside_left : (a : Expression) (k : List Entry) (e : Environment) (w : World) (c : Configuration) → IsWell (step source (Running (Evaluating a) k e w)) → (shared : SharedAt source pages calls k e w c) → DataIn source shared.tables c.active.slots k e w c
       → RightAt source shared.tables a e.locals c.active.function c.active.next c.active.slots c.frames k → IsBegun source pages calls a k e w c
   beside_left (Unary unary.Widen a) k e w c well shared facts (r, q, simple, there, beside) =
@@ -150,7 +152,7 @@ module _ (source : Program) (pages calls : ℕ) where
       (shared, with_left facts (r, found.is, subst (λ p. BesideAt source shared.tables e.locals g r p c.active.slots c.frames k) (sym end) beside))
       (omega (arith, found.some))
 
-  -- a value that is tested
+  -- The value of an operand is tested by the next jump.
   tested_value : (g : ℕ) (locals : ℕ → Option ℕ) (kind : Kind) (o : Operand) (p : ℕ) (frames : List Frame) (k : List Entry) → IsLow o (top source g k) → ConditionStack source g comparisons.Equal o (operands.Word 0) p frames k
       → ValueStack source g locals kind o p frames k
   tested_value g locals kind o p frames [] low (f, h, fork, first, second) = absurd first
@@ -163,7 +165,7 @@ module _ (source : Program) (pages calls : ℕ) where
   tested_value g locals kind o p frames (Needs (Test a s) ∷ k) low stack = stack
   tested_value g locals kind o p frames (entry ∷ k) low (f, h, fork, first, second) = absurd first
 
-  -- the code after two operands, the second of which has no code
+  -- The code after two compared operands, of which the second is the constant 0 without code.
   alone : (g : ℕ) (failing : Comparison) (l r : Operand) (p q : ℕ) (frames : List Frame) (k : List Entry) → r ≡ operands.Word 0 → p ≡ q
       → ConditionStack source g failing l r q frames k → ConditionStack source g failing l (operands.Word 0) p frames k
   alone g failing l r p q frames k is end stack =
@@ -206,7 +208,7 @@ module _ (source : Program) (pages calls : ℕ) where
       chain_begins source pages calls (is_simple (starts_on source c.active.function k) b) a (ThenPointerPeek n o b NoOperations) t k e w c l m known at_a (λ low. (low, to_jump (inl (failing, r, q, inr (is, at_b), stack))))
   compares_peek None None n o a b t k e w c l r q is none known at stack = not_zero (Binary a (ThenPointerPeek n o b NoOperations) t) k e w c l r q known at stack
 
-  -- a negated condition leads to the two places of the original condition, exchanged
+  -- A negated condition jumps to the two targets of the original condition, exchanged.
   turned : (g : ℕ) (failing : Comparison) (l r : Operand) (p : ℕ) (frames : List Frame) (k : List Entry) → ConditionStack source g (opposite failing) l r p frames k
       → (f : ℕ) × (h : ℕ) × ForkAt (code_of source g) (bounds_at source g) (types_on source g k) failing l r p f h × DecidedStack source g false f frames k × DecidedStack source g true h frames k
   turned g failing l r p frames k (f, h, inl (jump, following), first, second) = (h, f, inr (jump, following), second, first)
@@ -227,7 +229,7 @@ module _ (source : Program) (pages calls : ℕ) where
   compared_begins (Binary a (ThenPointerPeek n o b NoOperations) t) k e w c l r q known at stack = compares_peek (null_compared o b) (pointers_failing o) n o a b t k e w c l r q refl refl known at stack
   compared_begins a k e w c l r q known at stack = not_zero a k e w c l r q known at stack
 
-  -- a condition that leads to two places
+  -- The code of a condition reaches one of two code positions: f if it fails, and h if it holds.
   condition : (a : Expression) (k : List Entry) (e : Environment) (w : World) (c : Configuration) (f h : ℕ) → At_step source pages calls a k e w c
       → BranchesAt (code_of source c.active.function) (bounds_at source c.active.function) (types_on source c.active.function k) a f h (top source c.active.function k) c.active.next
       → DecidedStack source c.active.function true f c.frames k → DecidedStack source c.active.function false h c.frames k → IsBegun source pages calls a k e w c
@@ -260,7 +262,7 @@ module _ (source : Program) (pages calls : ℕ) where
           (omega arith)
       by a known at = whole a known at
 
-  -- a fat pointer whose index is evaluated after it: it is moved to temporaries, or stays in its local
+  -- A fat pointer whose index is evaluated afterwards is moved to temporaries, or stays in its local.
   pointer_begins : (t : Tables) (peek : Option ℕ) (target : Option Kind) (a i : Expression) (n : ℕ) (x : Operand) (m r q : ℕ) (k : List Entry) (e : Environment) (w : World) (c : Configuration)
       → Holds t c.active.slots (floor source c.active.function k) (held k)
       → ReturnedAt (code_of source c.active.function) (bounds_at source c.active.function) (types_on source c.active.function k) (pointer_of (starts_on source c.active.function k) a i)
@@ -283,7 +285,7 @@ module _ (source : Program) (pages calls : ℕ) where
       Begun : Type 0
       Begun = EvaluatingAt source t a e.locals g c.active.next c.active.slots c.frames (Needs (Index peek target i) ∷ k)
 
-      -- the pointer in temporaries
+      -- The fat pointer is in temporaries.
       brought_there : n ≡ top source g k → Computed → Begun
       brought_there there computed =
           into_slot (top source g k) m computed holds (in_temporary (omega arith) (inl (
@@ -308,7 +310,7 @@ module _ (source : Program) (pages calls : ℕ) where
           (sym a_is) (ap operands.Slot there, begins) in
           as_operand (operands.Slot n) m at_pointer holds (inr (n, x, r, q, refl, low_here source pages calls a k c (operands.Slot n) m at_pointer, i_is, at_i, sum, reached, place))
 
-  -- a place that a pointer leads to: the pointer is evaluated
+  -- The address of a memory access through a pointer begins with the evaluation of the pointer.
   pub locating : (x : Dereference) (k : List Entry) (e : Environment) (w : World) (c : Configuration) → IsStep source pages calls (Locating x) k e w c
   locating (Target pointer a t) k e w c well (shared, facts, (o, offset, q, (x, m, at_a, access, is, none), holds, place)) =
       let g = c.active.function in

@@ -1,4 +1,4 @@
--- Moving a value word by word from a global to slots, or from slots to a global.
+-- This file moves a value word by word from a global to slots, or from slots to a global.
 use Rattle.std.proofs.Common.{◌≡◌, ℕ, zero, suc, ◌+◌, ◌≤◌, ◌<◌, List, [], ◌∷◌, length, refl, sym, ap, subst, ◌∙◌, arith, inl, inr}
 use Rattle.cyc_types.specs.TypedTrees.{Program}
 use Rattle.cyc_plain.specs.declared.instruction.Instruction.TheVariants as instructions
@@ -28,12 +28,12 @@ use Rattle.cyc_lower_proof.proofs.relation.simulation.Paths.{Link, is_quiet, IsQ
 
 -- ---- words
 
--- the words after words of another function are copied over them, one by one
+-- The words `to` after words of `from` have been copied over them, one by one.
 abbrev pub each_put : (from to : Words) → (words source d : ℕ) → Words
 each_put from to zero source d = to
 each_put from to (suc words) source d = each_put from (put to d (from source)) words (suc source) (suc d)
 
--- the other words are unchanged
+-- Copying words one by one leaves all words outside the destination unchanged.
 pub each-outside : (from to : Words) (words source d m : ℕ) → Outside d words m → each_put from to words source d m ≡ to m
 each-outside from to zero source d m out = refl
 each-outside from to (suc words) source d m (inl below) =
@@ -57,7 +57,7 @@ each-inside from to (suc words) source d (suc i) below =
     ∙ each-inside from (put to d (from source)) words (suc source) (suc d) i (omega (arith, below))
     ∙ ap from there
 
--- the copied words represent the value of the original words
+-- Words that were copied one by one represent the value of the original words.
 pub each_is : (t : Tables) (v : Kinded) (from to : Words) (words source d : ℕ) → words_of_kind v.kind ≡ words → Is t v.kind v.value from source → Is t v.kind v.value (each_put from to words source d) d
 each_is t v from to words source d same is =
     Is-same t v.kind v.value from (each_put from to words source d) source d (λ i below. each-inside from to words source d i (omega (arith, below, same))) is
@@ -96,7 +96,7 @@ abbrev pub global_links : Configuration → (words first : ℕ) → Operand → 
 global_links c words first (operands.Slot n) = save_links c words first n
 global_links c words first (operands.Word w) = record { instruction = instructions.StoreGlobal first (operands.Word w); following = with_global c first w } ∷ []
 
--- the end of these instructions
+-- The configuration at the end of the instructions that load a global.
 pub load_end : (c : Configuration) (words first d : ℕ) → end_of c (load_links c (suc words) first d) ≡ advanced (with_slots (at c (c.active.next + words)) (each_put c.globals c.active.slots (suc words) first d))
 load_end c zero first d = ap (λ (n : ℕ). advanced (with_slots (at c n) (put c.active.slots d (c.globals first)))) (let e : c.active.next ≡ c.active.next + 0 = omega arith in e)
 load_end c (suc words) first d =
@@ -127,7 +127,8 @@ module _ (source : Program) where
       let (path, end) = save_path (with_global c first (c.active.slots n)) words (suc first) (suc n) q rest in
       ((here, (λ choice. refl), omega arith, global_quiet c first (c.active.slots n), path), omega (arith, end))
 
-  -- A value is stored in a global by at least one instruction, and the last one leads to the place after them.
+  -- A value is stored in a global by at least one instruction, and execution then continues after the last of
+  -- these instructions.
   pub record IsStoredBy (c : Configuration) (words first : ℕ) (o : Operand) (q : ℕ) : Type 0 where
     pub last : ℕ
     pub some : 0 < length (global_links c words first o)

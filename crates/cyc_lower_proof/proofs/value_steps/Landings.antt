@@ -1,4 +1,5 @@
--- Values at their destinations: in slots, in an operand without code, converted in place, or as the next argument of a call.
+-- This file proves how values reach their destinations: in slots, in an operand without code, converted in place, or as the
+-- next argument of a call.
 use Rattle.std.proofs.Common.{◌≡◌, ℕ, ◌+◌, ◌≤◌, ◌<◌, true, List, ◌∷◌, ◌++◌, Option, None, Some, slice_get, refl, sym, ap, subst, ◌∙◌, arith, inl, inr}
 use Rattle.std.proofs.lemmas.Option.{same_Some, none-some}
 use Rattle.cyc_types.specs.declared.typed.Callee.{Callee}
@@ -46,7 +47,7 @@ object_of_same (Local p n) e = refl
 object_of_same (Global n) e = refl
 
 module _ (source : Program) (pages calls : ℕ) where
-  -- the step from this focus is matched
+  -- Says that the source step from this focus is matched.
   abbrev pub IsStep : Focus → List Entry → Environment → World → Configuration → Type 0
   IsStep focus k e w c = IsWell (step source (Running focus k e w)) → Related source pages calls focus k e w c → IsMatched source pages calls (Running focus k e w) (plain.Running c)
 
@@ -104,7 +105,7 @@ module _ (source : Program) (pages calls : ℕ) where
       landed (record { kind = kinds.Char; value = Int a }) (put c.active.slots d word) d k e w c q shared (put-same c.active.slots d word ∙ is, low)
       (λ m out. put_elsewhere c.active.slots d word 1 m (omega arith) out) facts holds end lands
 
-  -- a value is moved from an operand
+  -- A value is moved from an operand to slots.
   pub made_moved : (v : Kinded) (o : Operand) (d : ℕ) (k : List Entry) (e : Environment) (w : World) (c : Configuration) (q : ℕ) (choice : Choice) (shared : SharedAt source pages calls k e w c) → IsIn shared.tables v c.active.slots o
       → DataIn source shared.tables c.active.slots k e w c → Holds shared.tables c.active.slots (floor source c.active.function k) (held k)
       → c.active.next + 1 ≡ q → LandsMade source c.active.function e.locals v.kind d q c.frames k
@@ -122,24 +123,24 @@ module _ (source : Program) (pages calls : ℕ) where
   landed_moved v o d k e w c q choice shared is facts holds end lands =
       made_moved v o d k e w c q choice shared is facts holds end (lands_made c.active.function e.locals v.kind d q c.frames k lands)
 
-  -- equal places have the same code after a slot
+  -- If two code positions are equal, then the code after a slot is the same at both.
   pub lands_at : (g : ℕ) (locals : ℕ → Option ℕ) (kind : Kind) (d p q : ℕ) (frames : List Frame) (k : List Entry) → p ≡ q → LandsStack source g locals kind d q frames k
       → LandsStack source g locals kind d p frames k
   lands_at g locals kind d p q frames k same lands = subst (λ r. LandsStack source g locals kind d r frames k) (sym same) lands
 
-  -- the code that would use a dropped value
+  -- The code that would use a dropped value is the code after the value is dropped.
   pub dropped_value : (g : ℕ) (locals : ℕ → Option ℕ) (kind : Kind) (o : Operand) (p : ℕ) (frames : List Frame) (k : List Entry) → DroppedStack source g p frames k → ValueStack source g locals kind o p frames k
   dropped_value g locals kind o p frames (Discard ∷ k) stack = stack
   dropped_value g locals kind o p frames k stack = absurd stack
 
   -- ---- operands without code
 
-  -- true unless the expression is only a char that is used as an int
+  -- Holds if the expression is not a char that is used as an int.
   abbrev pub IsPlain : Expression → Type 0
   IsPlain (Unary unary.Widen a) = ⊥
   IsPlain a = Unit {0}
 
-  -- the value of such an expression is found in the operand
+  -- The value of an expression without code is found in its operand.
   pub record IsRead (t : Tables) (a : Expression) (o : Operand) (k : List Entry) (e : Environment) (w : World) (c : Configuration) : Type 0 where
     pub value : Kinded
     pub gives : step source (Running (Evaluating a) k e w) ≡ Running (Given value) k e w
@@ -147,7 +148,7 @@ module _ (source : Program) (pages calls : ℕ) where
     pub same : value.kind ≡ given_at source c.active.function a
     pub some : expression_weight a ≡ 1
 
-  -- for example that of a local
+  -- The value of a local is found in the operand of the local.
   reads_local : (tables : Tables) (a : Expression) (n : ℕ) (t : Ty) (o : Operand) (k : List Entry) (e : Environment) (w : World) (c : Configuration)
       → step source (Running (Evaluating a) k e w) ≡ loaded_from (kind_of t) (e.locals n) k e w → kind_of t ≡ given_at source c.active.function a → expression_weight a ≡ 1
       → Some (operands.Slot (slot_of (starts_on source c.active.function k) n)) ≡ Some o → IsWell (loaded_from (kind_of t) (e.locals n) k e w)
@@ -216,7 +217,8 @@ module _ (source : Program) (pages calls : ℕ) where
       (inl (top source g k, refl, here, in_temporary (omega arith) (subst (λ x. ValueStack source g locals kinds.Char (operands.Slot (top source g k)) x frames k) (sym (end ∙ there)) stack)))
   brings t from to a k locals g p slots frames m q at_a at_to holds stack = into_slot (top source g k) m at_a holds (in_temporary (omega arith) (inr (q, refl, at_to, stack)))
 
-  -- a value is moved to the slots of a local that is about to get it, if the conversion raises no exception
+  -- If the conversion raises no exception, then a value is moved to the slots of the local to which it will
+  -- be assigned.
   pub brings_ahead : (t : Tables) (from to : Kind) (a : Expression) (k : List Entry) (locals : ℕ → Option ℕ) (g p : ℕ) (slots : Words) (frames : List Frame) (d m : ℕ)
       → converts_there from to ≡ true → words_of_kind (given_at source g a) ≡ words_of_kind to → d + words_of_kind to ≤ base_of source g
       → BroughtAt (code_of source g) (bounds_at source g) (types_on source g k) (Convert from to a) d (top source g k) p m

@@ -1,4 +1,4 @@
--- The steps that pass a value to an operator.
+-- This file proves the steps that pass a value to an operator.
 use Rattle.std.proofs.Common.{◌≡◌, ◌≢◌, ℕ, zero, suc, ◌+◌, ◌<◌, Bool, true, false, not, List, ◌∷◌, Option, None, Some, refl, sym, ap, subst, ◌∙◌, arith, inl, inr, bit_and}
 use Rattle.std.specs.Prelude.{◌==◌, if◌then◌else◌, ◌%◌, is_some}
 use Rattle.std.proofs.lemmas.Bool.{eqb-true, false_from_ne_true}
@@ -68,7 +68,7 @@ use Rattle.cyc_lower_proof.proofs.value_steps.Conversions.{not_taken, guard_fail
 module _ (source : Program) (pages calls : ℕ) where
   -- ---- operators
 
-  -- true if a word has been moved to a slot and represents a value of a kind there
+  -- Says that a word has been moved to a slot, where it represents a value of a kind.
   abbrev IsLanded : Tables → Kind → (d : ℕ) → List Entry → Environment → World → Configuration → Type 0
   IsLanded t kind d k e w c =
       (v : Value) (x : ℕ) → Is t kind v (put c.active.slots d x) d → Related source pages calls (Given (of_kind kind v)) k e w (advanced (with_slots c (put c.active.slots d x)))
@@ -101,14 +101,14 @@ module _ (source : Program) (pages calls : ℕ) where
       by_one source pages calls refl shared here (λ choice. goes (Int (a % 256)) x (put-same c.active.slots d x ∙ same, omega arith))
   operates_value u i v o d k e w c well shared is here goes = absurd (well refl)
 
-  -- a value of one word is at the destination of the code
+  -- A value of one word is in the slot to which the code moves it.
   lands_word : (kind : Kind) (d : ℕ) (k : List Entry) (e : Environment) (w : World) (c : Configuration) → words_of_kind kind ≡ 1 → (shared : SharedAt source pages calls k e w c) → DataIn source shared.tables c.active.slots k e w c
       → Holds shared.tables c.active.slots (floor source c.active.function k) (held k) → LandsStack source c.active.function e.locals kind d (c.active.next + 1) c.frames k → IsLanded shared.tables kind d k e w c
   lands_word kind d k e w c one shared facts holds lands v x is =
       landed source pages calls (of_kind kind v) (put c.active.slots d x) d k e w c (c.active.next + 1) shared is
       (λ m out. put_elsewhere c.active.slots d x 1 m (omega arith) (subst (λ many. Outside d many m) one out)) facts holds refl lands
 
-  -- a char that is used as an int stays in its place
+  -- A char that is used as an int stays in its operand.
   widened : (i : Kind) (v : Value) (o : Operand) (k : List Entry) (e : Environment) (w : World) (c : Configuration) → IsWell (step source (Running (Given (of_kind i v)) (Needs (Operate unary.Widen) ∷ k) e w))
       → Stands source pages calls (of_kind i v) o k e w c → ValueStack source c.active.function e.locals kinds.Int o c.active.next c.frames k → GoesAfter source pages calls (of_kind i v) (Needs (Operate unary.Widen) ∷ k) e w c
   widened i (Int a) o k e w c well (shared, facts, is, holds) stack =
@@ -129,12 +129,12 @@ module _ (source : Program) (pages calls : ℕ) where
 
   -- ---- divisions
 
-  -- the result of an operator is in its slot, and the code continues after it
+  -- Says that the result of an operator is in its slot, and that the code continues after it.
   abbrev IsComputed : Operator → (a b d q : ℕ) → List Entry → Environment → World → Configuration → Type 0
   IsComputed u a b d q k e w c =
       (m x : ℕ) → m + 1 ≡ q → x ≡ binary_word u a b → Related source pages calls (Given (int_of (binary_word u a b))) k e w (advanced (with_slots (at c m) (put c.active.slots d x)))
 
-  -- the division instruction, of operands with these words
+  -- The division instruction, applied to operands with these words.
   quotient : (u : Operator) (a b : ℕ) (l r : Operand) (d : ℕ) (k : List Entry) (e : Environment) (w : World) (c : Configuration) (q : ℕ)
       → ((x : ℕ) → plain_operators.has_no_result (binary_operator u) x ≡ (x == 0)) → ((x y : ℕ) → plain_operators.binary_result (binary_operator u) x y ≡ binary_word u x y)
       → (b == 0) ≡ false → operand_word c.active.slots l ≡ a → operand_word c.active.slots r ≡ b → c.active.next + 1 ≡ q → IsComputed u a b d q k e w c
@@ -146,7 +146,7 @@ module _ (source : Program) (pages calls : ℕ) where
       subst (λ (z : Bool). Matches source pages calls (Running (Given (int_of (binary_word u a b))) k e w) (if z then plain.Stuck c.output c.input else gives c d result)) (sym (plain_test y ∙ ap (λ z. z == 0) is ∙ nonzero))
       (goes c.active.next result end (same x y ∙ ap (λ z. binary_word u z y) is_left ∙ ap (binary_word u a) is))
 
-  -- the division after its test
+  -- The division after the test of its divisor.
   tested_divides : (u : Operator) (i j : Kind) (a b : ℕ) (f : Bool) (l r : Operand) (d : ℕ) (k : List Entry) (e : Environment) (w : World) (c : Configuration) (m q : ℕ)
       → ((x : ℕ) → plain_operators.has_no_result (binary_operator u) x ≡ (x == 0)) → ((x : ℕ) → has_no_result u x ≡ (x == 0))
       → ((x y : ℕ) → plain_operators.binary_result (binary_operator u) x y ≡ binary_word u x y) → (b == 0) ≡ f
@@ -167,7 +167,7 @@ module _ (source : Program) (pages calls : ℕ) where
       here (λ equal. omega (arith, equal, following))
       (quotient u a b l r d k e w (at c m) q plain_test same zero_b is_left is end goes)
 
-  -- a divisor that is a number other than 0 needs no test
+  -- A divisor that is a constant other than 0 needs no test.
   divides : (u : Operator) (i j : Kind) (a b : ℕ) (l r : Operand) (d : ℕ) (k : List Entry) (e : Environment) (w : World) (c : Configuration) (q : ℕ)
       → ((x : ℕ) → plain_operators.has_no_result (binary_operator u) x ≡ (x == 0)) → ((x : ℕ) → has_no_result u x ≡ (x == 0))
       → ((x y : ℕ) → plain_operators.binary_result (binary_operator u) x y ≡ binary_word u x y)
@@ -199,7 +199,7 @@ module _ (source : Program) (pages calls : ℕ) where
       let y = operand_word c.active.slots r in
       by_one source pages calls refl shared here (λ choice. goes c.active.next (binary_word u x y) end (ap (λ z. binary_word u z y) is_left ∙ ap (binary_word u a) is))
 
-  -- a value in slots up to the next temporary is unchanged by writes above it
+  -- A value in slots up to the next temporary is unchanged by writes to later slots.
   low_same : (t : Tables) (v : Kinded) (o : Operand) (free : ℕ) (slots other : Words) → IsLow o free → ((m : ℕ) → m < free + words_of_kind v.kind → other m ≡ slots m) → IsIn t v slots o → IsIn t v other o
   low_same t v (operands.Slot n) free slots other low same is = Is-same t v.kind v.value slots other n n (λ i below. same (n + i) (omega (arith, below, low))) is
   low_same t v (operands.Word n) free slots other low same is = is
@@ -226,7 +226,8 @@ module _ (source : Program) (pages calls : ℕ) where
   beside_same t locals g o p slots other frames (Needs (Operate u) ∷ k) same (at, beside) = (at, beside_same t locals g (operands.Slot (top source g k)) (p + 1) slots other frames k same beside)
   beside_same t locals g o p slots other frames k same beside = absurd beside
 
-  -- The result of an operator becomes a left operand, or the value of a chain. The left operand of that chain stays in its place.
+  -- The result of an operator becomes a left operand, or the value of a chain. The left operand of the enclosing chain stays in
+  -- its operand.
   pub stays_beside : (v : Kinded) (x : ℕ) (k : List Entry) (e : Environment) (w : World) (c : Configuration) (q p : ℕ) (shared : SharedAt source pages calls k e w c) → DataIn source shared.tables c.active.slots k e w c → p ≡ q
       → Is shared.tables v.kind v.value (put c.active.slots (top source c.active.function k) x) (top source c.active.function k)
       → BesideAt source shared.tables e.locals c.active.function (operands.Slot (top source c.active.function k)) q c.active.slots c.frames k
@@ -245,7 +246,7 @@ module _ (source : Program) (pages calls : ℕ) where
         ),
       )
 
-  -- a condition that is a comparison is not computed
+  -- If a condition is a comparison, then the code does not compute its value.
   compares_words : (u : Operator) (i j : Kind) (failing : Comparison) (a b : ℕ) (l r : Operand) (k : List Entry) (e : Environment) (w : World) (c : Configuration) → failing_comparison u ≡ Some failing
       → step source (Running (Given (of_kind j (Int b))) (Needs (Apply u (of_kind i (Int a))) ∷ k) e w) ≡ Running (Given (int_of (binary_word u a b))) k e w
       → (shared : SharedAt source pages calls k e w c) → DataIn source shared.tables c.active.slots k e w c → Holds shared.tables c.active.slots (floor source c.active.function k) (held k) → operand_word c.active.slots l ≡ a → operand_word c.active.slots r ≡ b
@@ -265,7 +266,7 @@ module _ (source : Program) (pages calls : ℕ) where
   compares_both u i j failing a b l r k e w c is shared facts holds is_left is_right stack =
       compares_words u i j failing a b l r k e w c is refl shared facts holds is_left is_right stack
 
-  -- both operands are available
+  -- Both operands of a binary operator are available, and the operator is applied.
   applies_values : (u : Operator) (i j : Kind) (left v : Value) (k : List Entry) (e : Environment) (w : World) (c : Configuration)
       → IsWell (step source (Running (Given (of_kind j v)) (Needs (Apply u (of_kind i left)) ∷ k) e w)) → (shared : SharedAt source pages calls k e w c) → DataIn source shared.tables c.active.slots k e w c
       → ReadyAt source shared.tables (of_kind j v) e.locals c.active.function c.active.next c.active.slots c.frames (Needs (Apply u (of_kind i left)) ∷ k)
@@ -301,7 +302,7 @@ module _ (source : Program) (pages calls : ℕ) where
 
   -- ---- chains
 
-  -- the value of the first part of a chain is passed to the rest of it
+  -- The value of the first part of an operator chain is passed to the rest of the chain.
   chain_lands : (os : Operations) (kind : Kind) (g : ℕ) (locals : ℕ → Option ℕ) (d p q : ℕ) (frames : List Frame) (k : List Entry)
       → OperationsAt (code_of source g) (bounds_at source g) (types_on source g k) os (operands.Slot (next_slot os d (top source g k))) d (top source g k) p q
       → LandsStack source g locals (chain_kind kind os) d q frames k → LandsStack source g locals kind (next_slot os d (top source g k)) p frames (Needs (Chain os) ∷ k)
@@ -311,7 +312,8 @@ module _ (source : Program) (pages calls : ℕ) where
   chain_lands (ThenPointer u b os) kind g locals d p q frames k ops lands = in_temporary (omega arith) (omega arith, to_slot (d, q, ops, lands))
   chain_lands (ThenPointerPeek n u b os) kind g locals d p q frames k ops lands = in_temporary (omega arith) (omega arith, to_slot (d, q, ops, lands))
 
-  -- if the left operand decides, the right one is jumped over
+  -- If the left operand of `&&` or `||` decides the result, then the code jumps over the right
+  -- operand.
   decided_at_once : (u : LogicalOperator) (b : Expression) (os : Operations) (v : Kinded) (f : Bool) (k : List Entry) (e : Environment) (w : World) (c : Configuration) (i : Instruction) (d m r : ℕ)
       → step source (Running (Given v) (Needs (Chain (ThenTest u b os)) ∷ k) e w) ≡ Running (Given (int_of (if f then 0 else 1))) (Needs (Chain os) ∷ k) e w
       → At (code_of source c.active.function) c.active.next i → ((choice : Choice) → plain_step.performed (lower_program source) choice c i ≡ plain.Running (at c m))
@@ -334,7 +336,7 @@ module _ (source : Program) (pages calls : ℕ) where
       opposite true same = ap (λ x. truth (not x)) (sym same)
       opposite false same = ap (λ x. truth (not x)) (sym same)
 
-  -- a test at its place, for both outcomes
+  -- The code of a test by `&&` or `||` is at its position, for both outcomes of the left operand.
   tests : (u : LogicalOperator) (b : Expression) (os : Operations) (v : Kinded) (f : Bool) (k : List Entry) (e : Environment) (w : World) (c : Configuration) (d q : ℕ)
       → IsWell (step source (Running (Given v) (Needs (Chain (ThenTest u b os)) ∷ k) e w))
       → (c.active.slots (top source c.active.function k) == 0) ≡ f → Stands source pages calls v (operands.Slot (top source c.active.function k)) k e w c
@@ -363,7 +365,8 @@ module _ (source : Program) (pages calls : ℕ) where
       (λ same. let f : jump_if_nonzero _ m ≡ instructions.Binary plain_binary.NotEqual _ _ _ = same in cc) reported shared facts holds truths
       (chain_lands os kinds.Int c.active.function e.locals d r q c.frames k ops lands)
 
-  -- the left operand fits
+  -- If the step that awaits the right operand is not a fault, then the left operand fits the
+  -- operator.
   pub awaited : (fits : Bool) (waiting : Awaiting) (b : Expression) (os : Operations) (k : List Entry) (e : Environment) (w : World) → IsWell (awaits_right fits waiting b os k e w)
       → awaits_right fits waiting b os k e w ≡ Running (Evaluating b) (Needs waiting ∷ Needs (Chain os) ∷ k) e w
   awaited true waiting b os k e w well = refl
@@ -373,7 +376,7 @@ module _ (source : Program) (pages calls : ℕ) where
   awaited_fits true waiting b os k e w well = refl
   awaited_fits false waiting b os k e w well = absurd (well refl)
 
-  -- an expression that is not simple has code
+  -- An expression that is not simple needs code.
   unknown : (starts : Starts) (b : Expression) → is_simple starts b ≡ false → operand_of starts b ≡ None
   unknown starts b other = by (operand_of starts b) refl
     where
@@ -381,12 +384,13 @@ module _ (source : Program) (pages calls : ℕ) where
       by None none = none
       by (Some x) some = absurd (let f : true ≡ false = sym (known_simple source pages calls starts b (ap is_some some)) ∙ other in cc)
 
-  -- the left operand is in its slot, if the code of the right one requires it
+  -- The left operand is in its slot if the code of the right operand requires it.
   left_there : (code : List Instruction) (b : Numbering) (types : Types) (known : Option Operand) (left computed : Type 0) (slot : ℕ) (o : Operand) (p q : ℕ) → known ≡ None → OperandBy code b types known (left × computed) slot o p q → left
   left_there code b types (Some x) left computed slot o p q none at = absurd (none-some x (sym none))
   left_there code b types None left computed slot o p q none (is, (there, at)) = there
 
-  -- an operator: the left operand stays in its place if the right one is simple, and the right one is evaluated after it
+  -- The left operand of an operator stays in its operand if the right operand is simple, and the right operand is
+  -- evaluated after it.
   chain_goes_on : (simple : Bool) (u : Operator) (b : Expression) (os : Operations) (v : Kinded) (l : Operand) (k : List Entry) (e : Environment) (w : World) (c : Configuration) (r : Operand) (m : ℕ)
       → IsWell (step source (Running (Given v) (Needs (Chain (ThenCompute u b os)) ∷ k) e w)) → is_simple (starts_on source c.active.function k) b ≡ simple → IsLow l (top source c.active.function k) → Stands source pages calls v l k e w c
       → OperandBy (code_of source c.active.function) (bounds_at source c.active.function) (types_on source c.active.function k) (operand_of (starts_on source c.active.function k) b)
@@ -427,7 +431,7 @@ module _ (source : Program) (pages calls : ℕ) where
           (subst (IsIn shared.tables v c.active.slots) there is, holds)
           (subst (λ x. AppliedStack source g e.locals u x r m c.frames (Needs (Chain os) ∷ k)) there applied)
 
-  -- null, which has no code, beside a pointer in its place
+  -- The constant null, which has no code, is compared with a pointer that stays in its operand.
   null_beside : (peek : Option ℕ) (u : PointerOperator) (v : Kinded) (o r : Operand) (failing : Comparison) (q : ℕ) (k : List Entry) (e : Environment) (w : World) (c : Configuration) → null_failing u ≡ Some failing → r ≡ operands.Word 0 → c.active.next ≡ q
       → (t : Tables) → IsIn t v c.active.slots o → IsLow o (top source c.active.function k) → Holds t c.active.slots (floor source c.active.function k) (held k) → ConditionStack source c.active.function failing o r q c.frames k
       → EvaluatingAt source t NullPointer e.locals c.active.function c.active.next c.active.slots c.frames (Needs (ApplyPointer peek u v) ∷ Needs (Chain NoOperations) ∷ k)
@@ -461,7 +465,8 @@ module _ (source : Program) (pages calls : ℕ) where
       (omega arith)
   peek_goes_on n u b v o r failing q k e w c well stands low fails same end stack = absurd (none-some failing fails)
 
-  -- the right operand of two pointers: the left one stays in its place if the right one is simple
+  -- When two pointers are compared, the left pointer stays in its operand if the right one is
+  -- simple.
   pointer_beside : (simple : Bool) (peek : Option ℕ) (u : PointerOperator) (b : Expression) (v : Kinded) (l r : Operand) (failing : Comparison) (m : ℕ) (k : List Entry) (e : Environment) (w : World) (c : Configuration)
       → pointers_failing u ≡ Some failing → takes_kind u v.kind ≡ true → is_simple (starts_on source c.active.function k) b ≡ simple → IsLow l (top source c.active.function k)
       → (t : Tables) → IsIn t v c.active.slots l → Holds t c.active.slots (floor source c.active.function k) (held k)

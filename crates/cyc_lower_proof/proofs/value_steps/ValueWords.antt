@@ -1,4 +1,5 @@
--- The relation between values and their words, and the effect of operators on the words.
+-- This file is about the relation between values and their words, and about the effect of operators
+-- on the words.
 use Rattle.std.proofs.Common.{◌≡◌, ◌≢◌, ℕ, ◌+◌, Bool, true, false, not, List, None, Some, slice_get, refl, sym, ap, ◌∙◌, arith, inl, inr, ◌%◌}
 use Rattle.std.specs.Prelude.{ℤ, nat_lt, ◌==◌, ◌<ℤ◌, ◌≤ℤ◌, int_le, if◌then◌else◌}
 use Rattle.std.proofs.lemmas.Int.{ints}
@@ -36,7 +37,7 @@ use Rattle.cyc_lower_proof.proofs.relation.contents.Data.{in_words, IsWord-is, p
 use Rattle.cyc_lower_proof.proofs.relation.simulation.Accesses.{IsWell}
 use Rattle.cyc_words.proofs.Integers.{not_int_le}
 
--- a value of a kind as an operand
+-- A value together with its kind.
 abbrev pub of_kind : Kind → Value → Kinded
 of_kind kind v = record { kind = kind; value = v }
 
@@ -48,9 +49,9 @@ not_thinned : (object start index : ℕ) (b : Bool) {many : ℕ} → (let r : Re
 not_thinned object start index true gives = let f : Gives (Thin object (start + index)) ≡ Gives (Fat object start _ index) = gives in cc
 not_thinned object start index false gives = let f : Raises array_bounds ≡ Gives (Fat object start _ index) = gives in cc
 
--- the facts that a value implies about its words
+-- The facts about words that follow from the value that they represent.
 module _ (t : Tables) where
-  -- the first word determines whether a value is zero
+  -- The first word of a value is 0 exactly if the value is zero or null.
   zero_at : (kind : Kind) (v : Value) (words : Words) (p : ℕ) → (is_zero v ≡ None → ⊥) → Is t kind v words p → is_zero v ≡ Some (words p == 0)
   zero_at kinds.Int (Int a) words p some is = ap (λ y. Some (y == 0)) (sym is)
   zero_at kinds.Char (Int a) words p some is = ap (λ y. Some (y == 0)) (sym is.0)
@@ -68,7 +69,7 @@ module _ (t : Tables) where
       let (words, p, same, is_it) = in_words t v slots o is in
       zero_at v.kind v.value words p some is_it ∙ ap (λ x. Some (x == 0)) same
 
-  -- an int is its word, and the word of null is 0
+  -- An int is represented by its own word, and null by the word 0.
   pub int_at : (kind : Kind) (a : ℕ) (words : Words) (p : ℕ) → Is t kind (Int a) words p → words p ≡ a
   int_at kinds.Int a words p is = is
   int_at kinds.Char a words p is = is.0
@@ -79,7 +80,7 @@ module _ (t : Tables) where
       let (words, p, same, is_it) = in_words t (of_kind kind (Int a)) slots o is in
       sym same ∙ int_at kind a words p is_it
 
-  -- a char that is used as an int stays in its place
+  -- A char that is used as an int stays in its operand.
   pub int_in : (kind : Kind) (a : ℕ) (slots : Words) (o : Operand) → IsIn t (of_kind kind (Int a)) slots o → IsIn t (int_of a) slots o
   int_in kind a slots (operands.Slot n) is = int_at kind a slots n is
   int_in kind a slots (operands.Word w) is = int_is kind a slots (operands.Word w) is
@@ -127,7 +128,7 @@ module _ (t : Tables) where
   key_at kinds.Key region words p is = is
   key_at kind region words p is = absurd is
 
-  -- one word is not a fat pointer
+  -- A value in one word does not have a kind of three words.
   no_fat : (kind : Kind) (v : Value) (w : ℕ) → words_of_kind kind ≡ 3 → IsWord t kind v w → ⊥
   no_fat kinds.Fat v w wide is = is
   no_fat kinds.Int v w wide is = omega (arith, wide)
@@ -137,13 +138,13 @@ module _ (t : Tables) where
   no_fat kinds.Handle v w wide is = omega (arith, wide)
   no_fat kinds.Key v w wide is = omega (arith, wide)
 
-  -- null in three words is a fat pointer
+  -- Null in three words is the null fat pointer.
   fat_null : (kind : Kind) (words : Words) (p : ℕ) → words_of_kind kind ≡ 3 → Is t kind Null words p → Is t kinds.Fat Null words p
   fat_null kinds.Fat words p wide is = is
   fat_null kinds.Nullable words p wide is = absurd (omega (arith, wide))
   fat_null kind words p wide is = absurd is
 
-  -- a value that a conversion does not change keeps its words
+  -- A value that a conversion does not change keeps its words.
   pub kept_at : (from to : Kind) (v : Value) (words : Words) (p : ℕ) → words_of_kind from ≡ words_of_kind to → conversion to v ≡ Gives v → Is t from v words p → Is t to v words p
   kept_at from kinds.Int (Int a) words p wide gives is = int_at from a words p is
   kept_at from kinds.Char (Int a) words p wide gives is =
@@ -176,7 +177,8 @@ module _ (t : Tables) where
   kept_in from to v slots (operands.Slot n) wide gives is = kept_at from to v slots n wide gives is
   kept_in from to v slots (operands.Word w) wide gives is = kept_word from to v w wide gives is
 
--- a value that is converted at its destination has as many words before as after
+-- A value that may be converted at its destination has as many words before the conversion as after
+-- it.
 pub as_wide : (from to : Kind) → converts_there from to ≡ true → words_of_kind from ≡ words_of_kind to
 as_wide from kinds.NonNull quiet = absurd (let f : false ≡ true = quiet in cc)
 as_wide from kinds.Int quiet = eqb-true (words_of_kind from) (words_of_kind kinds.Int) quiet
@@ -208,7 +210,7 @@ pub untrue : (b : Bool) → (truth b == 0) ≡ not b
 untrue true = refl
 untrue false = refl
 
--- the result of an operator is 0 if its failing comparison holds
+-- The result of an operator is 0 if the comparison for the operator's failure holds.
 pub fails_by : (u : Operator) (failing : Comparison) (a b : ℕ) → failing_comparison u ≡ Some failing → (binary_word u a b == 0) ≡ compares failing a b
 fails_by operators.Equal failing a b is = untrue (a == b) ∙ ap (λ f. compares f a b) (same_Some comparisons.NotEqual failing is)
 fails_by operators.NotEqual failing a b is = untrue (not (a == b)) ∙ not_not (a == b) ∙ ap (λ f. compares f a b) (same_Some comparisons.Equal failing is)
@@ -220,7 +222,7 @@ fails_by operators.GreaterOrEqual failing a b is =
     untrue (int_le (signed b) (signed a)) ∙ not_int_le (signed b) (signed a) ∙ ap (λ f. compares f a b) (same_Some comparisons.Less failing is)
 fails_by u failing a b is = absurd (none-some failing is)
 
--- the opposite of a comparison holds if the comparison fails
+-- The opposite of a comparison holds exactly if the comparison fails.
 pub opposed : (c : Comparison) (a b : ℕ) → compares (opposite c) a b ≡ not (compares c a b)
 opposed comparisons.Equal a b = refl
 opposed comparisons.NotEqual a b = sym (not_not (a == b))
@@ -241,11 +243,12 @@ opposite_twice comparisons.GreaterOrEqual = refl
 opposite_twice comparisons.LessUnsigned = refl
 opposite_twice comparisons.GreaterOrEqualUnsigned = refl
 
--- two different instructions are at two different places
+-- Two different instructions are at two different code positions.
 pub other_place : (code : List Instruction) (p q : ℕ) (i j : Instruction) → At code p i → At code q j → i ≢ j → p ≢ q
 other_place code p q i j at_p at_q other same = other (same_Some i j (sym at_p ∙ ap (slice_get code) same ∙ at_q))
 
--- a branch that is taken, and one that is not
+-- The configuration after a branch that is taken, and the configuration after a branch that is not
+-- taken.
 pub branch_taken : (c : Configuration) (b : Bool) (target : ℕ) → b ≡ true → branches c b target ≡ plain.Running (at c target)
 branch_taken c b target is = ap (λ (x : Bool). branches c x target) is
 

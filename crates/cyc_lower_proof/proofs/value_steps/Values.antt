@@ -1,4 +1,4 @@
--- The steps that pass a value to the newest pending entry.
+-- This file proves the steps that pass a value to the newest stack entry.
 use Rattle.std.proofs.Common.{◌≡◌, ℕ, suc, ◌+◌, Bool, true, false, List, [], ◌∷◌, Option, Some, slice_get, refl, sym, ap, subst, ◌∙◌, arith, inl, inr, length}
 use Rattle.std.specs.Prelude.{◌==◌, ◌&&◌, if◌then◌else◌, ◌%◌, ◌^◌, option_map, is_some}
 use Rattle.std.proofs.lemmas.Option.{same_Some}
@@ -106,12 +106,12 @@ module _ (source : Program) (pages calls : ℕ) where
       ap (λ (b : Bool). if b then made_it else wrong w) (is_fitting (is_kind v.kind kind) made_it w well) in
       does ∙ is_declared (region_at w e.home) Proceeding n kind (Some v.value) (Rest js ∷ k) e w (subst IsWell does well)
 
-  -- the local has the kind of the value
+  -- A local that is declared has the kind of its initial value.
   local_kind : (n : ℕ) (kind : Kind) (js : Items) (v : Kinded) (k : List Entry) (e : Environment) (w : World) → IsWell (step source (Running (Given v) (Needs (Initialise n kind js) ∷ k) e w)) → v.kind ≡ kind
   local_kind n kind js v k e w well =
       same_kind v.kind kind (is_fitting (is_kind v.kind kind) (declared (region_at w e.home) Proceeding n kind (Some v.value) (Rest js ∷ k) e w) w well)
 
-  -- the local is declared in an existing region
+  -- A local is declared in an existing region.
   makes_home : (n : ℕ) (kind : Kind) (js : Items) (v : Kinded) (k : List Entry) (e : Environment) (w : World) → IsWell (step source (Running (Given v) (Needs (Initialise n kind js) ∷ k) e w))
       → (r : Region) × (slice_get w.regions e.home ≡ Some r)
   makes_home n kind js v k e w well =
@@ -120,7 +120,7 @@ module _ (source : Program) (pages calls : ℕ) where
       ap (λ (b : Bool). if b then made_it else wrong w) (is_fitting (is_kind v.kind kind) made_it w well) in
       home_there Proceeding n kind (Some v.value) (Rest js ∷ k) e w (subst IsWell does well)
 
-  -- the local then holds the value
+  -- After its declaration, the local holds the initial value.
   made_value : (t : Tables) (n : ℕ) (kind : Kind) (js : Items) (v : Kinded) (k : List Entry) (e : Environment) (w : World) (slots : Words) (slot : ℕ) (types : Types)
       → IsWell (step source (Running (Given v) (Needs (Initialise n kind js) ∷ k) e w)) → HasRoom types n v.kind → Is t v.kind v.value slots slot
       → (u : Kinded) → with_kind kind (Some v.value) ≡ Some u → Is t u.kind u.value slots slot × HasRoom types n u.kind
@@ -198,7 +198,8 @@ module _ (source : Program) (pages calls : ℕ) where
 
   -- ---- all entries that await a value
 
-  -- an access through null raises an exception; through any other thin pointer the place is found
+  -- An access through null raises an exception; an access through any other thin pointer finds the
+  -- cell.
   follows_thin : (pointer : Kind) (target : Option Kind) (i : Kind) (v : Value) (o : Operand) (k : List Entry) (e : Environment) (w : World) (c : Configuration)
       → IsWell (step source (Running (Given (of_kind i v)) (Needs (Follow pointer target) ∷ k) e w)) → Stands source pages calls (of_kind i v) o k e w c
       → (q : ℕ) × (is_thin pointer ≡ true) × CheckAt (code_of source c.active.function) (bounds_at source c.active.function) (types_on source c.active.function k) null_exception o c.active.next q × PlaceStack source c.active.function e.locals o 0 q c.frames k → GoesAfter source pages calls (of_kind i v) (Needs (Follow pointer target) ∷ k) e w c
@@ -223,7 +224,7 @@ module _ (source : Program) (pages calls : ℕ) where
   follows_thin pointer target i (Handle region) o k e w c well stands stack = absurd (goes_wrong (is_kind i pointer && leads_to w target (followed (Handle region))) w well)
   follows_thin pointer target i (Key region) o k e w c well stands stack = absurd (goes_wrong (is_kind i pointer && leads_to w target (followed (Key region))) w well)
 
-  -- an access through a thin pointer or a fat one
+  -- An access through a thin pointer or through a fat pointer is evaluated.
   follows : (pointer : Kind) (target : Option Kind) (v : Kinded) (o : Operand) (k : List Entry) (e : Environment) (w : World) (c : Configuration)
       → IsWell (step source (Running (Given v) (Needs (Follow pointer target) ∷ k) e w)) → Stands source pages calls v o k e w c
       → ValueStack source c.active.function e.locals v.kind o c.active.next c.frames (Needs (Follow pointer target) ∷ k) → GoesAfter source pages calls v (Needs (Follow pointer target) ∷ k) e w c
@@ -239,7 +240,8 @@ module _ (source : Program) (pages calls : ℕ) where
       by true thin check place = follows_thin pointer target v.kind v.value o k e w c well (shared, facts, is, holds) (q, thin, check, place)
       by false thin access place = follows_fat source pages calls pointer target v o q k e w c thin kind well shared facts is holds low access place
 
-  -- an access to a field, whose place is some bytes after that of its struct
+  -- An access to a field is evaluated; the address of the field is some bytes after the address of
+  -- its struct.
   follows_member : (pointer : Kind) (fields : List Kind) (field : ℕ) (i : Kind) (v : Value) (o : Operand) (k : List Entry) (e : Environment) (w : World) (c : Configuration)
       → IsWell (step source (Running (Given (of_kind i v)) (Needs (FollowMember pointer fields field) ∷ k) e w)) → Stands source pages calls (of_kind i v) o k e w c
       → ValueStack source c.active.function e.locals i o c.active.next c.frames (Needs (FollowMember pointer fields field) ∷ k)
@@ -268,7 +270,7 @@ module _ (source : Program) (pages calls : ℕ) where
   follows_member pointer fields field i (Handle region) o k e w c well stands stack = absurd (goes_wrong (is_kind i pointer) w well)
   follows_member pointer fields field i (Key region) o k e w c well stands stack = absurd (goes_wrong (is_kind i pointer) w well)
 
-  -- the handle of the region in which an object is allocated
+  -- The region handle is evaluated before an object is allocated in its region.
   places : (initial : Initial) (v : Kinded) (o : Operand) (k : List Entry) (e : Environment) (w : World) (c : Configuration) → IsWell (step source (Running (Given v) (Needs (PlaceBy initial) ∷ k) e w)) → Stands source pages calls v o k e w c
       → ValueStack source c.active.function e.locals v.kind o c.active.next c.frames (Needs (PlaceBy initial) ∷ k) → GoesAfter source pages calls v (Needs (PlaceBy initial) ∷ k) e w c
   places initial v o k e w c well (shared, facts, is, holds) (d, q, there, at, lands) = by v.kind v.value well (subst (IsIn shared.tables v c.active.slots) there is)
@@ -286,12 +288,12 @@ module _ (source : Program) (pages calls : ℕ) where
       by i (Handle region) well is = absurd is
       by i u well is = absurd (well refl)
 
-  -- the facts about a value that is passed on
+  -- States the facts that are known about a value that is passed on.
   abbrev IsGiven : Kinded → Operand → List Entry → Environment → World → Configuration → Type 0
   IsGiven v o k e w c = (shared : SharedAt source pages calls k e w c) × DataIn source shared.tables c.active.slots k e w c × IsIn shared.tables v c.active.slots o
       × Holds shared.tables c.active.slots (floor source c.active.function k) (kept k)
 
-  -- the value is in an operand
+  -- A value in an operand is passed on.
   stands_given : (v : Kinded) (o : Operand) (k : List Entry) (e : Environment) (w : World) (c : Configuration) → HasWords (lower_program source) → plain.HoldsWords (plain.Running c) → AreNamed source e.locals (callers k) w c.active.function c.active.base c.frames c.store → IsWell (step source (Running (Given v) k e w)) → IsGiven v o k e w c
       → ValueStack source c.active.function e.locals v.kind o c.active.next c.frames k → GoesAfter source pages calls v k e w c
   stands_given v o [] e w c of_words words names well stands stack = absurd stack
@@ -388,7 +390,8 @@ module _ (source : Program) (pages calls : ℕ) where
       room of_type (subst (Is shared.tables v.kind v.value c.active.slots) (sym there) is) (q, items, stack)
   ahead_given v n old k e w c well shared same facts is holds stack = absurd stack
 
-  -- the next operator of a chain that is a right operand, with its own right operand, which has no code
+  -- An operator chain is a simple right operand, and its next operator has a right operand without
+  -- code.
   simple_goes_on : (u : Operator) (b : Expression) (os : Operations) (v : Kinded) (o : Operand) (q : ℕ) (k : List Entry) (e : Environment) (w : World) (c : Configuration) → IsWell (step source (Running (Given v) (Needs (Chain (ThenCompute u b os)) ∷ k) e w))
       → (shared : SharedAt source pages calls k e w c) → DataIn source shared.tables c.active.slots k e w c → IsIn shared.tables v c.active.slots o → IsLow o (top source c.active.function k)
       → are_simple (starts_on source c.active.function k) (ThenCompute u b os) ≡ true
@@ -466,7 +469,7 @@ module _ (source : Program) (pages calls : ℕ) where
       (λ value x x_is. stays_beside source pages calls (of_kind (unary_kind u) value) x k e w c (c.active.next + 1) (c.active.next + 1) shared facts refl x_is beside)
   left_given v k e w c names well shared facts (o, is, beside) = absurd beside
 
-  -- a fat pointer whose index has changed
+  -- A fat pointer whose index has changed is passed on.
   parts_given : (v : Kinded) (k : List Entry) (e : Environment) (w : World) (c : Configuration) → IsWell (step source (Running (Given v) k e w)) → (shared : SharedAt source pages calls k e w c) → DataIn source shared.tables c.active.slots k e w c
       → PartsAt source shared.tables v e.locals c.active.function c.active.next c.active.slots c.frames k → GoesAfter source pages calls v k e w c
   parts_given v (Needs (Follow pointer target) ∷ k) e w c well shared facts (n, m, q, fat, is, low, holds, here, place) =

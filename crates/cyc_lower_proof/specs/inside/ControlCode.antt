@@ -1,4 +1,5 @@
--- The code of conditions, branches, loops, regions, exits from statements, and handlers.
+-- This file defines the code of conditions, branches, loops, regions, exits from statements, and
+-- handlers.
 use Rattle.std.specs.Prelude.{ℕ, ◌+◌, Bool, true, false, ◌&&◌, ◌||◌, List, [], ◌∷◌, ◌++◌, length, Option, None, Some, ◌%◌, ◌^◌}
 use Rattle.cyc_types.specs.declared.typed.UnaryOperator.TheVariants as unary
 use Rattle.cyc_types.specs.declared.typed.LogicalOperator.{LogicalOperator}
@@ -23,13 +24,14 @@ use Rattle.cyc_lower_proof.specs.inside.ValueCode.{failing_comparison, move_of}
 
 -- ---- conditions, branches and loops
 
--- A condition as a comparison of two expressions, which holds exactly if the condition fails.
+-- A condition as a comparison of two expressions. The comparison `failing` holds exactly if the
+-- condition fails.
 pub record Compared : Type 0 where
   pub failing : Comparison
   pub left : Expression
   pub right : Expression
 
--- the comparison that holds exactly if the given one fails
+-- The comparison that holds exactly if the comparison in the argument fails.
 abbrev pub opposite : Comparison → Comparison
 opposite comparisons.Equal = comparisons.NotEqual
 opposite comparisons.NotEqual = comparisons.Equal
@@ -40,7 +42,7 @@ opposite comparisons.GreaterOrEqual = comparisons.Less
 opposite comparisons.LessUnsigned = comparisons.GreaterOrEqualUnsigned
 opposite comparisons.GreaterOrEqualUnsigned = comparisons.LessUnsigned
 
--- a condition without a comparison fails if its value is 0
+-- A condition that is not a comparison fails exactly if its value is 0.
 abbrev pub with_zero : Expression → Compared
 with_zero a = record { failing = comparisons.Equal; left = a; right = Number 0 }
 
@@ -48,7 +50,8 @@ abbrev pub compared_or : Option Comparison → (left right whole : Expression) �
 compared_or (Some failing) left right whole = record { failing = failing; left = left; right = right }
 compared_or None left right whole = with_zero whole
 
--- the comparison of a pointer's first word with 0 that holds exactly if its comparison with null fails
+-- The comparison of a pointer's first word with 0 that holds exactly if the comparison of the pointer
+-- with null fails.
 abbrev pub null_failing : PointerOperator → Option Comparison
 null_failing pointers.ThinIsNull = Some comparisons.NotEqual
 null_failing pointers.ThinIsNotNull = Some comparisons.Equal
@@ -60,8 +63,8 @@ abbrev pub null_compared : PointerOperator → (right : Expression) → Option C
 null_compared o NullPointer = null_failing o
 null_compared o b = None
 
--- The comparison of two pointers' first words that holds exactly if the pointers' comparison fails; both pointers are thin, or the left one
--- is null.
+-- The comparison of two pointers' first words that holds exactly if the comparison of the pointers fails. Both pointers are thin, or the
+-- left one is null.
 abbrev pub pointers_failing : PointerOperator → Option Comparison
 pointers_failing pointers.EqualThin = Some comparisons.NotEqual
 pointers_failing pointers.NotEqualThin = Some comparisons.Equal
@@ -73,7 +76,8 @@ abbrev pub nulled_or : (null beside : Option Comparison) → (left right whole :
 nulled_or (Some failing) beside left right whole = record { failing = failing; left = left; right = Number 0 }
 nulled_or None beside left right whole = compared_or beside left right whole
 
--- a negated condition compares the expressions of the original one, and fails if the original holds
+-- A negated condition compares the expressions of the original condition, and fails exactly if the
+-- original condition holds.
 abbrev pub negated : Compared → Compared
 negated x = record { failing = opposite x.failing; left = x.left; right = x.right }
 
@@ -90,14 +94,16 @@ compared_of a = with_zero a
 abbrev pub negated_condition : Condition → Condition
 negated_condition c = record { failing = opposite c.failing; left = c.left; right = c.right }
 
--- the jump that is taken if a condition fails, and the one that is taken if it holds
+-- The jump that is taken if a condition fails; below it, the jump that is taken if the condition
+-- holds.
 abbrev pub failing_jump : Condition → (target : ℕ) → Instruction
 failing_jump c target = instructions.Branch c.failing c.left c.right target
 
 abbrev pub holding_jump : Condition → (target : ℕ) → Instruction
 holding_jump c target = instructions.Branch (opposite c.failing) c.left c.right target
 
--- the condition that fails exactly if the left operand decides the test, and the jump for that case
+-- The condition that fails exactly if the left operand decides `&&` or `||`; below it, the jump
+-- that is taken then.
 abbrev pub deciding_condition : LogicalOperator → Condition → Condition
 deciding_condition logical.AndThen c = c
 deciding_condition logical.OrElse c = negated_condition c
@@ -105,7 +111,8 @@ deciding_condition logical.OrElse c = negated_condition c
 abbrev pub deciding_jump : LogicalOperator → Condition → (target : ℕ) → Instruction
 deciding_jump u c target = failing_jump (deciding_condition u c) target
 
--- all tests of a chain use this operator, and there is at least one
+-- Tells if two logical operators are equal; below it, if all tests of a chain use one operator and
+-- there is at least one test.
 abbrev pub is_same : (u o : LogicalOperator) → Bool
 is_same logical.AndThen logical.AndThen = true
 is_same logical.OrElse logical.OrElse = true
@@ -120,12 +127,12 @@ abbrev pub are_tests : LogicalOperator → Operations → Bool
 are_tests u NoOperations = false
 are_tests u os = all_test u os
 
--- the negation of tests by one operator is a chain of tests by the other
+-- The negation of a chain of `&&` is a chain of `||`, and vice versa.
 abbrev pub turned_test : LogicalOperator → LogicalOperator
 turned_test logical.AndThen = logical.OrElse
 turned_test logical.OrElse = logical.AndThen
 
--- The jump over the code after `else`. If that code is empty, the jump is omitted.
+-- The jump over the code after `else`. If the code after `else` is empty, then the jump is omitted.
 abbrev pub is_nothing : Statement → Bool
 is_nothing Empty = true
 is_nothing s = false
@@ -138,9 +145,9 @@ abbrev pub over_length : (last : Bool) → ℕ
 over_length true = 0
 over_length false = 1
 
--- The code of a branch at place p: the condition, the jump over the first statement, the first statement, the jump to the end, and the
--- other statement. The condition may also jump to the other statement from inside. The length of the condition's code does not depend on
--- that target, so it is measured with an arbitrary one.
+-- The code of a branch at position p: the condition, the jump over the first statement, the first statement, the jump to the end, and
+-- the other statement. The condition may also jump to the other statement from inside. The length of the condition's code does not
+-- depend on its jump target, so it is measured with an arbitrary target.
 abbrev pub other_place : (last : Bool) → (condition first : List Instruction) → (p : ℕ) → ℕ
 other_place last condition first p = p + length condition + 1 + length first + over_length last
 
@@ -149,9 +156,9 @@ if_code last condition jump first second p =
     (condition (other_place last (condition 0) first p) ++ jump (other_place last (condition 0) first p) ∷ first)
     ++ (over_code last (other_place last (condition 0) first p + length second) ++ second)
 
--- A loop begins with an entry. If the condition holds, it leads to the body, and otherwise to the next jump, which leads to the end of the
--- loop. The targets of `continue` (the start of the loop) and `break` (that jump) are known before the body is emitted. After the body
--- comes the condition again, with a jump back to the body if it holds.
+-- A loop begins with an entry. If the condition holds, then the entry continues at the body, and otherwise at the next jump, which goes to
+-- the end of the loop. The targets of `continue` (the start of the loop) and `break` (the jump to the end) are known before the body is
+-- emitted. After the body comes the condition again, with a jump back to the body if the condition holds.
 abbrev pub continue_target : Exits → ℕ
 continue_target exits = exits.head
 
@@ -161,8 +168,8 @@ break_target exits = exits.leaving
 abbrev pub body_target : (leaving : ℕ) → ℕ
 body_target leaving = leaving + 1
 
--- A light condition of a loop is also emitted before the body. The copy of a light condition after the body is reached only from the body.
--- A loop whose condition is not copied begins with a jump to the condition at place `test`.
+-- A light condition of a loop, that is, one with little code, is also emitted before the body. The copy of a light condition after the
+-- body is reached only from the body. A loop whose condition is not copied begins with a jump to the condition at position `test`.
 abbrev pub entry_code : (guarded : Bool) → (condition : List Instruction) → (jump : ℕ → Instruction) → (test p : ℕ) → List Instruction
 entry_code true condition jump test p = condition ++ jump (p + length condition + 1 + 1) ∷ []
 entry_code false condition jump test p = instructions.Jump test ∷ []
@@ -175,8 +182,8 @@ abbrev pub while_code : (entry body condition : List Instruction) → (jump : �
 while_code entry body condition jump leaving =
     entry ++ (instructions.Jump (body_target leaving + length body + length condition + 1) ∷ ((body ++ condition) ++ jump (body_target leaving) ∷ []))
 
--- The code of a loop at place p, whose jump to the end is at place `leaving`. The code of the condition is made for its place, and that of
--- the body for the place of that jump.
+-- The code of a loop at position p, whose jump to the end is at position `leaving`. The code of the condition is emitted for the
+-- condition's position, and the code of the body for the position `leaving`.
 abbrev pub entered_code : (guarded : Bool) → (condition : ℕ → List Instruction) → (body : List Instruction) → (jump : ℕ → Instruction) → (p leaving : ℕ) → List Instruction
 entered_code guarded condition body jump p leaving =
     while_code (entry_code guarded (condition p) jump (body_target leaving + length body) p) body (condition (body_target leaving + length body)) jump leaving
@@ -185,8 +192,9 @@ abbrev pub looped_code : (guarded : Bool) → (condition body : ℕ → List Ins
 looped_code guarded condition body jump p =
     entered_code guarded condition (body (p + entry_length guarded (condition p))) jump p (p + entry_length guarded (condition p))
 
--- The code at place p of a loop with a small condition and no `break`. The first condition leads to the loop's end if it fails, so
--- execution continues into the body. At the end is a jump to the next place, which produces no machine code; a `break` would go there.
+-- The code at position p of a loop with a small condition and no `break`. If the first condition fails, it jumps to the loop's end, so
+-- execution continues into the body if it holds. At the end of the loop is a jump to the next instruction, which produces no machine
+-- code; a `break` would go to this jump.
 abbrev pub through_end : (front body condition : List Instruction) → (p : ℕ) → ℕ
 through_end front body condition p = p + length front + 1 + length body + length condition + 1
 
@@ -198,7 +206,7 @@ abbrev pub through_code : (front : List Instruction) → (leave : ℕ → Instru
 through_code front leave body condition jump p =
     through_by front leave (body (p + length front + 1)) (condition (p + length front + 1 + length (body (p + length front + 1)))) (jump (p + length front + 1)) p
 
--- true if the statement may leave the enclosing loop by a `break`
+-- Holds if the statement may leave the enclosing loop by a `break`.
 abbrev mutual
   pub breaks : Statement → Bool
   breaks (Block r js) = items_break js
@@ -219,33 +227,34 @@ abbrev mutual
 
 -- ---- regions
 
--- the declaration of a local with a value of this many words, given by an operand
+-- Declares a local with a value of this many words, which an operand provides.
 abbrev pub named_code : Starts → (words number : ℕ) → Operand → List Instruction
 named_code starts words n o = move_of words (slot_of starts n) o ∷ []
 
--- Opens a lexical region and declares a local as its handle. The region's mark is in slot t until the region is closed.
+-- Opens a lexical region and declares a local as its handle. Until the region is closed, slot t holds the region's
+-- mark, that is, the number of lexical regions that were open before.
 abbrev pub opened_code : Starts → (number t : ℕ) → List Instruction
 opened_code starts n t =
     instructions.Ask (requests.OpenLexical (t + 1))
     ∷ instructions.Move t (operands.Slot (t + 2))
     ∷ named_code starts 1 n (operands.Slot (t + 1))
 
--- closes the newest lexical regions, down to the mark in slot m
+-- Closes the newest lexical regions until as many are open as slot m says.
 abbrev pub closed_code : (m : ℕ) → List Instruction
 closed_code m = instructions.Ask (requests.CloseTo (operands.Slot m)) ∷ []
 
--- opens a dynamic region, and declares a local as its key
+-- Opens a dynamic region, and declares a local as the key of the region.
 abbrev pub dynamic_code : Starts → (number t : ℕ) → List Instruction
 dynamic_code starts n t = instructions.Ask (requests.OpenDynamic t) ∷ named_code starts 1 n (operands.Slot t)
 
--- closes the dynamic region of a key
+-- Closes the dynamic region whose handle is the word of a key.
 abbrev pub closing_code : (handle : Operand) → List Instruction
 closing_code o = instructions.Ask (requests.CloseDynamic o) ∷ []
 
 -- ---- exits from statements
 
--- The handlers and regions opened around a statement since the start of a loop or of the function. The opened handlers and regions are
--- given by the first slot of the outermost handler's record and the slot of the outermost lexical region's mark.
+-- The handlers and regions that a statement's context has opened since the start of a loop or of the function. They are given by the
+-- first slot of the outermost handler's record and the slot with the region count from before the outermost lexical region.
 abbrev pub nothing_opened : Opened
 nothing_opened = record { handler = None; mark = None }
 
@@ -259,12 +268,12 @@ with_handler opened slot = record { handler = outermost opened.handler slot; mar
 abbrev pub with_mark : Opened → (slot : ℕ) → Opened
 with_mark opened slot = record { handler = opened.handler; mark = outermost opened.mark slot }
 
--- closes all handlers, from the outermost on
+-- Closes all handlers of a context, from the outermost one on.
 abbrev pub handlers_code : Option ℕ → List Instruction
 handlers_code None = []
 handlers_code (Some first) = instructions.Leave first ∷ []
 
--- closes all lexical regions, down to the outermost one's mark
+-- Closes all lexical regions of a context, until as many are open as before the outermost one.
 abbrev pub marks_code : Option ℕ → List Instruction
 marks_code None = []
 marks_code (Some m) = closed_code m
@@ -274,8 +283,8 @@ leave_code opened = handlers_code opened.handler ++ marks_code opened.mark
 
 -- ---- handlers
 
--- The record of a `try`'s handler is in the slots from t on. After the record is the number of open lexical regions, if the program may
--- open any.
+-- The handler record of a `try` is in the slots from t on. After the handler record comes the number of open lexical regions, if the
+-- program may open any.
 abbrev pub after_record_in : Option ℕ → (t : ℕ) → ℕ
 after_record_in None t = t + RECORD_WORDS
 after_record_in (Some place) t = t + RECORD_WORDS + 1
@@ -290,7 +299,8 @@ kept_code_in (Some place) t = instructions.CountLexical (t + RECORD_WORDS) ∷ [
 abbrev pub kept_code : Starts → (t : ℕ) → List Instruction
 kept_code starts t = kept_code_in starts.scopes t
 
--- when an exception reaches the handler, the lexical regions opened inside the `try` are closed
+-- The code that closes the lexical regions opened inside a `try` when an exception reaches the
+-- handler.
 abbrev pub restored_code_in : Option ℕ → (t : ℕ) → List Instruction
 restored_code_in None t = []
 restored_code_in (Some place) t = closed_code (t + RECORD_WORDS)
@@ -298,12 +308,12 @@ restored_code_in (Some place) t = closed_code (t + RECORD_WORDS)
 abbrev pub restored_code : Starts → (t : ℕ) → List Instruction
 restored_code starts t = restored_code_in starts.scopes t
 
--- the word of an exception's number, which is less than 2 ^ 32 in every text
+-- The number of an exception as a word; in every text it is less than 2 ^ 32.
 abbrev pub tag_operand : (tag : ℕ) → Operand
 tag_operand tag = operands.Word (tag % 2 ^ 32)
 
--- The code of a `try` at place p with its record in slot t. After the body of a `try` comes the jump over the clauses; an exception
--- continues at the clauses.
+-- The code of a `try` at position p with its handler record in slot t. After the body of a `try` comes the jump over the
+-- clauses; an exception continues at the clauses.
 abbrev pub try_code : (t : ℕ) → (body clauses : List Instruction) → (p : ℕ) → List Instruction
 try_code t body clauses p =
     instructions.Try t (p + 1 + length body + 1)
@@ -311,8 +321,8 @@ try_code t body clauses p =
     ++ instructions.Jump (p + 1 + length body + 1 + length clauses)
     ∷ clauses
 
--- The code of a `try` after its body, at place p, with its record in slot t. The code of its body is made for its place; that of its
--- clauses for their place, given the place of the jump over them.
+-- The code of a `try` at position p, with its handler record in slot t. The code of the body is emitted for its own position. The
+-- code of the clauses is emitted for its own position and for the position of the jump over them.
 abbrev pub handled_code : Starts → (body : ℕ → List Instruction) → (clauses : (p out : ℕ) → List Instruction) → (p t : ℕ) → List Instruction
 handled_code starts body clauses p t =
     try_code t (body (p + 1) ++ instructions.Leave t ∷ [])
@@ -320,34 +330,39 @@ handled_code starts body clauses p t =
     ++ clauses (p + 1 + length (body (p + 1) ++ instructions.Leave t ∷ []) + 1 + length (restored_code starts t)) (p + 1 + length (body (p + 1) ++ instructions.Leave t ∷ [])))
     p
 
--- the jump over a clause, taken if the exception in slot t has another number
+-- The jump over a `catch` clause, which is taken if the exception in slot t has a number other than
+-- `tag`.
 abbrev pub other_jump : (tag t target : ℕ) → Instruction
 other_jump tag t target = instructions.Branch comparisons.NotEqual (operands.Slot t) (tag_operand tag) target
 
--- The code of a clause at place p. The code of a clause ends with a jump to the jump over all clauses.
+-- The code of a `catch` clause at position p. The code of a clause ends with a jump to the jump over
+-- all clauses.
 abbrev pub clause_code : (tag t : ℕ) → (items : List Instruction) → (p out : ℕ) → List Instruction
 clause_code tag t items p out = other_jump tag t (p + 1 + length items + 1) ∷ items ++ instructions.Jump out ∷ []
 
--- rethrows an exception that no clause catches
+-- Throws an exception again that no clause catches.
 abbrev pub goes_on : (t : ℕ) → Instruction
 goes_on t = instructions.Throw (operands.Slot t) (operands.Slot (t + 1))
 
--- The exits from a statement: the enclosing loop and function. The exits given here are those outside any loop.
+-- The exits from a statement, for statements that leave a loop or the function. This definition gives the exits
+-- outside any loop.
 abbrev pub outside_loops : Exits
 outside_loops = record { head = 0; leaving = 0; in_loop = nothing_opened; in_function = nothing_opened }
 
--- the exits inside a loop that begins at the first place, with the jump to its end at the second
+-- The exits inside a loop that begins at position `head` and whose jump to the end is at position
+-- `leaving`.
 abbrev pub inside_loop : (head leaving : ℕ) → Exits → Exits
 inside_loop head leaving exits = record { head = head; leaving = leaving; in_loop = nothing_opened; in_function = exits.in_function }
 
--- the exits inside the body of a `try` whose handler's record begins with this slot, and after a region whose mark is in this slot
+-- The exits inside the body of a `try` whose handler record begins with this slot; below it, the exits after a region whose saved
+-- region count is in this slot.
 abbrev pub inside_try : Exits → (slot : ℕ) → Exits
 inside_try exits slot = record { head = exits.head; leaving = exits.leaving; in_loop = with_handler exits.in_loop slot; in_function = with_handler exits.in_function slot }
 
 abbrev pub inside_region : Exits → (slot : ℕ) → Exits
 inside_region exits slot = record { head = exits.head; leaving = exits.leaving; in_loop = with_mark exits.in_loop slot; in_function = with_mark exits.in_function slot }
 
--- the slot of a counter, as an operand
+-- The slot of an array counter, as an operand.
 abbrev pub counter_operand : Option ℕ → Option Operand
 counter_operand (Some slot) = Some (operands.Slot slot)
 counter_operand None = None

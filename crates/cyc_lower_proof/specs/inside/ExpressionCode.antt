@@ -1,4 +1,4 @@
--- The code of expressions.
+-- This file defines the code of expressions.
 use Rattle.std.specs.Prelude.{ℕ, suc, ◌+◌, Bool, true, false, ◌&&◌, is_some, if◌then◌else◌, List, [], ◌∷◌, ◌++◌, length, Option, None, Some, slice_get}
 use Rattle.cyc_types.specs.declared.typed.Callee.TheVariants as callees
 use Rattle.cyc_types.specs.declared.typed.UnaryOperator.TheVariants as unary
@@ -18,12 +18,12 @@ use Rattle.cyc_lower_proof.specs.inside.ValueCode.{keeps_words, converts_there, 
 use Rattle.cyc_lower_proof.specs.inside.ObjectCode.{stored_by, object_code, array_code, free_code}
 use Rattle.cyc_lower_proof.specs.inside.ControlCode.{closing_code, counter_operand}
 
--- the given first slots of locals and structs of the program
+-- The definitions depend on the first slots of the locals and on the structs of the program.
 module _ (starts : Starts) where
   -- ---- operands for values
 
-  -- The operand of an expression that needs no code: a number, null, the heap's handle, a local, or a counter. The conversion of a char to
-  -- an int keeps the operand.
+  -- The operand of an expression that needs no code: a number, null, the heap's handle, a local, or an array counter. The conversion of a
+  -- char to an int keeps the operand.
   abbrev pub operand_of : Expression → Option Operand
   operand_of (Number n) = Some (operands.Word n)
   operand_of NullPointer = Some (operands.Word 0)
@@ -35,8 +35,8 @@ module _ (starts : Starts) where
   operand_of (Unary unary.Widen a) = operand_of a
   operand_of a = None
 
-  -- A simple expression, whose evaluation has no effect: an operand without code, or operators on such operands. The first operand of a
-  -- chain may be a simple expression too.
+  -- Tells if an expression is simple, that is, if its evaluation has no effect: an operand without code, or operators on such operands.
+  -- The first operand of an operator chain may be a simple expression too.
   abbrev pub are_simple : Operations → Bool
   are_simple NoOperations = true
   are_simple (ThenCompute o b os) = is_some (operand_of b) && are_simple os
@@ -57,7 +57,8 @@ module _ (starts : Starts) where
   value_slot (Unary unary.Widen a) t = value_slot a t
   value_slot a t = t
 
-  -- the slot that receives the value of a left operand
+  -- The slot that receives the value of a left operand; `simple` tells if the right operand is
+  -- simple.
   abbrev pub slot_with : (simple : Bool) → Expression → (t : ℕ) → ℕ
   slot_with true a t = value_slot a t
   slot_with false a t = t
@@ -67,11 +68,12 @@ module _ (starts : Starts) where
   left_slot a (ThenCompute o b os) d t = slot_with (is_simple b) a t
   left_slot a os d t = t
 
-  -- the operand for the value of an expression, after its code
+  -- The operand that holds the value of an expression after the expression's code.
   abbrev pub value_operand : Expression → (t : ℕ) → Operand
   value_operand a t = operand_or (operand_of a) (value_slot a t)
 
-  -- The operand of a converted value, converted in place unless the conversion changes its words; then the value is first moved to slot t.
+  -- The operand of a converted value. The value is converted in place unless the conversion changes its words; then the value is first
+  -- moved to slot t.
   abbrev pub source_of : Converted → Option Operand
   source_of (Convert from to a) = if keeps_words from to then operand_of a else None
 
@@ -81,20 +83,20 @@ module _ (starts : Starts) where
   abbrev pub converted_operand : Converted → (t : ℕ) → Operand
   converted_operand c t = operand_or (source_of c) (source_slot c t)
 
-  -- the byte that `putchar` prints, its only argument
+  -- The operand with the byte that `putchar` prints, which is the only argument of `putchar`.
   abbrev pub printed_operand : Arguments → Operand → (t : ℕ) → Operand
   printed_operand NoArguments o t = o
   printed_operand (MoreArguments c cs) o t = printed_operand cs (converted_operand c t) t
 
-  -- The operand of a fat pointer while its index is computed. The fat pointer stays in its local if the index is simple, because no code in
-  -- between assigns the local.
+  -- The operand of a fat pointer while its index is computed. The fat pointer stays in its local if the index is simple, because then no
+  -- code assigns the local before the pointer is used.
   abbrev pub pointer_of : (a i : Expression) → Option Operand
   pointer_of a i = left_with (is_simple i) (operand_of a)
 
   abbrev pub pointer_slot : (a i : Expression) → (t : ℕ) → ℕ
   pointer_slot a i t = slot_or (pointer_of a i) t
 
-  -- the operand for the address of a place, to which a number of bytes is still to be added
+  -- The operand with the address of a memory access, to which a number of bytes is yet to be added.
   abbrev pub place_operand : Dereference → (t : ℕ) → Operand
   place_operand (Target k a ty) t = followed_operand (is_thin k) (span_in ty) (value_operand a t) t
   place_operand (Member k a s f ty) t = value_operand a t
@@ -111,7 +113,8 @@ module _ (starts : Starts) where
   load_code words (Local p n) d = move_of words d (operands.Slot (slot_of starts n)) ∷ []
   load_code words (Global n) d = word_by_word load_word words (global_of starts n) d
 
--- The code of an expression at place p, which moves the value to slot d and uses temporaries from slot t on.
+-- The code of an expression at position p, which moves the value to slot d and uses temporaries from slot t
+-- on.
 abbrev mutual
   pub expression_code : (starts : Starts) → Expression → (p d t : ℕ) → List Instruction
   expression_code starts (Number n) p d t = instructions.Move d (operands.Word n) ∷ []
@@ -159,11 +162,11 @@ abbrev mutual
       code_unless (operand_of starts a) (expression_code starts a p (value_slot starts a t) t) ++ closing_code (value_operand starts a t)
   expression_code starts (New OnHeap i ty) p d t = made_code starts i (operands.Word HEAP) p d t
   expression_code starts (New AsUnique i ty) p d t = made_code starts i (operands.Word UNIQUE) p d t
-  -- The handle is kept in slot t while the values are evaluated.
+  -- The region handle is kept in slot t while the values of the new object are evaluated.
   expression_code starts (New (ByHandle a) i ty) p d t =
       expression_code starts a p t t ++ made_code starts i (operands.Slot t) (p + length (expression_code starts a p t t)) d (t + 1)
 
-  -- evaluates a place that a pointer leads to, and checks it
+  -- Evaluates the address of a memory access through a pointer, and checks the pointer.
   pub place_code : (starts : Starts) → Dereference → (p t : ℕ) → List Instruction
   place_code starts (Target k a ty) p t = followed_by starts (operand_of starts a) (expression_code starts a p (value_slot starts a t) t) (is_thin k) (span_in ty) (value_operand starts a t) t p
   place_code starts (Member k a s f ty) p t = tested_by starts (operand_of starts a) (expression_code starts a p (value_slot starts a t) t) (value_operand starts a t)
@@ -172,38 +175,39 @@ abbrev mutual
       (code_unless (operand_of starts i) (expression_code starts i (p + length (code_unless_slot (pointer_of starts a i) (expression_code starts a p t t))) (value_slot starts i (t + 3)) (t + 3)))
       (span_in ty) (pointer_slot starts a i t) (value_operand starts i (t + 3)) t p
 
-  -- Allocates a new object in the region of this handle. The elements of an array have a counter.
+  -- Allocates a new object in the region of a handle. The elements of an array have a counter.
   pub made_code : (starts : Starts) → Initial → (handle : Operand) → (p d t : ℕ) → List Instruction
   made_code starts (Plain kind a) handle p d t = expression_code starts a p t t ++ object_code handle (kind ∷ []) d t
   made_code starts (Fields cs) handle p d t = arguments_code starts cs p t ++ object_code handle (kinds_passed cs) d t
   made_code starts (Array w level n kind a) handle p d t =
       array_code starts kind (expression_code starts n p t t) (λ q. expression_code (with_counter starts (t + 2)) a q (t + 3) (t + 3)) handle p d t
 
-  -- each argument is moved into the slots after those of the previous one
+  -- Each argument is moved into the slots after those of the previous argument.
   pub arguments_code : (starts : Starts) → Arguments → (p t : ℕ) → List Instruction
   arguments_code starts NoArguments p t = []
   arguments_code starts (MoreArguments c cs) p t = converted_code starts c p t ++ arguments_code starts cs (p + length (converted_code starts c p t)) (t + passed_words c)
 
-  -- the value is moved to slot t and converted there
+  -- A value is moved to slot t and converted there.
   pub converted_code : (starts : Starts) → Converted → (p t : ℕ) → List Instruction
   converted_code starts (Convert from to a) p t =
       brought_by from to (operand_of starts a) (expression_code starts a p (value_slot starts a t) t) (value_operand starts a t) (expression_code starts a p t t) t
       ++ conversion_code starts from to (span_of a) (operands.Slot t) (p + length (brought_by from to (operand_of starts a) (expression_code starts a p (value_slot starts a t) t) (value_operand starts a t) (expression_code starts a p t t) t))
 
-  -- the value is converted in place
+  -- A value is converted in place, in the operand that holds it.
   pub converted_operand_code : (starts : Starts) → Converted → (p t : ℕ) → List Instruction
   converted_operand_code starts (Convert from to a) p t =
       converted_by starts (source_of starts (Convert from to a))
       (brought_by from to (operand_of starts a) (expression_code starts a p (value_slot starts a t) t) (value_operand starts a t) (expression_code starts a p (source_slot starts (Convert from to a) t) t) (source_slot starts (Convert from to a) t))
       from to (span_of a) (converted_operand starts (Convert from to a) t) p
 
-  -- the arguments of `putchar`, of which there is one
+  -- The code of the arguments of `putchar`, of which there is exactly one.
   pub printed_code : (starts : Starts) → Arguments → (p t : ℕ) → List Instruction
   printed_code starts NoArguments p t = []
   printed_code starts (MoreArguments c cs) p t =
       converted_operand_code starts c p t ++ printed_code starts cs (p + length (converted_operand_code starts c p t)) t
 
-  -- Moves the value to slot d. The move is the last instruction, and nothing can be raised after it.
+  -- Moves an initial value to slot d. The move is the last instruction, and no exception can be
+  -- raised after it.
   pub initial_code : (starts : Starts) → Converted → (p d t : ℕ) → List Instruction
   initial_code starts (Convert from to a) p d t =
       if converts_there from to
@@ -212,7 +216,8 @@ abbrev mutual
       (brought_by from to (operand_of starts a) (expression_code starts a p (value_slot starts a t) t) (value_operand starts a t) (expression_code starts a p (source_slot starts (Convert from to a) t) t) (source_slot starts (Convert from to a) t))
       from to (span_of a) (converted_operand starts (Convert from to a) t) p d
 
-  -- The left operand is l. The left operand is in slot t if an operator is a test, or if the right operand is not simple.
+  -- The code of the operators of a chain, with the left operand l. The left operand is in slot t if an operator is a
+  -- test, or if the right operand is not simple.
   pub operations_code : (starts : Starts) → Operations → (p : ℕ) → (l : Operand) → (d t : ℕ) → List Instruction
   operations_code starts NoOperations p l d t = []
   operations_code starts (ThenCompute o b os) p l d t =
@@ -234,7 +239,8 @@ abbrev mutual
       (p + length (pointer_code o l (value_operand starts b (after_left o t)) (code_unless (operand_of starts b) (expression_code starts b p (value_slot starts b (after_left o t)) (after_left o t))) (next_slot os d t)))
       (operands.Slot (next_slot os d t)) d t
 
--- moves a value that is to be converted to slot d; for an int that becomes a char, only its low byte
+-- Moves a value that is to be converted to slot d; for an int that becomes a char, only the low
+-- byte.
 abbrev pub brought_code : (starts : Starts) → Converted → (p d t : ℕ) → List Instruction
 brought_code starts (Convert from to a) p d t =
     brought_by from to (operand_of starts a) (expression_code starts a p (value_slot starts a t) t) (value_operand starts a t) (expression_code starts a p d t) d

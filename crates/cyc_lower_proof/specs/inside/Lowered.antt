@@ -1,4 +1,5 @@
--- The contract of the lowering: the plain program that it produces, and the programs that it accepts.
+-- This file states the contract of the lowering: the plain program that it produces, and the programs
+-- that it accepts.
 use Rattle.std.specs.Prelude.{◌≡◌, ℕ, ◌*◌, ◌≤◌, ◌<◌, List, [], ◌∷◌, length}
 use Rattle.std.specs.List.{AllByRecursion}
 use Rattle.cyc_types.specs.TypedTrees.{Function, Program}
@@ -24,8 +25,8 @@ use Rattle.cyc_plain.specs.inside.Memory.{IsBelow, slots_end}
 -- ---- the behavior of the plain program
 
 -- Each run of the plain program follows a run of the source with these limits and this input, if no run of the source fails. The plain run
--- begins with this store, and the slots of `main` are at this address. The plain steps that match one source step visit each place at most
--- once.
+-- begins with the given store, and the slots of `main` are at address `base`. The plain steps that match one source step visit each code
+-- position at most once.
 abbrev pub FollowsSource : Program → PlainProgram → (pages calls base : ℕ) → StoreState → (input : List ℕ) → Type 0
 FollowsSource source lowered pages calls base store input =
     NeverFails (source_machine source pages calls) (start source input)
@@ -38,15 +39,16 @@ pub record IsLoweredFunction (h : Function) (r : Routine) : Type 0 where
   pub frame : r.frame_count ≡ frame_count h
   pub small : size r ≤ size_per_weight * function_weight h
 
--- all functions are lowered, in order
+-- Says that all functions are lowered, in order.
 abbrev pub AreLoweredFunctions : List Function → List Routine → Type 0
 AreLoweredFunctions [] [] = Unit {0}
 AreLoweredFunctions (h ∷ hs) (r ∷ rs) = IsLoweredFunction h r × AreLoweredFunctions hs rs
 AreLoweredFunctions [] (r ∷ rs) = ⊥
 AreLoweredFunctions (h ∷ hs) [] = ⊥
 
--- A plain program for a source program: it is well-formed and follows the source. For each function it records the place of the name and
--- the size of the frame. The globals of the lowered program are the words of the source's globals.
+-- Says that a plain program is a lowering of a source program: it is well-formed and follows the source. For each function the plain
+-- program records the source position of the name and the size of the frame. The globals of the lowered program are the words of the
+-- source's globals.
 pub record IsLowered (source : Program) (lowered : PlainProgram) : Type 0 where
   pub well_formed : IsWellFormed lowered
   pub words : HasWords lowered
@@ -55,12 +57,12 @@ pub record IsLowered (source : Program) (lowered : PlainProgram) : Type 0 where
   pub follows : (pages calls base : ℕ) (store : StoreState) (input : List ℕ) → IsNew pages store → 1 ≤ pages → pages ≤ MOST_PAGES → 1 ≤ calls → AllByRecursion (λ b. b < 256) input
       → IsBelow lowered lowered.main base slots_end → FollowsSource source lowered pages calls base store input
 
--- The demands on a well-typed tree. The tree of a text satisfies them. The tree of a text can be lowered: its numbers are words, and its
--- globals have at most as many words as it has tokens.
+-- The requirements of lowering on a well-typed tree. The tree of a text satisfies these requirements. Its numbers are 32-bit words, and
+-- its globals have at most as many words as the text has tokens.
 pub record CanBeLowered (source : Program) : Type 0 where
   pub of_words : IsOfWordsProgram source
   pub few_globals : words_of_all (global_types source.globals) ≤ MOST_GLOBALS
 
--- An accepted program, which has at most the maximal number of functions.
+-- Says that a program is the given one and has at most `max_functions` functions.
 abbrev pub IsAccepted : (given program : Program) → Type 0
 IsAccepted given program = (program ≡ given) × (length program.functions ≤ max_functions)

@@ -1,8 +1,9 @@
--- The plain program of a typed program, as a function of it. Code has absolute places, so the code of a construct is made for a place p.
--- The last instruction of an expression's code moves its value to slot d, so d may be the slot of a local that the expression reads. All
--- other writes go to the slots from t on. Numbers and locals are used as operands directly.
+-- This file defines the plain program as a function of the typed program. Code has absolute positions, so the code of a construct is
+-- emitted for a position p. The last instruction of an expression's code moves the value to slot d, so d may be the slot of a local that
+-- the expression reads. All other writes go to the slots from t on. Numbers and locals are used as operands directly.
 --
--- A value occupies as many consecutive slots as its kind has words, and a global as many words.
+-- A value occupies as many consecutive slots as its kind has words, and a global occupies as many
+-- consecutive words.
 use Rattle.std.specs.Prelude.{◌≡◌, ◌<◌, ◌≤◌, ℕ, zero, suc, ◌+◌, Bool, false, List, [], ◌∷◌, ◌++◌, length, map, replicate, ◌-◌, Option, None, Some, true, ◌||◌, ◌&&◌, is_some, if◌then◌else◌, max, take, not}
 use Rattle.std.specs.List.{list_any}
 use Rattle.cyc_words.specs.declared.span.Span.{Span}
@@ -36,7 +37,7 @@ use Rattle.cyc_lower_proof.specs.inside.ControlCode.{after_record, kept_code, ta
 use Rattle.cyc_lower_proof.specs.inside.ExpressionCode.{operand_of, value_slot, slot_with, value_operand, source_of, converted_operand, printed_operand, place_operand, place_offset, load_code, expression_code, place_code, converted_operand_code, printed_code, initial_code, brought_code, is_simple}
 
 module _ (starts : Starts) where
-  -- the code of an assignment, and the operand for its value afterwards
+  -- The code of an assignment; below it, the operand that holds the assigned value afterwards.
   abbrev pub assignment_code : Lvalue → Converted → (p t : ℕ) → List Instruction
   assignment_code (Local w n) c p t = initial_code starts c p (slot_of starts n) t
   assignment_code (Global n) c p t = converted_operand_code starts c p t ++ global_code (passed_words c) (global_of starts n) (converted_operand starts c t)
@@ -45,16 +46,17 @@ module _ (starts : Starts) where
   assigned_operand (Local w n) c t = operands.Slot (slot_of starts n)
   assigned_operand (Global n) c t = converted_operand starts c t
 
-  -- Moves the address of a place to slot t, where it waits for the right side.
+  -- Moves the address of a cell to slot t, where it waits until the right side of the assignment is
+  -- evaluated.
   abbrev pub store_address_code : Dereference → (p t : ℕ) → List Instruction
   store_address_code x p t = addressed_by (place_code starts x p t) (place_operand starts x t) (place_offset starts x) t
 
-  -- stores a value in a cell
+  -- Stores a value in a cell.
   abbrev pub store_code : Dereference → Converted → (p t : ℕ) → List Instruction
   store_code x c p t =
       stored_by (store_address_code x p t) (converted_operand_code starts c (p + length (store_address_code x p t)) (t + 1)) (kind_passed c) t (converted_operand starts c (t + 1))
 
-  -- the code of an expression whose value is not used
+  -- The code of an expression whose value is not used.
   abbrev pub discarded_code : Expression → (p t : ℕ) → List Instruction
   discarded_code (Call callees.Putchar cs ty) p t =
       printed_code starts cs p t ++ instructions.WriteByte (printed_operand starts cs (operands.Slot t) t) ∷ []
@@ -64,7 +66,8 @@ module _ (starts : Starts) where
 
   -- ---- statements
 
-  -- The first of two compared operands. The first operand is used without code only if the second one is simple.
+  -- The first of two compared operands. The first operand is used without code only if the second operand is
+  -- simple.
   abbrev pub first_operand : (a b : Expression) → (t : ℕ) → Operand
   first_operand a b t = operand_or (left_with (is_simple starts b) (operand_of starts a)) (slot_with starts (is_simple starts b) a t)
 
@@ -78,7 +81,7 @@ module _ (starts : Starts) where
   abbrev pub pair_code : (a b : Expression) → (p t : ℕ) → List Instruction
   pair_code a b p t = first_code a b p t ++ second_code b (p + length (first_code a b p t)) t
 
-  -- the code of a condition, before the jump that is taken if it fails
+  -- The code of a condition, up to the jump that is taken if the condition fails.
   abbrev pub condition_code : Expression → (p t : ℕ) → List Instruction
   condition_code a p t = pair_code (compared_of a).left (compared_of a).right p t
 
@@ -89,7 +92,7 @@ module _ (starts : Starts) where
     right = value_operand starts (compared_of a).right (suc t);
   }
 
-  -- The further operands of a condition, after the first, whose code precedes. If the previous operand decides, a jump leads to the place
+  -- The code of the operands of a condition after the first one. If the previous operand decides, then a jump goes to the position
   -- `following`.
   abbrev pub others_code : LogicalOperator → Operations → Condition → (following p t : ℕ) → List Instruction
   others_code u NoOperations c following p t = []
@@ -110,9 +113,10 @@ module _ (starts : Starts) where
   abbrev pub tests_code : LogicalOperator → Expression → Operations → (following p t : ℕ) → List Instruction
   tests_code u a os following p t = condition_code a p t ++ others_code u os (condition_of a t) following (p + length (condition_code a p t)) t
 
-  -- A condition with tests by one operator: only its last operand is left to the final jump. If an earlier operand decides, control
-  -- continues after that jump. The length of the code does not depend on that place, so the code is first made for an arbitrary place. A
-  -- negated condition uses tests by the other operator, since an operand that decides the tests decides the whole.
+  -- A condition that is a chain of tests by one operator: only the last operand is left to the final jump. If an earlier operand
+  -- decides, then control continues after the final jump. The length of the code does not depend on the position after the final jump,
+  -- so the code is first emitted for an arbitrary position. A negated condition uses tests by the other operator, since an operand that
+  -- decides the tests decides the negated condition too.
   abbrev pub after_tests : LogicalOperator → Expression → Operations → (p t : ℕ) → ℕ
   after_tests u a os p t = p + length (tests_code u a os 0 p t) + 1
 
@@ -127,9 +131,9 @@ module _ (starts : Starts) where
   choice_of u (Binary a os ty) t = if are_tests u os then last_condition os (condition_of a t) t else condition_of (Binary a os ty) t
   choice_of u a t = condition_of a t
 
-  -- The condition of a branch. Each deciding test by this operator leads to the place `other` of the other statement. The last test leads
-  -- to `other` by the jump after the code. The deciding tests are failing tests by `&&`, or, if the whole is negated, tests by `||` that
-  -- hold.
+  -- The condition of a branch. Each deciding test by the operator u jumps to the position `other` of the other statement. The last test
+  -- jumps to `other` by the jump after the code. The deciding tests are failing tests by `&&` or, if the condition is negated, tests by
+  -- `||` that hold.
   abbrev pub branch_code : LogicalOperator → Expression → (other p t : ℕ) → List Instruction
   branch_code u (Unary unary.Not a) other p t = branch_code (turned_test u) a other p t
   branch_code u (Binary a os ty) other p t =
@@ -142,7 +146,8 @@ module _ (starts : Starts) where
       if are_tests u os then last_condition os (condition_of a t) t else choice_of (turned_test u) (Binary a os ty) t
   branch_of u a t = choice_of (turned_test u) a t
 
-  -- A light expression, which has little code: it is simple, or loads through a pointer without code at a simple index.
+  -- Tells if an expression is light, that is, has little code: it is simple, or it loads through a pointer without code
+  -- at a simple index.
   abbrev pub is_light_place : Dereference → Bool
   is_light_place (Element a i ty) = is_some (operand_of starts a) && is_simple starts i
   is_light_place x = false
@@ -152,7 +157,8 @@ module _ (starts : Starts) where
   is_light (Unary unary.Widen a) = is_light a
   is_light a = is_simple starts a
 
-  -- A light condition, which has so little code that it may be duplicated: a light expression, or a comparison of two.
+  -- Tells if a condition is light, that is, has so little code that it may be duplicated: it is a light expression, or
+  -- it compares two light expressions.
   abbrev pub is_light_comparison : Operator → (a b : Expression) → Bool
   is_light_comparison o a b = is_some (failing_comparison o) && (is_light a && is_light b)
 
@@ -165,11 +171,12 @@ module _ (starts : Starts) where
   is_guard (Binary a os ty) = is_simple starts (Binary a os ty) || compares_light a os
   is_guard a = is_light a
 
-  -- true for a loop with a light condition and no `break` in its body
+  -- Holds for a loop with a light condition and without a `break` in its body.
   abbrev pub goes_through : Expression → Statement → Bool
   goes_through a s = is_guard a && not (breaks s)
 
-  -- A returned value is in a slot: that of a local, or t. A returned value is converted before handlers are closed.
+  -- A returned value is in a slot: the slot of a local, or slot t. A returned value is converted before handlers
+  -- are closed.
   abbrev pub return_code : Option Converted → (p : ℕ) → Exits → (t : ℕ) → List Instruction
   return_code None p exits t = leave_code exits.in_function ++ instructions.Finish t ∷ []
   return_code (Some (Convert from to a)) p exits t =
@@ -179,23 +186,24 @@ module _ (starts : Starts) where
       ++ instructions.Finish (slot_or (source_of starts (Convert from to a)) t)
       ∷ []
 
-  -- Moves the address of a swap's side that is a cell to slot t. A side that is a variable needs no code.
+  -- Moves the address of one side of a swap to slot t, if this side is a cell. A side that is a variable
+  -- needs no code.
   abbrev pub side_code : Side → (p t : ℕ) → List Instruction
   side_code (VariableSide l ty) p t = []
   side_code (CellSide x) p t = store_address_code x p t
 
-  -- moves the words of a side, of this kind, to slot d and the following ones
+  -- Moves the words of one side of a swap, of this kind, to slot d and the following slots.
   abbrev pub read_side : Side → Kind → (address d : ℕ) → List Instruction
   read_side (VariableSide l ty) kind s d = load_code starts (words_of_kind kind) l d
   read_side (CellSide x) kind s d = word_by_word (load_at kind s) (words_of_kind kind) 0 d
 
-  -- moves the words in slot v and the following ones to a side
+  -- Moves the words in slot v and the following slots to one side of a swap.
   abbrev pub write_side : Side → Kind → (address v : ℕ) → List Instruction
   write_side (VariableSide (Local w n) ty) kind s v = move_of (words_of_kind kind) (slot_of starts n) (operands.Slot v) ∷ []
   write_side (VariableSide (Global n) ty) kind s v = global_code (words_of_kind kind) (global_of starts n) (operands.Slot v)
   write_side (CellSide x) kind s v = stores_code kind (words_of_kind kind) s 0 v
 
-  -- reads both sides of this kind, the left one first, and then writes them
+  -- Reads both sides of a swap, the left side first, and then writes both.
   abbrev pub exchange_code : Kind → (left right : Side) → (t : ℕ) → List Instruction
   exchange_code kind a b t =
       read_side a kind t (t + 2)
@@ -206,12 +214,12 @@ module _ (starts : Starts) where
   swap_code a b p t =
       side_code a p t ++ (side_code b (p + length (side_code a p t)) (right_slot a t) ++ exchange_code (kind_of (type_of_side a)) a b t)
 
-  -- declares a local of a type with an initial value
+  -- Declares a local of a type with an initial value or without one.
   abbrev pub declaration_code : (number : ℕ) → Ty → Option Converted → (p t : ℕ) → List Instruction
   declaration_code n ty None p t = blank_code (kind_of ty) (slot_of starts n)
   declaration_code n ty (Some c) p t = initial_code starts c p (slot_of starts n) t
 
-  -- the int of a thrown exception, which is 0 if it has none
+  -- The operand with the int of a thrown exception; the int is 0 if the exception has none.
   abbrev pub thrown_operand : Option Expression → (t : ℕ) → Operand
   thrown_operand None t = operands.Word 0
   thrown_operand (Some a) t = value_operand starts a t
@@ -220,12 +228,13 @@ module _ (starts : Starts) where
   thrown_code None p t = []
   thrown_code (Some a) p t = code_unless (operand_of starts a) (expression_code starts a p (value_slot starts a t) t)
 
-  -- stores the int of a caught exception in the clause's local
+  -- Stores the int of a caught exception in the local of its `catch` clause.
   abbrev pub caught_code : (number : Option ℕ) → (t : ℕ) → List Instruction
   caught_code None t = []
   caught_code (Some n) t = instructions.Move (slot_of starts n) (operands.Slot (t + 1)) ∷ []
 
-  -- The code of a statement at place p, with its exits and the first slot for temporaries.
+  -- The code of a statement at position p, with the exits of the statement and the first slot for
+  -- temporaries.
   abbrev mutual
     pub statement_code : Statement → (p : ℕ) → Exits → (t : ℕ) → List Instruction
     statement_code (Block r js) p exits t = items_code js p exits t
@@ -255,15 +264,17 @@ module _ (starts : Starts) where
         statement_code s p exits t ++ items_code js (p + length (statement_code s p exits t)) exits t
     items_code (MoreItems (Declare n ty v) js) p exits t =
         declaration_code n ty v p t ++ items_code js (p + length (declaration_code n ty v p t)) exits t
-    -- after a region is opened, temporaries begin after its mark; at the end of the block the region is closed
+    -- After a region is opened, temporaries begin after the slot with the saved region count; at the end of
+    -- the block the region is closed.
     items_code (MoreItems (DeclareRegion r n) js) p exits t =
         opened_code starts n t ++ (items_code js (p + length (opened_code starts n t)) (inside_region exits t) (t + 1) ++ closed_code t)
-    -- the word of a key is the handle of its region
+    -- The word of a key is the handle of the key's region.
     items_code (MoreItems (OpenRegion r n w k) js) p exits t = named_code starts 1 n (operands.Slot (slot_of starts k)) ++ items_code js (p + 1) exits t
     items_code (MoreItems (DeclareAlias r n ty w s) js) p exits t = named_code starts (words_of ty) n (operands.Slot (slot_of starts s)) ++ items_code js (p + 1) exits t
     items_code (MoreItems (DeclareKey r n) js) p exits t = dynamic_code starts n t ++ items_code js (p + length (dynamic_code starts n t)) exits t
 
-    -- the clauses of a `try`; the number and the int of the exception are in the slots from t on
+    -- The code of the clauses of a `try`; the number and the int of the exception are in the slots
+    -- from t on.
     pub clauses_code : Clauses → (p out : ℕ) → Exits → (t : ℕ) → List Instruction
     clauses_code NoClauses p out exits t = goes_on t ∷ []
     clauses_code (Default r js) p out exits t = items_code js p exits t
@@ -275,42 +286,45 @@ module _ (starts : Starts) where
 
 -- ---- programs
 
--- The parameters of the code of a function. The parameters are the structs of the program, the first words of its globals, and the place
--- after which the blocks begin that raise exceptions. If a `try` keeps the number of open lexical regions, its place is a parameter too.
+-- The parameters of the code of a function. The parameters are the structs of the program, the first words of its globals, and the
+-- position after which the blocks that raise exceptions begin. If a `try` saves the number of open lexical regions, then the offset of
+-- this number is a parameter too.
 abbrev pub starts_with : (raises : ℕ) → List StructType → (globals : List ℕ) → (scopes : Option ℕ) → Function → Starts
 starts_with raises structs globals scopes h = record { locals = starts_from 0 (slot_types h); tag_slot = tag_slot h; structs = structs; raises = raises; counters = []; globals = globals; scopes = scopes }
 
--- the code of a function's body
+-- The code of a function's body.
 abbrev pub body_code : Starts → Function → List Instruction
 body_code starts h = items_code starts h.body 0 outside_loops (first_temporary h)
 
--- The blocks come after the code, whose length does not depend on their place. The code is first made for a far place of the blocks, and
--- its jumps are then adjusted to the real place.
+-- The exception blocks come after the code of the body, whose length does not depend on their position. The code is first emitted for a
+-- far position of the blocks, and its jumps are then adjusted to the real position.
 abbrev pub raises_of : List StructType → (globals : List ℕ) → (scopes : Option ℕ) → Function → ℕ
 raises_of structs globals scopes h = length (body_code (starts_with 0 structs globals scopes h) h)
 
 abbrev pub types_of : List StructType → (globals : List Ty) → (scopes : Option ℕ) → Function → Types
 types_of structs globals scopes h = record { locals = slot_types h; structs = structs; raises = raises_of structs (starts_from 0 globals) scopes h; counters = []; globals = globals; scopes = scopes }
 
--- the place to which an instruction jumps, besides the next one
+-- The position to which an instruction may jump: the target of a jump, or the handler of a `try`; 0
+-- for all other instructions.
 abbrev pub target_of : Instruction → ℕ
 target_of (instructions.Jump target) = target
 target_of (instructions.Branch comparison left right target) = target
 target_of (instructions.Try first handler) = handler
 target_of i = 0
 
--- the greatest target of these instructions
+-- The greatest jump target of a list of instructions.
 abbrev pub farthest : List Instruction → ℕ
 farthest [] = 0
 farthest (i ∷ is) = max (target_of i) (farthest is)
 
--- adjusts an instruction: a jump to a place past `far` leads equally far past `near`
+-- Adjusts an instruction: a jump to a position past `far` becomes a jump equally far past `near`.
 abbrev pub turned : (far near : ℕ) → Instruction → Instruction
 turned far near (instructions.Jump target) = instructions.Jump (target - far + near)
 turned far near (instructions.Branch comparison left right target) = instructions.Branch comparison left right (target - far + near)
 turned far near i = i
 
--- the second instruction is the adjusted first, or equal to it if it does not jump past `far`
+-- Says that the instruction j is the adjusted instruction i, or is equal to i if i does not jump
+-- past `far`.
 abbrev pub IsTurned : (far near : ℕ) → (i j : Instruction) → Type 0
 IsTurned far near i j = (far < target_of i → j ≡ turned far near i) × (target_of i ≤ far → j ≡ i)
 
@@ -320,11 +334,12 @@ AreTurned far near (i ∷ old) [] = ⊥
 AreTurned far near (i ∷ old) (j ∷ new) = IsTurned far near i j × AreTurned far near old new
 
 -- The code of a body ends with a return, which is the end of a void function. In any other function this return is unreachable, and only
--- prevents the code from running off its end. After that instruction come this many blocks.
+-- prevents the code from running off its end. After the return come `count` exception blocks.
 abbrev pub with_blocks : (body : List Instruction) → (slot count : ℕ) → List Instruction
 with_blocks body slot count = body ++ instructions.Finish slot ∷ take count (blocks slot)
 
--- the number of blocks that are kept: up to the last one that is a jump target; the first two form one unit
+-- The number of exception blocks that are kept: up to the last block that is a jump target; the first two
+-- blocks form one unit.
 abbrev pub blocks_kept : (farthest : ℕ) → ℕ
 blocks_kept (suc zero) = 2
 blocks_kept n = n
@@ -336,7 +351,7 @@ abbrev pub function_code : List StructType → (globals : List ℕ) → (scopes 
 function_code structs globals scopes h =
     finished_code (body_code (starts_with (raises_of structs globals scopes h) structs globals scopes h) h) (raises_of structs globals scopes h) (tag_slot h)
 
--- the number of words that a function returns
+-- The number of words that a function with this result type returns.
 abbrev pub results_of : Option Ty → ℕ
 results_of None = 0
 results_of (Some t) = words_of t
@@ -344,11 +359,12 @@ results_of (Some t) = words_of t
 abbrev pub span_of_place : Place → Span
 span_of_place p = record { line = p.line; column = p.column }
 
--- the number of words of the largest value
+-- The number of words of the largest value, which is a fat pointer.
 abbrev pub spare_slots : ℕ
 spare_slots = 3
 
--- The slots of a function: its locals, the tag slot, the records of its handlers, its temporaries, and those of one more value.
+-- The slots of a function: its locals, the tag slot, the records of its handlers, its temporaries, and the slots of one more
+-- value.
 abbrev pub lower_function : List StructType → (globals : List ℕ) → (scopes : Option ℕ) → Function → Routine
 lower_function structs globals scopes h = record {
   name = span_of_place h.place;
@@ -359,12 +375,12 @@ lower_function structs globals scopes h = record {
   code = function_code structs globals scopes h;
 }
 
--- the first word of a global's initial value
+-- The first word of the initial value of a global.
 abbrev pub initial_word : Constant → ℕ
 initial_word (Word n) = n
 initial_word Null = 0
 
--- The words of a global: that of its number or null, followed by zeros. The words of all globals are consecutive.
+-- The words of a global: its number or null, followed by zeros. The words of all globals are consecutive.
 abbrev pub lower_global : GlobalVariable → List ℕ
 lower_global g = initial_word g.value ∷ replicate (words_of g.of_type - 1) 0
 
@@ -376,7 +392,8 @@ lower_globals (g ∷ gs) = lower_global g ++ lower_globals gs
 abbrev pub globals_of : Program → List ℕ
 globals_of p = starts_from 0 (global_types p.globals)
 
--- True if some local is a handle; a function that opens a region has its handle as a local.
+-- True if some local is a region handle; a function that opens a region has the region's handle as
+-- a local.
 abbrev pub is_handle : Ty → Bool
 is_handle (Handle r) = true
 is_handle t = false
@@ -384,7 +401,8 @@ is_handle t = false
 abbrev pub may_open : Function → Bool
 may_open h = list_any is_handle h.parameters || list_any is_handle h.locals
 
--- The offset in a handler record at which a `try` stores the number of open lexical regions, if the program may open any.
+-- The offset from the start of a handler record at which a `try` stores the number of open lexical regions, if the
+-- program may open any.
 abbrev pub scopes_if : Bool → Option ℕ
 scopes_if true = Some RECORD_WORDS
 scopes_if false = None
@@ -392,7 +410,7 @@ scopes_if false = None
 abbrev pub scopes_of : Program → Option ℕ
 scopes_of p = scopes_if (list_any may_open p.functions)
 
--- the plain program; each function keeps its number
+-- The plain program of a source program; each function keeps its number.
 abbrev pub lower_program : Program → PlainProgram
 lower_program p = record {
   functions = map (lower_function p.structs (globals_of p) (scopes_of p)) p.functions;

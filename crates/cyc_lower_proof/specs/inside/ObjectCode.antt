@@ -1,4 +1,5 @@
--- The code that allocates objects and arrays, frees them, and swaps their contents.
+-- This file defines the code that allocates objects and arrays, frees them, and swaps their
+-- contents.
 use Rattle.std.specs.Prelude.{ℕ, zero, suc, ◌+◌, max, ◌==◌, if◌then◌else◌, List, [], ◌∷◌, ◌++◌, length, ◌*◌}
 use Rattle.cyc_types.specs.declared.typed.Kind.{Kind}
 use Rattle.cyc_types.specs.declared.typed.Kind.TheVariants as kinds
@@ -19,18 +20,19 @@ use Rattle.cyc_lower_proof.specs.inside.ValueCode.{jump_if_zero, guard_code, sca
 
 -- ---- new objects
 
--- stores this many words of a value, which are in slots, to memory after an address
+-- Stores the words of a value from consecutive slots to memory, at an address plus an offset.
 abbrev pub stores_code : Kind → (many address offset slot : ℕ) → List Instruction
 stores_code kind zero address offset slot = []
 stores_code kind (suc many) address offset slot =
     store_of kind (operands.Slot address) offset (operands.Slot slot) ∷ stores_code kind many address (offset + 4) (suc slot)
 
--- Stores a value of a kind in the cell whose address is in a slot. A constant operand has one word.
+-- Stores a value of a kind in the cell whose address is in a slot. An operand that is a constant
+-- has one word.
 abbrev pub saved_code : Kind → (address : ℕ) → Operand → List Instruction
 saved_code kind address (operands.Slot n) = stores_code kind (words_of_kind kind) address 0 n
 saved_code kind address (operands.Word n) = store_of kind (operands.Slot address) 0 (operands.Word n) ∷ []
 
--- stores a value in a cell, whose address is kept in a slot
+-- Stores a value in a cell, whose address is kept in a slot while the value is evaluated.
 abbrev pub stored_by : (address value : List Instruction) → Kind → (slot : ℕ) → Operand → List Instruction
 stored_by address value kind slot o = address ++ (value ++ saved_code kind slot o)
 
@@ -39,15 +41,15 @@ abbrev pub slots_of_kinds : List Kind → ℕ
 slots_of_kinds [] = 0
 slots_of_kinds (kind ∷ ks) = words_of_kind kind + slots_of_kinds ks
 
--- Stores values of these kinds, in consecutive slots, to the cells of the object whose address is in a slot. Each cell begins where its
--- kind may begin after this many bytes.
+-- Stores values of these kinds, from consecutive slots, to the cells of the object whose address is in a slot. Each cell begins at the
+-- first offset from `at` on that is aligned for its kind.
 abbrev pub cells_code : List Kind → (address at slot : ℕ) → List Instruction
 cells_code [] address at slot = []
 cells_code (kind ∷ ks) address at slot =
     stores_code kind (words_of_kind kind) address (begins kind at) slot ++ cells_code ks address (following kind at) (slot + words_of_kind kind)
 
--- Allocates a block in the region of this handle, with a cell for each of these kinds. The code then stores the values in the slots from t
--- on into the block. The address of the block is in the slot after them, and is then moved to slot d.
+-- Allocates a block in the region of a handle, with a cell for each of these kinds. The code then stores the values in the slots from t on
+-- into the block. The address of the block is in the slot after these values, and is then moved to slot d.
 abbrev pub object_code : (handle : Operand) → List Kind → (d t : ℕ) → List Instruction
 object_code handle ks d t =
     instructions.Ask (requests.Allocate (t + slots_of_kinds ks) handle (operands.Word (max 1 (words_for (bytes_from 0 ks)))))
@@ -57,7 +59,8 @@ object_code handle ks d t =
 
 -- ---- arrays
 
--- the largest number of elements of an array, for elements of 4, 1 or 12 bytes: those that fit into 1000 words
+-- The largest number of elements of an array, for elements of 4, 1 or 12 bytes: as many as fit into 1000
+-- words.
 abbrev pub most_elements : (bytes : ℕ) → ℕ
 most_elements bytes = if bytes == 4 then 1000 else if bytes == 1 then 4000 else 333
 
@@ -69,7 +72,8 @@ measured_code starts kind x y t =
     ∷ instructions.Move y (operands.Word 0)
     ∷ []
 
--- Computes into slot t the number of words of as many elements as it counts. A word of the block contains four chars.
+-- Replaces a number of elements in slot t by the number of words that these elements take. A word of the block
+-- contains four chars.
 abbrev pub sized_code : Kind → (t : ℕ) → List Instruction
 sized_code kinds.Char t =
     instructions.Binary plain_binary.Add t (operands.Slot t) (operands.Word 3)
@@ -77,8 +81,8 @@ sized_code kinds.Char t =
     ∷ []
 sized_code kind t = instructions.Binary plain_binary.Multiply t (operands.Slot t) (operands.Word (words_of_kind kind)) ∷ []
 
--- Allocates a block for as many elements as slot t counts, of at least one word. The number of words of the block is in slot s, its address
--- in slot t.
+-- Allocates a block for as many elements as slot t counts, of at least one word. The number of words of the block is in slot s, and the
+-- address of the block in slot t.
 abbrev pub asked_code : (handle : Operand) → Kind → (s t : ℕ) → List Instruction
 asked_code handle kind s t =
     sized_code kind t
@@ -87,12 +91,13 @@ asked_code handle kind s t =
     ∷ instructions.Ask (requests.Allocate t handle (operands.Slot s))
     ∷ []
 
--- begins a new array, whose length is in slot t: afterwards t contains its address, and the next two slots its length and its index
+-- Begins a new array whose length is in slot t: afterwards slot t contains the array's address, and the next two slots contain its
+-- length and its index.
 abbrev pub begun_code : Starts → (handle : Operand) → Kind → (t : ℕ) → List Instruction
 begun_code starts handle kind t = measured_code starts kind (t + 1) (t + 2) t ++ asked_code handle kind (t + 3) t
 
--- Stores the element in slot s and the following ones in its cell of the array at the address in slot t. The index in slot y is
--- incremented; slot z receives the address of the cell.
+-- Stores the element in slot s and the following slots in its cell of the array whose address is in slot t. The index in slot y
+-- is incremented; slot z receives the address of the cell.
 abbrev pub written_code : Kind → (head y s z t : ℕ) → List Instruction
 written_code kind head y s z t =
     scale_of (bytes_of_kind kind) z y
@@ -105,24 +110,25 @@ written_code kind head y s z t =
 abbrev pub filled_code : Kind → (head t : ℕ) → List Instruction
 filled_code kind head t = written_code kind head (t + 2) (t + 3) (t + 3 + words_of_kind kind) t
 
--- after the last element, the index in slot y is reset to 0, and the pointer is moved from slot t to slot d
+-- Resets the index in slot y to 0 after the last element, and moves the pointer from slot t to slot d.
 abbrev pub restarted_code : (d y t : ℕ) → List Instruction
 restarted_code d y t = instructions.Move y (operands.Word 0) ∷ copy_code 3 (operands.Slot t) d
 
 abbrev pub ended_code : (d t : ℕ) → List Instruction
 ended_code d t = restarted_code d (t + 2) t
 
--- the index in slot y is past the last element, by the length in slot x
+-- The condition that the index in slot y is past the last element, given the length in slot x.
 abbrev pub last_element : (x y : ℕ) → Condition
 last_element x y = record { failing = comparisons.Equal; left = operands.Slot y; right = operands.Slot x }
 
--- the elements of an array; the code of each element comes after the loop head
+-- The code that fills the elements of an array; the code of each element comes after the loop head.
 abbrev pub elements_code : Kind → (element : List Instruction) → (head d t : ℕ) → List Instruction
 elements_code kind element head d t =
     instructions.Branch comparisons.Equal (operands.Slot (t + 2)) (operands.Slot (t + 1)) (head + 1 + length (element ++ filled_code kind head t))
     ∷ ((element ++ filled_code kind head t) ++ ended_code d t)
 
--- the code of the length is at place p, and that of an element is made for its place
+-- The code of a new array; the code of the length is at position p, and the code of an element is
+-- emitted for its own position.
 abbrev pub array_code : Starts → Kind → (count : List Instruction) → (element : ℕ → List Instruction) → (handle : Operand) → (p d t : ℕ) → List Instruction
 array_code starts kind count element handle p d t =
     count
@@ -135,11 +141,12 @@ free_code o p = jump_if_zero o (p + 2) ∷ instructions.Ask (requests.Free o) �
 
 -- ---- swaps
 
--- loads a word of a cell of this kind, given its index in the cell, from the address in a slot
+-- Loads a word of a cell of this kind, given the word's index in the cell, from the address in a
+-- slot.
 abbrev pub load_at : Kind → (address : ℕ) → (index slot : ℕ) → Instruction
 load_at kind address index slot = load_of kind slot (operands.Slot address) (4 * index)
 
--- the slot for the address of a swap's right side, after that of the left side
+-- The slot for the address of a swap's right side, after the slot for the address of the left side.
 abbrev pub right_slot : (left : Side) → (t : ℕ) → ℕ
 right_slot (VariableSide l ty) t = t
 right_slot (CellSide x) t = t + 1

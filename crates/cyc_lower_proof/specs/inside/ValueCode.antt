@@ -1,4 +1,5 @@
--- The code that moves words to slots: for operands, places, operators and conversions.
+-- This file defines the code that moves words to slots: for operands, addresses, operators and
+-- conversions.
 use Rattle.std.specs.Prelude.{ℕ, zero, suc, ◌+◌, ◌==◌, Bool, false, not, ◌&&◌, if◌then◌else◌, List, [], ◌∷◌, ◌++◌, length, Option, None, Some, ◌%◌, ◌^◌, true, option_map, unwrap_or}
 use Rattle.cyc_words.specs.Word.{add_of, mul_of}
 use Rattle.cyc_types.specs.declared.typed.Kind.{Kind}
@@ -35,7 +36,8 @@ use Rattle.cyc_meaning.specs.Parts.{target_of, target_by, target_of_value}
 abbrev pub slot_types : Function → List Ty
 slot_types h = h.parameters ++ h.locals
 
--- The slot after a function's locals, in which a failing access stores which exception it raises.
+-- The slot after a function's locals, in which a failing access stores a word that tells which
+-- exception it raises.
 abbrev pub tag_slot : Function → ℕ
 tag_slot h = words_of_all (slot_types h)
 
@@ -47,7 +49,8 @@ first_temporary h = tag_slot h + 1
 abbrev pub low_byte : Operand → (d : ℕ) → Instruction
 low_byte o d = instructions.Binary plain_binary.And d o (operands.Word 255)
 
--- the instruction for a unary operator; the conversion of a char to an int keeps its word
+-- The instruction for a unary operator; the conversion of a char to an int keeps the word of the
+-- char.
 abbrev pub unary_instruction : UnaryOperator → (d : ℕ) → Operand → Instruction
 unary_instruction unary.Negate d o = instructions.Unary plain_unary.Negate d o
 unary_instruction unary.Not d o = instructions.Unary plain_unary.Not d o
@@ -73,7 +76,8 @@ binary_operator operators.Multiply = plain_binary.Multiply
 binary_operator operators.Divide = plain_binary.Divide
 binary_operator operators.Remainder = plain_binary.Remainder
 
--- the operation of a pointer operator on words: on the first words of two pointers (0 for null), or on an index
+-- The operation of a pointer operator on words: it compares the first words of two pointers (0 for null), or
+-- changes an index.
 abbrev pub pointer_operator : PointerOperator → PlainBinary
 pointer_operator pointers.AddFat = plain_binary.Add
 pointer_operator pointers.SubtractFat = plain_binary.Subtract
@@ -86,7 +90,7 @@ pointer_operator pointers.NullIsNot = plain_binary.NotEqual
 pointer_operator pointers.EqualThin = plain_binary.Equal
 pointer_operator pointers.NotEqualThin = plain_binary.NotEqual
 
--- a kind with as many words as the left operand of a pointer operator
+-- A kind that has as many words as the left operand of a pointer operator.
 abbrev pub left_kind : PointerOperator → Kind
 left_kind pointers.AddFat = kinds.Fat
 left_kind pointers.SubtractFat = kinds.Fat
@@ -94,11 +98,12 @@ left_kind pointers.FatIsNull = kinds.Fat
 left_kind pointers.FatIsNotNull = kinds.Fat
 left_kind o = kinds.Nullable
 
--- the slot after that operand, which is in slot t
+-- The slot after the left operand of a pointer operator, which is in slot t.
 abbrev pub after_left : PointerOperator → (t : ℕ) → ℕ
 after_left o t = t + words_of_kind (left_kind o)
 
--- the comparison that holds exactly if the operator's comparison fails, if it is a comparison
+-- The comparison that holds exactly if the operator's comparison fails, or `None` if the operator
+-- is not a comparison.
 abbrev pub failing_comparison : Operator → Option Comparison
 failing_comparison operators.Equal = Some comparisons.NotEqual
 failing_comparison operators.NotEqual = Some comparisons.Equal
@@ -110,7 +115,7 @@ failing_comparison o = None
 
 -- ---- operands
 
--- the operand of a value: the known one, or the slot to which the code moves it
+-- The operand of a value: the known operand, or the slot to which the code moves the value.
 abbrev pub operand_or : Option Operand → (slot : ℕ) → Operand
 operand_or (Some o) slot = o
 operand_or None slot = operands.Slot slot
@@ -119,7 +124,7 @@ abbrev pub code_unless : Option Operand → List Instruction → List Instructio
 code_unless (Some o) code = []
 code_unless None code = code
 
--- the slot of a value: that of the known operand, or the given one
+-- The slot of a value: the slot of the known operand, or else the slot `slot`.
 abbrev pub slot_or : Option Operand → (slot : ℕ) → ℕ
 slot_or (Some (operands.Slot n)) slot = n
 slot_or o slot = slot
@@ -128,31 +133,33 @@ abbrev pub code_unless_slot : Option Operand → List Instruction → List Instr
 code_unless_slot (Some (operands.Slot n)) code = []
 code_unless_slot o code = code
 
--- A left operand is used without code only if the right one is simple, so that nothing in between can assign it.
+-- A left operand is used without code only if the right operand is simple, so that no code can assign the left
+-- operand before it is used.
 abbrev pub left_with : (simple : Bool) → (left : Option Operand) → Option Operand
 left_with true left = left
 left_with false left = None
 
--- the slot for the result of all operators before these; the destination if none is left
+-- The slot for the result of all operators before the list `os`; it is the destination if the list
+-- is empty.
 abbrev pub next_slot : Operations → (d t : ℕ) → ℕ
 next_slot NoOperations d t = d
 next_slot os d t = t
 
--- true if the operand is already the destination slot, so that no move is needed
+-- Holds if the operand is already the destination slot, so that no move is needed.
 abbrev pub is_in : Operand → (d : ℕ) → Bool
 is_in (operands.Slot n) d = n == d
 is_in (operands.Word n) d = false
 
 -- ---- instructions
 
--- the jump that is taken if a word is 0, and the one that is taken otherwise
+-- The jump that is taken if a word is 0; below it, the jump that is taken if the word is not 0.
 abbrev pub jump_if_zero : Operand → (target : ℕ) → Instruction
 jump_if_zero o target = instructions.Branch comparisons.Equal o (operands.Word 0) target
 
 abbrev pub jump_if_nonzero : Operand → (target : ℕ) → Instruction
 jump_if_nonzero o target = instructions.Branch comparisons.NotEqual o (operands.Word 0) target
 
--- the instruction that raises an exception, with the int 0
+-- The instruction that raises an exception whose int is 0.
 abbrev pub raising : (tag : ℕ) → Instruction
 raising tag = instructions.Throw (operands.Word tag) (operands.Word 0)
 
@@ -161,8 +168,8 @@ raising tag = instructions.Throw (operands.Word tag) (operands.Word 0)
 abbrev pub telling : (slot : ℕ) → List Instruction
 telling slot = instructions.Binary plain_binary.Add slot (operands.Slot slot) (operands.Word null_exception) ∷ instructions.Throw (operands.Slot slot) (operands.Word 0) ∷ []
 
--- The blocks after a function's body: that code, and then one raising instruction for each built-in exception, in the order of their
--- numbers.
+-- The exception blocks after a function's body. First comes the code for a failed access through a fat pointer, and then one raising
+-- instruction for each built-in exception, in the order of their numbers.
 abbrev pub blocks : (slot : ℕ) → List Instruction
 blocks slot = telling slot ++ (raising null_exception ∷ raising array_bounds ∷ raising array_size ∷ raising division_by_zero ∷ [])
 
@@ -174,12 +181,13 @@ guard_code starts tag failing l r = instructions.Branch failing l r (starts.rais
 abbrev pub check_code : Starts → (tag : ℕ) → Operand → List Instruction
 check_code starts tag o = guard_code starts tag comparisons.Equal o (operands.Word 0)
 
--- Moves a value of this many words to a slot and the following ones. A number has one word; a value with more words is always in slots.
+-- Moves a value of this many words to a slot and the following slots. A number has one word; a value with more words is always in
+-- slots.
 abbrev pub move_of : (words d : ℕ) → Operand → Instruction
 move_of words d (operands.Slot n) = if words == 1 then instructions.Move d (operands.Slot n) else instructions.MoveWords d n words
 move_of words d (operands.Word n) = instructions.Move d (operands.Word n)
 
--- checks a value that must not be null
+-- Checks that a value is not null if its new kind does not allow null.
 abbrev pub tested_code : Starts → (to : Kind) → Operand → List Instruction
 tested_code starts kinds.NonNull o = check_code starts null_exception o
 tested_code starts to o = []
@@ -188,7 +196,7 @@ tested_code starts to o = []
 abbrev pub bounds_code : Starts → (index length : Operand) → List Instruction
 bounds_code starts index length = guard_code starts array_bounds comparisons.GreaterOrEqualUnsigned index length
 
--- multiplies an index of cells by their number of bytes
+-- Multiplies an index by the number of bytes of a cell.
 abbrev pub scale_of : (bytes d m : ℕ) → Instruction
 scale_of bytes d m =
     if bytes == 4
@@ -198,7 +206,7 @@ scale_of bytes d m =
     else instructions.Binary plain_binary.Multiply d (operands.Slot m) (operands.Word 12)
 
 -- Computes into slot t the address of the cell at an index. The address of the first cell is in slot n, the index in slot m, and each cell
--- has this many bytes. For a struct the index is 0, since the source has no fault.
+-- has `span` bytes. For a struct the index is 0, since the source has no fault.
 abbrev pub stepped_code : (span : Option ℕ) → (n m t : ℕ) → List Instruction
 stepped_code None n m t = []
 stepped_code (Some bytes) n m t =
@@ -206,12 +214,12 @@ stepped_code (Some bytes) n m t =
     ∷ instructions.Binary plain_binary.Add t (operands.Slot n) (operands.Slot (t + 2))
     ∷ []
 
--- computes the address of the cell at an index, after comparing the index in slot m with the length in the word after the first
+-- Computes the address of the cell at an index, after comparing the index in slot m with the pointer's length, which is in the
+-- slot after n.
 abbrev pub bounded_code : Starts → (span : Option ℕ) → (n m t : ℕ) → List Instruction
 bounded_code starts span n m t = bounds_code starts (operands.Slot m) (operands.Slot (n + 1)) ++ stepped_code span n m t
 
--- The parts of the computation of a cell's address. Slot x receives the index in slot m times the bytes of a cell. The result is its sum
--- with the address of the first cell.
+-- Multiplies the index in slot m by the bytes of a cell, into slot x; below it, the sum of slot x and the address of the first cell.
 abbrev pub scaled_code : (span : Option ℕ) → (m x : ℕ) → List Instruction
 scaled_code None m x = []
 scaled_code (Some bytes) m x = scale_of bytes x m ∷ []
@@ -220,8 +228,8 @@ abbrev pub summed_code : (span : Option ℕ) → (n x t : ℕ) → List Instruct
 summed_code None n x t = []
 summed_code (Some bytes) n x t = instructions.Binary plain_binary.Add t (operands.Slot n) (operands.Slot x) ∷ []
 
--- At place p, compares the index in slot m with the length after slot n, which is 0 for a null pointer. A pointer is tested for null only
--- if the comparison of its index fails, to determine the exception. All failing accesses of a function jump to one block.
+-- At position p, compares the index in slot m with the length in the slot after n, which is 0 for a null pointer. A pointer is tested for
+-- null only if the comparison of its index fails, to determine the exception. All failing accesses of a function jump to one block.
 abbrev pub inside_code : Starts → (n m p : ℕ) → List Instruction
 inside_code starts n m p =
     instructions.Branch comparisons.LessUnsigned (operands.Slot m) (operands.Slot (n + 1)) (p + 3)
@@ -229,7 +237,7 @@ inside_code starts n m p =
     ∷ instructions.Jump (starts.raises + 1)
     ∷ []
 
--- An access at place p through a fat pointer, with its first words in slots n and n + 1 and the index in slot m. The byte offset is
+-- An access at position p through a fat pointer, with its first words in slots n and n + 1 and the index in slot m. The byte offset is
 -- computed in the third slot after t before the index is compared. The byte offset is useless if the index is out of bounds, but harmless.
 -- Computing the byte offset first gives the branch a preceding instruction that can fill its delay slot.
 abbrev pub reached_code : Starts → (span : Option ℕ) → (n m t p : ℕ) → List Instruction
@@ -240,7 +248,7 @@ abbrev pub reached_operand : (span : Option ℕ) → (n t : ℕ) → Operand
 reached_operand None n t = operands.Slot n
 reached_operand (Some bytes) n t = operands.Slot t
 
--- an access through a thin or fat pointer in an operand
+-- The code of an access through a thin or fat pointer in an operand.
 abbrev pub followed_code : Starts → (thin : Bool) → (span : Option ℕ) → Operand → (t p : ℕ) → List Instruction
 followed_code starts true span o t p = check_code starts null_exception o
 followed_code starts false span (operands.Slot n) t p = reached_code starts span n (n + 2) t p
@@ -255,40 +263,41 @@ followed_operand false span (operands.Word w) t = operands.Word w
 abbrev pub span_in : Ty → Option ℕ
 span_in t = option_map bytes_of_kind (target_of t)
 
--- Gives a thin pointer the length 1 and the index 0 of a fat one; null gets the length 0.
+-- Gives a thin pointer the length 1 and the index 0 of a fat pointer; null gets the length 0.
 abbrev pub widened_code : Operand → List Instruction
 widened_code (operands.Slot n) =
     instructions.Binary plain_binary.NotEqual (n + 1) (operands.Slot n) (operands.Word 0) ∷ instructions.Move (n + 2) (operands.Word 0) ∷ []
 widened_code (operands.Word n) = []
 
--- the length of the code that reports a failed check, including a jump over that code
+-- The length of the code that computes a cell's address with a bounds check, including a jump over
+-- that code.
 abbrev pub past_bounded : (span : Option ℕ) → ℕ
 past_bounded None = 2
 past_bounded (Some bytes) = 4
 
--- Converts a fat pointer in slots to a thin one in the first of these slots, which leads to the cell at the fat pointer's index. Null stays
--- null, or raises an exception.
+-- Converts a fat pointer in slots to a thin pointer in the first of these slots, which points to the cell at the fat pointer's index. Null
+-- stays null, or raises an exception.
 abbrev pub thinned_code : Starts → (to : Kind) → (span : Option ℕ) → Operand → (p : ℕ) → List Instruction
 thinned_code starts kinds.NonNull span (operands.Slot n) p = check_code starts null_exception (operands.Slot n) ++ bounded_code starts span n (n + 2) n
 thinned_code starts kinds.Nullable span (operands.Slot n) p =
     jump_if_zero (operands.Slot n) (p + past_bounded span) ∷ bounded_code starts span n (n + 2) n
 thinned_code starts to span o p = []
 
--- a value has as many words after the conversion as before it
+-- Holds if a value has as many words after the conversion as before it.
 abbrev pub are_as_wide : (from to : Kind) → Bool
 are_as_wide from to = words_of_kind from == words_of_kind to
 
--- an int loses all but its low byte
+-- Holds for a conversion in which an int loses all but its low byte.
 abbrev pub masks : (from to : Kind) → Bool
 masks kinds.Int kinds.Char = true
 masks from to = false
 
--- a value has the same words after the conversion as before it
+-- Holds if a value has the same words after the conversion as before it.
 abbrev pub keeps_words : (from to : Kind) → Bool
 keeps_words from to = are_as_wide from to && not (masks from to)
 
 -- Converts a value in the slots that hold it. For a pointer to cells, `span` is the number of bytes of each cell. An int that becomes a
--- char was masked before.
+-- char has already been masked.
 abbrev pub conversion_by : Starts → (same : Bool) → (to : Kind) → (span : Option ℕ) → Operand → (p : ℕ) → List Instruction
 conversion_by starts true to span o p = tested_code starts to o
 conversion_by starts false kinds.Fat span o p = widened_code o
@@ -300,7 +309,7 @@ conversion_code starts from to span o p = conversion_by starts (keeps_words from
 abbrev pub span_of : Expression → Option ℕ
 span_of a = option_map bytes_of_kind (target_by a)
 
--- checks a divisor, unless it is a number other than 0
+-- Checks that a divisor is not 0, unless it is a constant other than 0.
 abbrev pub divisor_code : Starts → Operand → List Instruction
 divisor_code starts (operands.Word (suc n)) = []
 divisor_code starts o = check_code starts division_by_zero o
@@ -313,13 +322,13 @@ operator_code starts operators.Divide l r d = checked_code starts operators.Divi
 operator_code starts operators.Remainder l r d = checked_code starts operators.Remainder l r d
 operator_code starts o l r d = instructions.Binary (binary_operator o) d l r ∷ []
 
--- skips the next operand if the value in t decides
+-- Skips the next operand of `&&` or `||` if the value in slot t decides the result.
 abbrev pub test_jump : LogicalOperator → (t target : ℕ) → Instruction
 test_jump logical.AndThen t target = jump_if_zero (operands.Slot t) target
 test_jump logical.OrElse t target = jump_if_nonzero (operands.Slot t) target
 
--- Arithmetic changes only the third word of a fat pointer, its index. The first two words of the fat pointer are moved before its index,
--- unless they are already in place.
+-- Arithmetic changes only the third word of a fat pointer, its index. The first two words of the fat pointer are moved before the index,
+-- unless they are already in the destination.
 abbrev pub index_of : Operand → Operand
 index_of (operands.Slot n) = operands.Slot (n + 2)
 index_of (operands.Word n) = operands.Word n
@@ -331,13 +340,14 @@ first_two (operands.Word n) d = []
 abbrev pub index_code : PlainBinary → (l r : Operand) → (d : ℕ) → List Instruction
 index_code o l r d = instructions.Binary o (d + 2) (index_of l) r ∷ first_two l d
 
--- the instructions of a pointer operator, which compares first words or changes an index
+-- The instructions of a pointer operator, which compare first words or change an index.
 abbrev pub pointer_instructions : PointerOperator → (l r : Operand) → (d : ℕ) → List Instruction
 pointer_instructions pointers.AddFat l r d = index_code (pointer_operator pointers.AddFat) l r d
 pointer_instructions pointers.SubtractFat l r d = index_code (pointer_operator pointers.SubtractFat) l r d
 pointer_instructions o l r d = instructions.Binary (pointer_operator o) d l r ∷ []
 
--- Computes the number of elements of a fat pointer from its index on. The number is 0 if the index is past the length, which is 0 for null.
+-- Computes the number of elements of a fat pointer from its index on. The number is 0 if the index is past the length; the length is 0 for
+-- null.
 abbrev pub count_code : Operand → (p d : ℕ) → List Instruction
 count_code (operands.Slot n) p d =
     instructions.Branch comparisons.LessUnsigned (operands.Slot (n + 1)) (operands.Slot (n + 2)) (p + 3)
@@ -359,7 +369,8 @@ compute_code starts o l r operand d = operand ++ operator_code starts o l r d
 abbrev pub pointer_code : PointerOperator → (l r : Operand) → (operand : List Instruction) → (d : ℕ) → List Instruction
 pointer_code o l r operand d = operand ++ pointer_instructions o l r d
 
--- the code at place p of a test and its right operand, which comes after the jump
+-- The code at position p of a test by `&&` or `||` with its right operand, which comes after the
+-- jump.
 abbrev pub test_code : LogicalOperator → (operand : List Instruction) → (p d t : ℕ) → List Instruction
 test_code o operand p d t = test_jump o t (p + 1 + length operand) ∷ operand ++ truth_code t d
 
@@ -371,11 +382,11 @@ abbrev pub address_code : Operand → (bytes d : ℕ) → List Instruction
 address_code o zero d = copy_code 1 o d
 address_code o (suc bytes) d = instructions.Binary plain_binary.Add d o (operands.Word (suc bytes)) ∷ []
 
--- computes the address of a place, which is the word of an operand plus this many bytes
+-- Computes the address of a memory access, which is the word of an operand plus this many bytes.
 abbrev pub addressed_by : (place : List Instruction) → Operand → (bytes d : ℕ) → List Instruction
 addressed_by place o bytes d = place ++ address_code o bytes d
 
--- one instruction for each of this many words, given the index in the globals and the slot
+-- One instruction for each of `words` words, given the word's index in the globals and its slot.
 abbrev pub word_by_word : (each : (global slot : ℕ) → Instruction) → (words first slot : ℕ) → List Instruction
 word_by_word each zero first slot = []
 word_by_word each (suc words) first slot = each first slot ∷ word_by_word each words (suc first) (suc slot)
@@ -391,17 +402,17 @@ abbrev pub global_code : (words first : ℕ) → Operand → List Instruction
 global_code words first (operands.Slot n) = word_by_word store_word words first n
 global_code words first (operands.Word n) = instructions.StoreGlobal first (operands.Word n) ∷ []
 
--- loads a word of a cell into a slot, or the byte of a char
+-- Loads a word of a cell into a slot, or a byte if the cell is a char.
 abbrev pub load_of : Kind → (d : ℕ) → (address : Operand) → (offset : ℕ) → Instruction
 load_of kinds.Char d address offset = instructions.LoadByte d address offset
 load_of kind d address offset = instructions.Load d address offset
 
--- stores a word in a cell, or the byte of a char
+-- Stores a word in a cell, or a byte if the cell is a char.
 abbrev pub store_of : Kind → (address : Operand) → (offset : ℕ) → Operand → Instruction
 store_of kinds.Char address offset o = instructions.StoreByte address offset o
 store_of kind address offset o = instructions.Store address offset o
 
--- Loads a cell of this kind into a slot and the following ones; its address is an operand plus this many bytes. For a cell of several words
+-- Loads a cell of this kind into a slot and the following slots; the cell's address is an operand plus `bytes`. For a cell of several words
 -- the address is moved to slot t, and not to a local, because a local may be the loaded cell. The first word is loaded last, since it may
 -- go to slot t.
 abbrev pub loaded_code : Kind → Operand → (bytes d t : ℕ) → List Instruction
@@ -414,7 +425,7 @@ loaded_code kind o bytes d t =
     ∷ instructions.Load d (operands.Slot t) 0
     ∷ []
 
--- the kind of the variable that a pointer of this type leads to
+-- The kind of the variable to which a pointer of this type points.
 abbrev pub kind_after : Ty → Kind
 kind_after t = unwrap_or (target_of_value (Value t)) kinds.Int
 
@@ -423,11 +434,11 @@ abbrev pub variable_bytes : Kind → ℕ
 variable_bytes kinds.Char = 3
 variable_bytes kind = 0
 
--- the address of the global of this kind whose first word has this number
+-- The address of the global of this kind whose first word has the number `first`.
 abbrev pub address_of_global : Kind → (first : ℕ) → ℕ
 address_of_global kind first = add_of (add_of GLOBALS_BASE (mul_of (first % 2 ^ 32) 4)) (variable_bytes kind)
 
--- turns the address of a variable's first word into that of the variable
+-- Turns the address of a variable's first word into the address of the variable.
 abbrev pub last_byte_code : Kind → (d : ℕ) → List Instruction
 last_byte_code kinds.Char d = instructions.Binary plain_binary.Add d (operands.Slot d) (operands.Word 3) ∷ []
 last_byte_code kind d = []
@@ -437,14 +448,15 @@ abbrev pub address_of_code : Starts → Lvalue → Kind → (d : ℕ) → List I
 address_of_code starts (Local w n) kind d = instructions.AddressOf d (slot_of starts n) (words_of_kind kind) ∷ last_byte_code kind d
 address_of_code starts (Global n) kind d = instructions.Move d (operands.Word (address_of_global kind (global_of starts n))) ∷ []
 
--- a local declared without a value has no value, but the word of a char must be below 256
+-- A local that is declared without a value has no value, but the word of a char must be below 256.
 abbrev pub blank_code : Kind → (slot : ℕ) → List Instruction
 blank_code kinds.Char slot = instructions.Move slot (operands.Word 0) ∷ []
 blank_code kind slot = []
 
 -- ---- conversions
 
--- The value may be moved to its destination before its conversion: its number of words stays, and it is not checked.
+-- Holds if a value may be moved to its destination before its conversion: the conversion keeps its number of words
+-- and does not check it.
 abbrev pub converts_there : (from to : Kind) → Bool
 converts_there from kinds.NonNull = false
 converts_there from to = are_as_wide from to
@@ -469,7 +481,8 @@ kinds_passed (MoreArguments c cs) = kind_passed c ∷ kinds_passed cs
 abbrev pub masked_by : Option Operand → (code : List Instruction) → Operand → (d : ℕ) → List Instruction
 masked_by known code o d = code_unless known code ++ low_byte o d ∷ []
 
--- the code of a value, which is moved to slot d before its conversion; for an int that becomes a char, only its low byte
+-- The code of a value, which is moved to slot d before its conversion; for an int that becomes a char, only the low byte
+-- is moved.
 abbrev pub brought_by : (from to : Kind) → Option Operand → (code : List Instruction) → Operand → (at_once : List Instruction) → (d : ℕ) → List Instruction
 brought_by from to known code o at_once d = if masks from to then masked_by known code o d else at_once
 
@@ -485,7 +498,8 @@ moved_by starts known code from to span o p d = converted_by starts known code f
 abbrev pub followed_by : Starts → Option Operand → (code : List Instruction) → (thin : Bool) → (span : Option ℕ) → Operand → (t p : ℕ) → List Instruction
 followed_by starts known code thin span o t p = code_unless known code ++ followed_code starts thin span o t (p + length (code_unless known code))
 
--- the code of a fat pointer in slot n and of an index, which is added before the access
+-- The code of a fat pointer in slot n and of an index, which is added to the pointer before the
+-- access.
 abbrev pub element_by : Starts → (pointer index : List Instruction) → (span : Option ℕ) → (n : ℕ) → Operand → (t p : ℕ) → List Instruction
 element_by starts pointer index span n o t p =
     pointer
@@ -493,6 +507,6 @@ element_by starts pointer index span n o t p =
     ++ instructions.Binary plain_binary.Add (t + 2) (operands.Slot (n + 2)) o
     ∷ reached_code starts span n (t + 2) t (p + length pointer + length index + 1))
 
--- the code of a pointer, followed by its check in place
+-- The code of a pointer, followed by its check for null in place.
 abbrev pub tested_by : Starts → Option Operand → (code : List Instruction) → Operand → List Instruction
 tested_by starts known code o = code_unless known code ++ check_code starts null_exception o

@@ -1,4 +1,4 @@
-//! The effect of an instruction on the machine.
+//! The effects of instructions on the machine.
 
 ghost use Rattle.std.specs.Prelude.{◌≡◌};
 ghost use Rattle.cyc_machine.specs.Held.{state_of};
@@ -14,7 +14,7 @@ use cyc_store::Store;
 use cyc_words::{add, byte_in, with_byte};
 
 impl<S: Store + Drop> Machine<S> {
-    /// Fetches an instruction and executes it.
+    /// Fetches the next instruction and executes it.
     #[inline]
     pub(super) fn run(&mut self) -> Event
         ensures { ActsOver S.GROWS (action_of (state_of S.held self.old)) (state_of S.held self.old) result (state_of S.held self.new) }
@@ -162,8 +162,8 @@ impl<S: Store + Drop> Machine<S> {
         Event::Ran
     }
 
-    /// Stores the word that a load accesses, if it is one of the data range or the stack that was never stored. Only the first load of such
-    /// a word is left to `step`.
+    /// Extends the stored memory to the word that a load accesses, if it is a word of the data range or the stack. Only the first load of
+    /// such a word is left to `step`.
     fn keep(&mut self, base: Register, offset: u16)
         ensures { self.new ≡ self.old }
     {
@@ -231,7 +231,7 @@ impl<S: Store + Drop> Machine<S> {
         }
     }
 
-    /// Stores a byte and keeps the other bytes of its word.
+    /// Stores a byte and leaves the other bytes of the byte's word unchanged.
     #[inline]
     fn store_byte(&mut self, source: Register, base: Register, offset: u16) -> Event
         ensures { ActsOver S.GROWS (executes (state_of S.held self.old) (Instr.Memory MemoryOp.StoreByte source base offset))
@@ -254,7 +254,7 @@ impl<S: Store + Drop> Machine<S> {
         }
     }
 
-    /// Divides, unless the result is unpredictable.
+    /// Divides two registers, unless the result is unpredictable.
     #[inline]
     fn divide(&mut self, left: Register, right: Register) -> Event
         ensures { ActsOver S.GROWS (executes (state_of S.held self.old) (Instr.MultiplyDivide MultiplyDivideOp.Divide left right))
@@ -268,7 +268,7 @@ impl<S: Store + Drop> Machine<S> {
         Event::Ran
     }
 
-    /// Fetches an instruction, and executes it if it prints or requests a byte.
+    /// Fetches the next instruction, and executes it if it prints or requests a byte.
     #[inline(always)]
     pub(super) fn exchange_next(&mut self) -> Exchange
         ensures { ActsAs result (action_of (state_of S.held self.old)) (state_of S.held self.old) (state_of S.held self.new) }

@@ -1,4 +1,4 @@
-//! The effect of a `syscall` on the machine: the services.
+//! The effects of the services that a `syscall` requests.
 
 ghost use Rattle.std.specs.Prelude.{◌≡◌};
 ghost use Rattle.cyc_machine.specs.Held.{state_of};
@@ -17,7 +17,7 @@ use cyc_machine_model::{Cause, End, Event, Exchange, Phase};
 use cyc_store::{No, Store};
 
 impl<S: Store + Drop> Machine<S> {
-    /// Executes a service of `syscall`.
+    /// Executes the service that a `syscall` requests.
     pub(super) fn service(&mut self) -> Event
         ensures { ActsOver S.GROWS (calls (asked self.old.core) (state_of S.held self.old)) (state_of S.held self.old) result (state_of S.held self.new) }
     {
@@ -47,7 +47,7 @@ impl<S: Store + Drop> Machine<S> {
         }
     }
 
-    /// Executes a service of `syscall` that prints or requests a byte.
+    /// Executes the service that a `syscall` requests, if the service prints or requests a byte.
     #[inline(always)]
     pub(super) fn byte_service(&mut self) -> Exchange
         ensures { ActsAs result (calls (asked self.old.core) (state_of S.held self.old)) (state_of S.held self.old) (state_of S.held self.new) }
@@ -66,7 +66,7 @@ impl<S: Store + Drop> Machine<S> {
         }
     }
 
-    /// Continues with the next instruction.
+    /// Advances to the next instruction.
     fn go_on(&mut self) -> Event
         ensures event { result ≡ Event.Ran }
         ensures state { state_of S.held self.new ≡ answered (state_of S.held self.old) Done }
@@ -75,7 +75,8 @@ impl<S: Store + Drop> Machine<S> {
         Event::Ran
     }
 
-    /// Continues with the next instruction, after the store returned a word.
+    /// Writes the word that the heap returned to the result register, and advances to the next
+    /// instruction.
     fn give_word(&mut self, word: u32) -> Event
         ensures event { result ≡ Event.Ran }
         ensures state { state_of S.held self.new ≡ answered (state_of S.held self.old) (Allocated word) }
@@ -84,7 +85,8 @@ impl<S: Store + Drop> Machine<S> {
         self.go_on()
     }
 
-    /// Continues after the store refused to open a region or to allocate a block, for this reason.
+    /// Continues or ends the run after the heap refused to open a region or to allocate a block,
+    /// depending on the reason.
     fn refuse_service(&mut self, why: No) -> Event
         ensures { GoesOnWith (refused why) (state_of S.held self.old) result (state_of S.held self.new) }
     {

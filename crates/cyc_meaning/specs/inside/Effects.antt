@@ -10,7 +10,7 @@ use Rattle.cyc_words.specs.Demand.{total, region_pages, demand_of}
 use Rattle.cyc_meaning.specs.Objects.{made_in, made_unique, freed}
 use Rattle.cyc_meaning.specs.Step.{values_of}
 
--- the bytes that a step prints: one for `putchar` of an int
+-- Returns the bytes that a step prints: one for `putchar` of an int.
 abbrev pub printed_of : List Value → List ℕ
 printed_of (Int word ∷ []) = word % 256 ∷ []
 printed_of arguments = []
@@ -19,7 +19,7 @@ abbrev pub printed_by : Focus → List ℕ
 printed_by (Calling callees.Putchar arguments) = printed_of (values_of arguments)
 printed_by focus = []
 
--- the number of bytes that a step reads, if any are left: one for `getchar`
+-- Returns the number of bytes that a step reads, if any are left: one for `getchar`.
 abbrev pub read_of : List Value → ℕ
 read_of [] = 1
 read_of arguments = 0
@@ -28,8 +28,8 @@ abbrev pub read_by : Focus → ℕ
 read_by (Calling callees.Getchar arguments) = read_of (values_of arguments)
 read_by focus = 0
 
--- The number of active calls after a step. A call of a function adds one, the end of a call subtracts one, and any other step leaves it
--- unchanged.
+-- Returns the number of active calls after a step. A call of a function adds one, the end of a call subtracts one, and any other step
+-- leaves it unchanged.
 abbrev pub calls_after : Focus → List Entry → ℕ
 calls_after (Calling (callees.Function number) arguments) stack = suc (calls_in stack)
 calls_after Proceeding (Caller outer ∷ stack) = calls_in stack

@@ -1,6 +1,7 @@
--- The relation between the source's world and a store that implements it. The store's open regions are the source's, in the order and with
--- the blocks of the source, and live objects lie in live blocks. Nothing is stated about closed or freed ones, so their addresses and
--- handles may be reused. (The regions are those of Grossman et al. 2002; the form is this project's own choice.)
+-- This file defines the relation between the source's world and a store that implements it. The store's open regions are the source's
+-- regions, in the order and with the blocks of the source, and live objects lie in live blocks. The relation says nothing about closed
+-- regions or freed objects, so their addresses and handles may be reused. (The regions are those of Grossman et al. 2002; the form of the
+-- relation is this project's own choice.)
 use Rattle.std.specs.Prelude.{◌≡◌, ◌⊎◌, ℕ, suc, ◌+◌, ◌*◌, ◌<◌, ◌≤◌, Bool, true, false, if◌then◌else◌, List, [], ◌∷◌, length, Option, Some, None, is_some, slice_get}
 use Rattle.cyc_types.specs.declared.typed.Kind.{Kind}
 use Rattle.cyc_types.specs.TypedTrees.{GlobalVariable, Program}
@@ -17,7 +18,7 @@ use Rattle.cyc_memory_relation.specs.inside.Words.{bytes_of_kinds, Points, AreCe
 
 -- ---- regions
 
--- the sort of a source region in the store; regions of variables are not in the store
+-- The sort of a source region in the store; a region of variables is not in the store.
 abbrev pub sort_of : Sort → Option stores.Sort
 sort_of Heap = Some stores.Heap
 sort_of Globals = None
@@ -25,11 +26,11 @@ sort_of Stack = None
 sort_of Lexical = Some stores.Lexical
 sort_of Dynamic = Some stores.Dynamic
 
--- true if the region is one of the store's open regions
+-- Holds if the region is one of the store's open regions.
 abbrev pub has_home : Region → Bool
 has_home r = has_pages r.sort r.is_open
 
--- an open region of the source, and the corresponding region of the store
+-- Says that an open region of the source corresponds to a region of the store.
 pub record Matches (handle : ℕ) (r : Region) (home : Home) : Type 0 where
   pub kept : has_home r ≡ true
   pub named : home.handle ≡ handle
@@ -57,19 +58,21 @@ abbrev pub entry_of : Option (Option ℕ) → Option ℕ
 entry_of None = None
 entry_of (Some handle) = handle
 
--- the handle of the store region that contains the live objects of this owner; a variable, and a closed or freed object, is in none
+-- The handle of the store region that contains the live objects of this owner. A variable, and an object that is freed or whose
+-- region is closed, lies in no region of the store.
 abbrev pub lies_in : (handles : List (Option ℕ)) → List Region → Owner → Option ℕ
 lies_in handles regions (InRegion number) =
     if stands_there (slice_get regions number) then entry_of (slice_get handles number) else None
 lies_in handles regions (Unique true) = Some UNIQUE
 lies_in handles regions (Unique false) = None
 
--- the object of this number is live, and lies in the region with this handle
+-- Says that the object with this number is live, and lies in the region with this handle.
 pub record Alive (t : Tables) (w : World) (number handle : ℕ) (x : Object) : Type 0 where
   pub at : slice_get w.objects number ≡ Some x
   pub lies : lies_in t.handles w.regions x.owner ≡ Some handle
 
--- The cells are stored in the block that begins at the address of their row, and the bytes there represent their contents.
+-- Says that the cells of an object are in the block that begins at the address in the object's table row. The bytes of the
+-- block represent the contents of the cells.
 pub record Stands (t : Tables) (rs : List Home) (memory : Memory) (handle number : ℕ) (cells : List Cell) : Type 0 where
   pub address : ℕ
   pub row : slice_get t.rows number ≡ Some (Placed address (kinds_of cells))
@@ -87,21 +90,22 @@ abbrev pub IsOfVariable : Row → Type 0
 IsOfVariable Variable = Unit {0}
 IsOfVariable (Placed address kinds) = IsOutside address kinds
 
--- the row of this number is that of a variable
+-- Says that the table row with this number is the row of a variable.
 abbrev pub IsVariableAt : Tables → (number : ℕ) → Type 0
 IsVariableAt t number = (row : Row) × (slice_get t.rows number ≡ Some row) × IsOfVariable row
 
--- the cells of a placed row have the kinds that the row states
+-- Says that the cells of an object with an address have the kinds that its table row states.
 abbrev pub HasKinds : List Cell → Row → Type 0
 HasKinds cells Variable = Unit {0}
 HasKinds cells (Placed address kinds) = kinds ≡ kinds_of cells
 
--- rows for the globals, each of which is a variable
+-- Says that the table has a row for each global, and that each of these rows is the row of a
+-- variable.
 pub record AreGlobals (program : Program) (rows : List Row) : Type 0 where
   pub many : length rows ≡ length program.globals
   pub each : (o : ℕ) (g : GlobalVariable) → slice_get program.globals o ≡ Some g → (row : Row) × (slice_get rows o ≡ Some row) × HasKinds (global_object g).cells row × IsOfVariable row
 
--- the object of this number is a live variable
+-- Says that the object with this number is a live variable.
 pub record LiveVariable (t : Tables) (w : World) (number : ℕ) (x : Object) : Type 0 where
   pub at : slice_get w.objects number ≡ Some x
   pub region : ℕ
@@ -109,14 +113,15 @@ pub record LiveVariable (t : Tables) (w : World) (number : ℕ) (x : Object) : T
   pub entry : slice_get t.handles region ≡ Some None
   pub live : is_live w x.owner ≡ true
 
--- No word belongs to two live variables. The pass that places them ensures this.
+-- Says that no word belongs to two live variables. The compiler pass that assigns addresses to
+-- variables ensures this property.
 abbrev pub AreApart : Tables → World → Type 0
 AreApart t w = (number other offset beside word : ℕ) (x y : Object) → LiveVariable t w number x → LiveVariable t w other y
     → Points t number offset word → Points t other beside word → number ≡ other
 
 -- ---- the world and the store
 
--- if a region owns the object, the region was opened before
+-- Says that the region that owns an object, if any, was opened before.
 abbrev pub Within : (regions : ℕ) → Owner → Type 0
 Within regions (InRegion number) = number < regions
 Within regions (Unique live) = Unit {0}
@@ -124,17 +129,17 @@ Within regions (Unique live) = Unit {0}
 pub record Related (t : Tables) (w : World) (s : StoreState) : Type 0 where
   pub sound : IsSound s
   pub few : s.pages ≤ MOST_PAGES
-  -- the heap's handle never changes
+  -- The handle of the heap region never changes.
   pub heap : slice_get t.handles heap_number ≡ Some (Some HEAP)
   pub rows : length t.rows ≡ length w.objects
   pub regions : Regions t.handles w.regions s.regions
   pub classes : s.classes ≡ w.classes
   pub uniques : (class : ℕ) → stores.live_in class s.unique ≡ live_in class w.objects
   pub owned : (number : ℕ) (x : Object) → slice_get w.objects number ≡ Some x → Within (length w.regions) x.owner
-  -- a row states the kinds of its object's cells for ever, also after the object is freed
+  -- A table row states the kinds of its object's cells for ever, even after the object is freed.
   pub shapes : (number address : ℕ) (kinds : List Kind) (x : Object) → slice_get w.objects number ≡ Some x
       → slice_get t.rows number ≡ Some (Placed address kinds) → kinds ≡ kinds_of x.cells
-  -- an object in a region of variables is a variable
+  -- An object in a region of variables is a variable.
   pub variables : (number region : ℕ) (x : Object) → slice_get w.objects number ≡ Some x → x.owner ≡ InRegion region
       → slice_get t.handles region ≡ Some None → IsVariableAt t number
   pub objects : (number handle : ℕ) (x : Object) → Alive t w number handle x → Stands t (homes s) s.memory handle number x.cells
@@ -149,11 +154,12 @@ abbrev pub scopes : List Region → ℕ
 scopes [] = 0
 scopes (r ∷ regions) = if is_scope r.sort r.is_open then suc (scopes regions) else scopes regions
 
--- no lexical region with a greater number is open
+-- Says that no lexical region with a greater number is open.
 abbrev pub IsNewest : List Region → (number : ℕ) → Type 0
 IsNewest regions number = (other : ℕ) (r : Region) → slice_get regions other ≡ Some r → is_scope r.sort r.is_open ≡ true → other ≤ number
 
--- A store whose lexical regions are closed down to a mark. When several regions are left, the source closes one per step, but the store
--- closes all left regions at the end. In between, the source is related to the store closed so far.
+-- A store whose lexical regions are closed until `mark` of them stay open. When several regions are left, the source closes one per
+-- step, but the store closes all of these regions at the end. Until the end, the relation holds between the source and the store as if
+-- the store had closed the regions that the source has closed.
 abbrev pub closed_to : StoreState → (mark : ℕ) → StoreState
 closed_to s mark = record s { regions = down_to mark s.regions }

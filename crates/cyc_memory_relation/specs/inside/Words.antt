@@ -1,6 +1,6 @@
--- The words of a value, and the bytes of a cell. Words are given by a function and a position, so slots, globals and the store are treated
--- alike. A cell of an object is at an address. The relation between words and values does not depend on whether the target of a pointer is
--- live. A pointer keeps its words when its region is closed or its object is freed.
+-- This file defines the words of a value, and the bytes of a cell. Words are given by a function and a position, so slots, globals and the
+-- store are treated alike. A cell of an object is at an address. The relation between words and values does not depend on the liveness of
+-- a pointer's target. A pointer keeps its words when its region is closed or its object is freed.
 use Rattle.std.specs.Prelude.{◌≡◌, ◌⊎◌, ℕ, zero, suc, ◌+◌, ◌*◌, ◌%◌, ◌^◌, ◌<◌, ◌≤◌, List, [], ◌∷◌, length, Option, Some, None, slice_get}
 use Rattle.cyc_words.specs.Bytes.{byte_in, word_of}
 use Rattle.cyc_types.specs.declared.typed.Kind.{Kind}
@@ -15,13 +15,13 @@ use Rattle.cyc_memory_relation.specs.inside.Tables.{Placed, Tables}
 abbrev pub bytes_of_kinds : List Kind → ℕ
 bytes_of_kinds ks = bytes_from 0 ks
 
--- the offset of the cell of this number, among cells laid out after this many bytes
+-- The offset of the cell with index `offset`, if the cells are laid out after `at` bytes.
 abbrev pub before_from : (at : ℕ) → (offset : ℕ) → List Kind → ℕ
 before_from at offset [] = at
 before_from at zero (kind ∷ ks) = begins kind at
 before_from at (suc offset) (kind ∷ ks) = before_from (following kind at) offset ks
 
--- the number of bytes before the cell of this number
+-- The number of bytes before the cell with index `offset`.
 abbrev pub before : (offset : ℕ) → List Kind → ℕ
 before offset ks = before_from 0 offset ks
 
@@ -31,18 +31,19 @@ before offset ks = before_from 0 offset ks
 abbrev pub byte_at : Memory → (address : ℕ) → ℕ
 byte_at memory address = byte_in (memory (word_of address)) (address % 4)
 
--- the words of memory from an address on
+-- The words of memory from an address on, as a function of their index.
 abbrev pub words_from : Memory → (address : ℕ) → ℕ → ℕ
 words_from memory address = λ (k : ℕ). memory (address + 4 * k)
 
 -- ---- pointers
 
--- No object lies at address 0 or extends past the last address. No pointer is 0, and no address of a cell wraps, even for a freed object.
+-- Says that no object lies at address 0 or extends past the last address. Hence no pointer is 0, and no address of a cell wraps, even for
+-- a freed object.
 pub record InRange (address : ℕ) (ks : List Kind) : Type 0 where
   pub low : 0 < address
   pub high : address + bytes_of_kinds ks < 2 ^ 32
 
--- the word is the address of this cell of the object
+-- Says that a word is the address of this cell of the object.
 pub record Points (t : Tables) (object offset word : ℕ) : Type 0 where
   pub address : ℕ
   pub kinds : List Kind
@@ -51,8 +52,8 @@ pub record Points (t : Tables) (object offset word : ℕ) : Type 0 where
   pub inside : offset < length kinds
   pub at : word ≡ address + before offset kinds
 
--- The word is the address of the first of `count` cells from `start` on, all of one kind. If there are none, it may be the address just
--- after the object.
+-- Says that a word is the address of the first of `count` cells from `start` on, all of one kind. If `count` is 0, the word may be the
+-- address just after the object.
 pub record IsPartOf (t : Tables) (object start count word : ℕ) : Type 0 where
   pub address : ℕ
   pub kinds : List Kind
@@ -65,9 +66,9 @@ pub record IsPartOf (t : Tables) (object start count word : ℕ) : Type 0 where
 
 -- ---- values
 
--- The words from a position on represent a value of this kind. A fat pointer has three words: the address of its part, the length, and the
--- index; all other values have one. For a fat null pointer the address and the length are 0, so no index is in bounds, and the index is
--- arbitrary. A char's word is below 256.
+-- Says that the words from a position on represent a value of this kind. A fat pointer has three words: the address of its part, the
+-- length, and the index; all other values have one word. For a fat null pointer the address and the length are 0, so no index is in
+-- bounds, and the index is arbitrary. The word of a char is below 256.
 abbrev pub Is : Tables → Kind → Value → (words : ℕ → ℕ) → (place : ℕ) → Type 0
 Is t kinds.Int (Int word) words place = words place ≡ word
 Is t kinds.Char (Int word) words place = (words place ≡ word) × (word < 256)
@@ -83,7 +84,8 @@ Is t kind value words place = ⊥
 
 -- ---- cells
 
--- the cell of this kind at an address contains the value: its words, or the byte of a char
+-- Says that the cell of this kind at an address contains the value: its words, or the byte of a
+-- char.
 abbrev pub Holds : Tables → Kind → Value → Memory → (address : ℕ) → Type 0
 Holds t kinds.Int value memory address = Is t kinds.Int value (words_from memory address) 0
 Holds t kinds.Char (Int byte) memory address = byte_at memory address ≡ byte
@@ -99,13 +101,14 @@ abbrev pub IsContent : Tables → Kind → Option Value → Memory → (address 
 IsContent t kind None memory address = Unit {0}
 IsContent t kind (Some value) memory address = Holds t kind value memory address
 
--- consecutive cells of an object at an address, laid out after this many bytes
+-- Says that consecutive cells of an object at an address, laid out after `at` bytes, contain what
+-- the source says.
 abbrev pub AreCells : Tables → List Cell → Memory → (address at : ℕ) → Type 0
 AreCells t [] memory address at = Unit {0}
 AreCells t (c ∷ cells) memory address at =
     IsContent t c.kind c.content memory (address + begins c.kind at) × AreCells t cells memory address (following c.kind at)
 
--- the byte at an address is not part of the cell at the other address
+-- Says that the byte at an address is not part of the cell at another address.
 abbrev pub IsBeside : Kind → (cell address : ℕ) → Type 0
 IsBeside kind cell address = (address < cell) ⊎ (cell + bytes_of_kind kind ≤ address)
 

@@ -1,4 +1,4 @@
--- The relation between the code and the parser of symbols: the symbols that the code reads, and the results of its functions.
+-- Relates the parser's code to the specified parser: the symbols that the code reads, and the results of its functions.
 use Rattle.std.specs.Prelude.{◌≡◌, ℕ, List, [], ◌∷◌, Result, Ok, Err}
 use Rattle.cyc_syntax.specs.Symbols as terminals
 use Rattle.cyc_syntax.specs.Symbols.{Symbol, Terminal, Place}
@@ -28,17 +28,19 @@ view_reason reasons.Unexpected = Unexpected
 view_reason reasons.TooDeep = TooDeep
 view_reason reasons.TooLong = TooLong
 
--- A rejection by the code is the same as the parser's, at the first of the symbols left. If memory runs out, nothing is claimed.
+-- Says that the code's rejection equals the specified parser's, at the first symbol left. If memory runs out, `Stops` claims
+-- nothing.
 abbrev pub Stops : {Y : Type 0} → Stop → Outcome Y → List Symbol → Type 0
 Stops stops.Memory outcome left = Unit {0}
 Stops (stops.Refused why) outcome left = outcome ≡ Err (record { reason = view_reason why; left = left })
 
--- The result of the code, seen by `view`, and the symbols left by it equal those of the parser, unless memory ran out.
+-- Says that the code's result (mapped by `view`) and the symbols that the code leaves equal the specified parser's,
+-- unless memory ran out.
 abbrev pub Gives : {X Y : Type 0} → (X → Y) → Result X Stop → Outcome Y → List Symbol → Type 0
 Gives view (Ok x) outcome left = outcome ≡ Ok (view x, left)
 Gives view (Err e) outcome left = Stops e outcome left
 
--- reads the next symbol, whatever it is, unless it is nested too deep
+-- Reads the next symbol, of any kind, unless it is nested too deep.
 abbrev pub accepted : ℕ → Parser Place
 accepted room [] = Err (record { reason = Unexpected; left = [] })
 accepted room (t ∷ ts) = accept room t.place t ts

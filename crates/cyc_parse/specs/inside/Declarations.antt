@@ -27,7 +27,7 @@ member room = written_type room >>= (λ t. identifier room >>= (λ x. pure (reco
 abbrev pub field : ℕ → Parser Member
 field room = member room >>= (λ m. sign room signs.Semicolon >> pure m)
 
--- reads `(int)` if it comes next; returns whether the constructor has an `int`
+-- Reads `(int)` if it comes next; returns true if the exception constructor has an `int`.
 abbrev pub has_int : ℕ → Parser Bool
 has_int room = if_sees signs.LeftParen (sign room signs.LeftParen >> word (inside room) words.Int >> sign (inside room) signs.RightParen >> pure true) (pure false)
 
@@ -92,14 +92,15 @@ module _ (room : ℕ) where
   abbrev pub function : Option WrittenType → Named → Parser Declaration
   function t f = sign here signs.LeftParen >> parameters room >>= (λ ps. sign room signs.RightParen >> body room (nested_statements room) >>= (λ b. pure (Function t f ps b)))
 
-  -- parses the rest of a declaration, after the type that it begins with
+  -- Parses the rest of a declaration, after its first type.
   abbrev pub typed : WrittenType → Parser Declaration
   typed t = identifier here >>= (λ x. if_sees signs.LeftParen (function (Some t) x) (global t x))
 
   abbrev pub struct_fields : Named → List Named → Parser Declaration
   struct_fields s rs = sign here signs.LeftBrace >> some_of begins_type (field room) >>= (λ fs. sign room signs.RightBrace >> sign here signs.Semicolon >> pure (StructType s rs fs))
 
-  -- after `struct`: either a struct is declared, or the struct type begins another declaration
+  -- Parses what follows `struct`: a struct declaration, or another declaration that begins with the
+  -- struct type.
   abbrev pub struct_or_typed : Place → Parser Declaration
   struct_or_typed p = identifier here >>= (λ s. optional_regions here >>= (λ rs. if_sees signs.LeftBrace (struct_fields s rs) (with_pointers here p (Struct s rs) >>= typed)))
 
@@ -125,6 +126,7 @@ module _ (room : ℕ) where
   abbrev pub program : Parser (List Declaration)
   program = declaration >>= (λ d. (λ ts. declarations_in (length ts) ts) >>= (λ ds. pure (d ∷ ds)))
 
--- The program that the symbols spell, if any. Symbols nested more than 200 deep are rejected.
+-- Returns the program that the symbols spell, if any. Symbols nested more than 200 levels deep are
+-- rejected.
 abbrev pub program_of : List Symbol → Result (List Declaration × List Symbol) Refusal
 program_of ts = program 200 ts

@@ -1,4 +1,4 @@
--- The parser of expressions, by recursive descent. Chains of binary operators are parsed level by level, the tightest first.
+-- The recursive-descent parser of expressions. Chains of binary operators are parsed level by level, the tightest first.
 use Rattle.std.specs.Prelude.{ℕ, zero, suc, Bool, true, false, nat_eq, List, [], ◌∷◌, length, Option, Some, None, is_some, if◌then◌else◌}
 use Rattle.cyc_syntax.specs.declared.tokens.Keyword.{Keyword}
 use Rattle.cyc_syntax.specs.declared.tokens.Keyword.TheVariants as words
@@ -29,7 +29,7 @@ begins_by_word words.New = true
 begins_by_word words.RegionNew = true
 begins_by_word _ = false
 
--- the prefix operator that a sign denotes before an operand
+-- Returns the prefix operator that a sign (punctuation token) denotes before an operand.
 abbrev pub prefix_operator : Sign → Option PrefixOperator
 prefix_operator signs.Minus = Some prefixes.Negate
 prefix_operator signs.Not = Some prefixes.Not
@@ -50,7 +50,7 @@ begins_expression (terminals.Character c) = true
 begins_expression (Word k) = begins_by_word k
 begins_expression (Mark s) = begins_by_sign s
 
--- an initial value begins with an expression or a brace
+-- Returns true if a symbol may begin an initial value: it begins an expression, or it is a brace.
 abbrev pub begins_initial : Terminal → Bool
 begins_initial (Identifier x) = true
 begins_initial (RegionName r) = false
@@ -85,7 +85,7 @@ abbrev pub of_level : ℕ → Option BinaryOperator → Option BinaryOperator
 of_level k None = None
 of_level k (Some o) = if nat_eq (level o) k then Some o else None
 
--- the next symbol, if it is a binary operator of this level
+-- Returns the next symbol's binary operator, if it belongs to the given level.
 abbrev pub operator_at : ℕ → Option Terminal → Option BinaryOperator
 operator_at k (Some (Mark s)) = of_level k (binary_operator s)
 operator_at k _ = None
@@ -107,7 +107,7 @@ binary_of e (ThenOperation o p r os) = Binary e (ThenOperation o p r os)
 
 -- ---- chains of binary operators, given the parser of an operand with its prefixes and postfixes
 
--- the end of a chain that has the maximal number of operators: one more is rejected
+-- Ends an operator chain that has the maximal number of operators; one more operator is rejected.
 abbrev pub no_more_operations : ℕ → Parser Operations
 no_more_operations k = if_is (operator_at k) (λ o. refuse TooLong) (pure NoOperations)
 
@@ -115,7 +115,7 @@ unfoldable pub operations : Parser Expression → ℕ → ℕ → Parser Operati
 operations operand k zero = no_more_operations k
 operations operand k (suc left) = if_is (operator_at k) (λ o. advance >>= (λ p. operand >>= (λ e. operations operand k left >>= (λ os. pure (ThenOperation o p e os))))) (pure NoOperations)
 
--- extends a first operand by the operators of the levels up to this one
+-- Extends a first operand by the operators of all levels up to the given one.
 unfoldable pub climb : Parser Expression → ℕ → Expression → Parser Expression
 climb unary zero e = pure e
 climb unary (suc k) e = climb unary k e >>= (λ first. operations (unary >>= climb unary k) (suc k) max_items >>= (λ os. pure (binary_of first os)))
@@ -130,7 +130,7 @@ pub record Nested : Type 0 where
   pub group : Parser Expression
   pub initial : Parser Initial
 
--- the end of an operand that has the maximal number of postfixes: one more is rejected
+-- Ends an operand that has the maximal number of postfixes; one more postfix is rejected.
 abbrev pub no_more_postfixes : Parser Postfixes
 no_more_postfixes = if_sees signs.LeftBracket (refuse TooLong) (if_sees signs.Arrow (refuse TooLong) (pure NoPostfixes))
 
@@ -141,7 +141,7 @@ module _ (room : ℕ) (inner : Nested) where
   abbrev pub arguments : Parser Expressions
   arguments = if_sees signs.RightParen (pure NoExpressions) (separated room begins_expression inner.expression >>= (λ es. pure (chain_of es)))
 
-  -- parses an expression that begins with this name
+  -- Parses an expression that begins with the given name.
   abbrev pub from_name : Named → Parser Expression
   from_name x = if_sees signs.LeftParen (sign (suc room) signs.LeftParen >> arguments >>= (λ es. sign room signs.RightParen >> pure (Call x es))) (pure (Variable x))
 
@@ -172,7 +172,8 @@ module _ (room : ℕ) (inner : Nested) where
   abbrev pub with_postfixes : Parser Expression → Parser Expression
   with_postfixes first = first >>= (λ e. postfixes max_items >>= (λ ps. pure (chained e ps)))
 
-  -- parses an operand after a sign, which is this prefix operator or none
+  -- Parses an operand, given the prefix operator that its first sign (punctuation token) denotes,
+  -- if any.
   abbrev pub prefixed_by : Option PrefixOperator → Parser Expression
   prefixed_by (Some o) = advance >>= (λ p. inner.unary >>= (λ e. pure (Prefixed p o e)))
   prefixed_by None = with_postfixes primary
@@ -195,7 +196,7 @@ module _ (room : ℕ) (inner : Nested) where
   abbrev pub expression : Parser Expression
   expression = binary >>= assignment
 
-  -- parses the further values of a struct's fields, whatever their number
+  -- Parses the remaining values of a struct's fields; the number argument bounds them.
   unfoldable pub more_values : ℕ → Parser Expressions
   more_values zero = pure NoExpressions
   more_values (suc turns) = if_sees signs.Comma (sign room signs.Comma >> inner.expression >>= (λ e. more_values turns >>= (λ es. pure (MoreExpressions e es)))) (pure NoExpressions)
@@ -206,7 +207,8 @@ module _ (room : ℕ) (inner : Nested) where
   abbrev pub fields : Named → List Named → Parser Initial
   fields s rs = sign (suc room) signs.LeftBrace >> values >>= (λ es. sign room signs.RightBrace >> pure (Fields s rs es))
 
-  -- after a name: it opens a struct's fields, with or without region arguments, or it begins an expression
+  -- Parses an initial value that begins with a name: a struct's fields, with or without region arguments,
+  -- or an expression.
   abbrev pub initial_from_name : Named → Parser Initial
   initial_from_name s = if_sees signs.LeftBrace (fields s [])
       (λ ts. (if opens_regions ts then region_list (suc room) >>= (λ rs. fields s rs) else with_postfixes (from_name s) >>= (λ e. pure (Plain e))) ts)
@@ -222,7 +224,8 @@ module _ (room : ℕ) (inner : Nested) where
   unfoldable pub initial : Parser Initial
   initial = choose initial_by
 
--- the parsers with this many levels of nesting left; with none left, each rejects its first symbol as too deep
+-- The parsers that have the given number of nesting levels left; if none is left, each rejects its first
+-- symbol as too deep.
 unfoldable pub nested : ℕ → Nested
 nested zero = record {
   unary = refuse_item begins_expression TooDeep;

@@ -1,5 +1,5 @@
--- Parsers of symbols, and the parsers of one symbol. The functions in this file and in the files that build on it are those that the code
--- computes; `proofs/` relates them to the grammar.
+-- Parsers of symbols, and the parsers of one symbol. The code computes the parser functions of this file and of the files that build on
+-- it; `proofs/` relates them to the grammar.
 use Rattle.std.specs.Prelude.{ℕ, zero, suc, Bool, false, List, [], ◌∷◌, Option, Some, None, is_some, ◌&&◌, Result, Ok, Err, if◌then◌else◌}
 use denote.Enum.Bare.{sameb}
 use Rattle.cyc_syntax.specs.declared.tokens.Keyword.{Keyword}
@@ -16,7 +16,8 @@ pub use Rattle.cyc_parse.specs.Refusals.{next, starts, region_of_terminal, begin
 abbrev pub Outcome : Type 0 → Type 0
 Outcome A = Result (A × List Symbol) Refusal
 
--- a parser reads some of the symbols; it returns their meaning, and the symbols left
+-- The type of parsers: a parser reads some of the symbols, and returns their meaning and the
+-- symbols left.
 abbrev pub Parser : Type 0 → Type 0
 Parser A = List Symbol → Outcome A
 
@@ -24,7 +25,7 @@ abbrev pub and_then : {A B : Type 0} → Outcome A → (A → Parser B) → Outc
 and_then (Ok p) f = f p.0 p.1
 and_then (Err e) f = Err e
 
--- runs a parser, and then another on the symbols left
+-- Runs a parser, and then another one on the symbols left.
 unfoldable pub bind : {A B : Type 0} → Parser A → (A → Parser B) → Parser B
 bind p f = λ ts. and_then (p ts) f
 
@@ -42,18 +43,18 @@ pure a = λ ts. Ok (a, ts)
 abbrev pub refuse : {A : Type 0} → Reason → Parser A
 refuse why = λ ts. Err (record { reason = why; left = ts })
 
--- reads the next symbol, whatever it is, and returns its place
+-- Reads the next symbol, of any kind, and returns its source position.
 abbrev pub advance : Parser Place
 advance [] = Err (record { reason = Unexpected; left = [] })
 advance (t ∷ ts) = Ok (t.place, ts)
 
--- chooses a parser by the next symbol, which is not read
+-- Chooses a parser by the next symbol, which stays unread.
 unfoldable pub choose : {A : Type 0} → (Option Terminal → Parser A) → Parser A
 choose f = λ ts. f (next ts) ts
 
 -- ---- one symbol. `room` counts the levels of nesting that are left, including the present one: with none, the symbol is nested too deep.
 
--- the number of levels left inside one more bracket
+-- Returns the number of nesting levels left inside one more bracket.
 abbrev pub inside : ℕ → ℕ
 inside zero = zero
 inside (suc room) = room
@@ -66,7 +67,7 @@ abbrev pub accept_if : {A B : Type 0} → ℕ → Option A → (A → Place → 
 accept_if room (Some a) give t ts = accept room (give a t.place) t ts
 accept_if room None give t ts = Err (record { reason = Unexpected; left = t ∷ ts })
 
--- reads a symbol that `reads` accepts, and returns a value made of it
+-- Reads a symbol that the test `reads` accepts, and returns a value made of it.
 unfoldable pub take : {A B : Type 0} → ℕ → (Terminal → Option A) → (A → Place → B) → Parser B
 take room reads give [] = Err (record { reason = Unexpected; left = [] })
 take room reads give (t ∷ ts) = accept_if room (reads t.terminal) give t ts
@@ -107,7 +108,8 @@ named x p = record { name = x; place = p }
 abbrev pub only_place : {A : Type 0} → A → Place → Place
 only_place a p = p
 
--- the parser of a keyword or a sign returns its place; that of an identifier or a region name returns the name
+-- Reads a given keyword (`word`) and returns its position; a sign's parser also returns a position, and a
+-- name's parser returns the name.
 abbrev pub word : ℕ → Keyword → Parser Place
 word room k = take room (is_word k) only_place
 
@@ -126,7 +128,7 @@ abbrev pub sees_terminal : Sign → Option Terminal → Bool
 sees_terminal s None = false
 sees_terminal s (Some t) = is_some (is_sign s t)
 
--- true if this sign comes next
+-- Returns true if the given sign (punctuation token) comes next.
 abbrev pub sees : Sign → List Symbol → Bool
 sees s ts = sees_terminal s (next ts)
 
@@ -140,7 +142,7 @@ abbrev pub on_some : {A B : Type 0} → Option A → (A → Parser B) → Parser
 on_some None f q = q
 on_some (Some a) f q = f a
 
--- continues with the first parser if the next symbol passes the test, otherwise with the second
+-- Continues with the first parser if the next symbol passes the test, otherwise with the second.
 unfoldable pub if_is : {A B : Type 0} → (Option Terminal → Option A) → (A → Parser B) → Parser B → Parser B
 if_is reads f q = λ ts. on_some (reads (next ts)) f q ts
 
@@ -148,18 +150,20 @@ abbrev pub reason_by : (Terminal → Bool) → Reason → Option Terminal → Re
 reason_by begins why None = Unexpected
 reason_by begins why (Some t) = if begins t then why else Unexpected
 
--- Rejects an item that begins here for this reason; a symbol that begins no item is unexpected.
+-- Rejects an item that begins at the next symbol, for the given reason; a symbol that begins no
+-- item is unexpected.
 unfoldable pub refuse_item : {A : Type 0} → (Terminal → Bool) → Reason → Parser A
 refuse_item begins why = λ ts. refuse (reason_by begins why (next ts)) ts
 
--- true if `char` and a parenthesis come next: the start of a conversion to a low byte, not of a declaration
+-- Returns true if `char` and a parenthesis come next, which begin a conversion to a low byte, not a
+-- declaration.
 abbrev pub opens_low_byte : List Symbol → Bool
 opens_low_byte [] = false
 opens_low_byte (t ∷ ts) = is_some (is_word words.Char t.terminal) && sees marks.LeftParen ts
 
 -- ---- lists with commas. The number counts the items that may still follow.
 
--- the end of a list that has the maximal number of items: one more is rejected
+-- Ends a list that has the maximal number of items; one more item is rejected.
 abbrev pub no_more_items : {A : Type 0} → ℕ → (Terminal → Bool) → Parser (List A)
 no_more_items room begins = if_sees marks.Comma (sign room marks.Comma >> refuse_item begins TooLong) (pure [])
 
@@ -175,11 +179,11 @@ separated room begins item = item >>= (λ x. more_items room begins item 63 >>= 
 abbrev pub regions : ℕ → Parser (List Named)
 regions room = separated room begins_region (region_name room)
 
--- true if `<` and a region come next, which is how region arguments begin
+-- Returns true if `<` and a region come next, which is how region arguments begin.
 abbrev pub opens_regions : List Symbol → Bool
 opens_regions [] = false
 opens_regions (t ∷ ts) = is_some (is_sign marks.Less t.terminal) && starts begins_region (next ts)
 
--- parses region arguments in angle brackets
+-- Parses region arguments in angle brackets.
 abbrev pub region_list : ℕ → Parser (List Named)
 region_list room = sign room marks.Less >> regions room >>= (λ rs. sign room marks.Greater >> pure rs)

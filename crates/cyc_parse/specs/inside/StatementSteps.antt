@@ -1,5 +1,5 @@
--- Parts of the parser of statements that are separate functions in the code. For each list that the code reads in a loop: one step, which
--- reads the next item or clause if the list continues.
+-- Parts of the parser of statements that are separate functions in the code. For each list that the code reads in a loop, one step reads
+-- the next item or clause if the list continues.
 use Rattle.std.specs.Prelude.{ℕ, suc, Option, Some, None, option_map}
 use Rattle.cyc_syntax.specs.declared.tokens.Keyword.TheVariants as words
 use Rattle.cyc_syntax.specs.declared.tokens.Sign.TheVariants as signs
@@ -11,7 +11,7 @@ use Rattle.cyc_syntax.specs.inside.TreeView.{view_name, items_of}
 use Rattle.cyc_parse.specs.inside.Parsing.{Parser, ◌>>=◌, ◌>>◌, pure, choose, advance, if_starts, sign, word, identifier}
 use Rattle.cyc_parse.specs.inside.Statements.{Nested, begins_item, is_case, is_default, body, expression, expression_from, following, statement_from_name, return_value, throw_statement, caught, let_by, item}
 
--- the continuation after one symbol, given its place
+-- Reads one symbol, and continues with a parser that depends on its source position.
 abbrev pub after_symbol : {A : Type 0} → (Place → Parser A) → Parser A
 after_symbol f = advance >>= f
 
@@ -19,7 +19,7 @@ module _ (room : ℕ) (inner : Nested) where
   abbrev pub return_statement : Place → Parser Statement
   return_statement p = return_value room inner >>= (λ v. sign (suc room) signs.Semicolon >> pure (Return p v))
 
-  -- parses a statement that begins with this name
+  -- Parses a statement that begins with the given name.
   abbrev pub named_statement : ℕ → Parser Statement
   named_statement x = advance >>= (λ p. statement_from_name room inner (record { name = x; place = p }))
 
@@ -29,11 +29,11 @@ module _ (room : ℕ) (inner : Nested) where
   abbrev pub expression_statement : Parser Statement
   expression_statement = expression room inner >>= following room inner
 
-  -- parses a statement that begins with an expression that begins with this name
+  -- Parses a statement that begins with an expression whose first symbol is the given name.
   abbrev pub statement_from : Named → Parser Statement
   statement_from x = expression_from room inner x >>= following room inner
 
-  -- parses a statement that contains no other statements
+  -- Parses a statement that contains no other statements.
   abbrev pub plain_by : Option Terminal → Parser Statement
   plain_by (Some (Mark signs.Semicolon)) = advance >>= (λ p. pure (Empty p))
   plain_by (Some (Word words.Return)) = after_symbol return_statement
@@ -59,7 +59,7 @@ module _ (room : ℕ) (inner : Nested) where
   abbrev pub one_item : Parser (Option Item)
   one_item = if_starts begins_item (item room inner >>= (λ i. pure (Some i))) (pure None)
 
-  -- parses the start of a clause up to its colon: its exception and its variable
+  -- Parses the start of a catch clause up to its colon: its exception and its variable.
   abbrev pub clause_head : Parser (Option (Named × Option Named))
   clause_head = if_starts is_case (word room words.Case >> sign room signs.And >> identifier room >>= (λ x. caught room inner >>= (λ v. sign room signs.Colon >> pure (Some (x, v))))) (pure None)
 
@@ -67,7 +67,7 @@ module _ (room : ℕ) (inner : Nested) where
   with_items None = pure None
   with_items (Some head) = inner.items >>= (λ is. pure (Some (Case head.0 head.1 is)))
 
-  -- parses one clause, returned as a function of the clauses after it
+  -- Parses one catch clause, and returns it as a function of the clauses after it.
   abbrev pub one_clause : Parser (Option (Clauses → Clauses))
   one_clause = clause_head >>= with_items
 
@@ -80,7 +80,7 @@ then_clause c = Case (view_name c.exception) (option_map view_name c.variable) (
 abbrev pub view_clause_head : Ident × Option Ident → Named × Option Named
 view_clause_head head = (view_name head.0, option_map view_name head.1)
 
--- the tree of an `if`, with or without an `else`
+-- Returns the tree of an `if` statement, with or without an `else`.
 abbrev pub conditional : Place → Expression → Statement → Option Statement → Statement
 conditional p c s None = If p c s
 conditional p c s (Some t) = IfElse p c s t

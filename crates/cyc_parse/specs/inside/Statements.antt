@@ -73,14 +73,16 @@ is_else _ = false
 
 -- ---- swaps
 
--- true if the expression is an operand with its prefixes and postfixes, as the sides of a swap must be
+-- Returns true if the expression is an operand with its prefixes and postfixes; both sides of a swap
+-- must be such operands.
 abbrev pub is_unary : Expression → Bool
 is_unary (Binary e os) = false
 is_unary (Assign a b) = false
 is_unary _ = true
 
 abbrev mutual
-  -- True if the expression ends in `new` and a name, so that `<` may follow it with region arguments.
+  -- Returns true if the expression ends in `new` and a name, so that `<` may follow it with region
+  -- arguments.
   pub ends_in_new : Expression → Bool
   ends_in_new (Prefixed p o e) = ends_in_new e
   ends_in_new (New p i) = ends_in_name i
@@ -126,7 +128,8 @@ abbrev mutual
   is_variable (Binary e os) = false
   is_variable (Assign a b) = false
 
--- After the right side of a swap: `<` may begin region arguments, and then the symbol after this `<` is unexpected.
+-- Parses the end of a swap after its right side: if `<` may begin region arguments there, the symbol after the `<`
+-- is unexpected.
 abbrev pub end_of_swap : ℕ → Expression → Parser Place
 end_of_swap room e = if_sees signs.Semicolon (sign room signs.Semicolon)
     (λ ts. (if sees signs.Less ts && ends_in_new e then advance >> refuse Unexpected else refuse Unexpected) ts)
@@ -147,14 +150,14 @@ module _ (room : ℕ) (inner : Nested) where
   abbrev pub expression : Parser Expression
   expression = (nested here).expression
 
-  -- parses an expression that begins with this name
+  -- Parses an expression that begins with the given name.
   abbrev pub expression_from : Named → Parser Expression
   expression_from x = (with_postfixes room (nested room) (from_name room (nested room) x) >>= climb (nested here).unary 10) >>= assignment room (nested room)
 
   abbrev pub swap : Expression → Parser Statement
   swap a = sign here signs.Swap >> (nested here).unary >>= (λ b. end_of_swap here b >> pure (Swap a b))
 
-  -- parses the rest of a statement, after the expression that it begins with
+  -- Parses the rest of a statement, after its first expression.
   abbrev pub following : Expression → Parser Statement
   following e = λ ts. (if sees signs.Swap ts && is_unary e then swap e else sign here signs.Semicolon >> pure (Evaluate e)) ts
 
@@ -173,7 +176,8 @@ module _ (room : ℕ) (inner : Nested) where
   abbrev pub caught : Parser (Option Named)
   caught = if_sees signs.LeftParen (sign room signs.LeftParen >> identifier (inside room) >>= (λ v. sign (inside room) signs.RightParen >> pure (Some v))) (pure None)
 
-  -- the number bounds the clauses; the number of symbols suffices
+  -- Parses the clauses of a `catch`; the number argument bounds the clauses, and the number of
+  -- symbols suffices for it.
   unfoldable pub clauses_in : ℕ → Parser Clauses
   clauses_in zero = pure NoClauses
   clauses_in (suc turns) =
@@ -243,7 +247,8 @@ module _ (room : ℕ) (inner : Nested) where
   abbrev pub executed : Parser Item
   executed = statement >>= (λ s. pure (Execute s))
 
-  -- `char` begins an expression if a parenthesis follows, otherwise a declaration
+  -- Parses an item that begins with `char`: an expression statement if a parenthesis follows,
+  -- otherwise a declaration.
   abbrev pub char_item : Parser Item
   char_item = λ ts. (if opens_low_byte ts then executed else local) ts
 
@@ -267,7 +272,8 @@ module _ (room : ℕ) (inner : Nested) where
   abbrev pub items : Parser Items
   items = λ ts. items_in (length ts) ts
 
--- the parsers with this many levels of nesting left; with none left, each rejects its first symbol as too deep
+-- The parsers of statements that have the given number of nesting levels left; if none is left, each rejects
+-- its first symbol as too deep.
 unfoldable pub nested_statements : ℕ → Nested
 nested_statements zero = record {
   statement = refuse_item begins_statement TooDeep;

@@ -1,5 +1,5 @@
--- Parts of the parser that are separate functions in the code. For each list that the code reads in a loop: one step, which reads the next
--- item if the list continues.
+-- Parts of the parser that are separate functions in the code. For each list that the code reads in a loop, one step reads the next item
+-- if the list continues.
 use Rattle.std.specs.Prelude.{ℕ, zero, suc, ◌+◌, ◌-◌, Bool, false, not, ◌&&◌, ◌||◌, nat_lt, nat_le, if◌then◌else◌, List, [], ◌∷◌, Option, Some, None, is_some}
 use Rattle.cyc_syntax.specs.declared.tokens.Keyword.TheVariants as words
 use Rattle.cyc_syntax.specs.declared.tokens.Sign.TheVariants as signs
@@ -16,7 +16,7 @@ use Rattle.cyc_parse.specs.inside.Types.{mark_at, optional_region}
 use Rattle.cyc_parse.specs.inside.Declarations.{declaration}
 use Rattle.cyc_parse.specs.inside.Expressions.{Nested, binary_operator, operator_at, chained, binary_of, operations, climb, postfixes, unary}
 
--- reads a comma and an item, if a comma comes next
+-- Reads a comma and an item, if a comma comes next.
 abbrev pub after_comma : {A : Type 0} → ℕ → Parser A → Parser (Option A)
 after_comma room item = if_sees signs.Comma (sign room signs.Comma >> item >>= (λ x. pure (Some x))) (pure None)
 
@@ -34,7 +34,7 @@ freed_key room = advance >>= (λ p. sign (suc room) signs.LeftParen >> identifie
 abbrev pub bracketed : ℕ → Nested → Parser Expression
 bracketed room inner = advance >>= (λ p. inner.expression >>= (λ e. sign room signs.RightParen >> pure (Bracketed p e)))
 
--- parses an operand without inner expressions, except for a call or a variable
+-- Parses an operand without inner expressions, except for a call or a variable.
 abbrev pub lone_by : ℕ → Option Terminal → Parser Expression
 lone_by room (Some (terminals.Number n)) = advance >>= (λ p. pure (Number p n))
 lone_by room (Some (terminals.Character c)) = advance >>= (λ p. pure (Character p c))
@@ -47,7 +47,7 @@ lone_by room _ = refuse Unexpected
 abbrev pub lone : ℕ → Parser Expression
 lone room = choose (lone_by room)
 
--- reads the closing bracket of a part, and makes a node of it
+-- Reads the closing parenthesis after an expression, and returns the expression's node.
 
 abbrev pub end_of_group : ℕ → Expression → Parser Expression
 end_of_group room e = sign room signs.RightParen >> pure e
@@ -79,17 +79,17 @@ created_in inner = advance >>= (λ p. inner.group >>= (λ h. inner.initial >>= (
 abbrev pub with_chain : ℕ → Nested → Expression → Parser Expression
 with_chain room inner e = postfixes room inner max_items >>= (λ ps. pure (chained e ps))
 
--- reads `->` and a field's name, returned as a function of the postfixes after them
+-- Reads `->` and a field's name, and returns them as a function of the postfixes that follow.
 abbrev pub one_field : ℕ → Parser (Option (Postfixes → Postfixes))
 one_field room = if_sees signs.Arrow (sign room signs.Arrow >> identifier room >>= (λ x. pure (Some (ThenField x)))) (pure None)
 
--- reads one postfix, returned as a function of the postfixes after it
+-- Reads one postfix, and returns it as a function of the postfixes that follow.
 abbrev pub one_postfix : ℕ → Nested → Parser (Option (Postfixes → Postfixes))
 one_postfix room inner =
     if_sees signs.LeftBracket (sign (suc room) signs.LeftBracket >> inner.expression >>= (λ e. sign room signs.RightBracket >> pure (Some (ThenIndex e))))
     (one_field (suc room))
 
--- true if the operator belongs to one of the levels up to this one
+-- Returns true if the operator belongs to one of the levels up to the given one.
 abbrev pub is_within : ℕ → Option BinaryOperator → Bool
 is_within most None = false
 is_within most (Some o) = nat_le (level o) most
@@ -98,17 +98,18 @@ abbrev pub level_within : ℕ → ℕ → Option BinaryOperator → Option ℕ
 level_within below most None = None
 level_within below most (Some o) = if nat_lt below (level o) && is_within most (Some o) then Some (level o) else None
 
--- the level of the next symbol, if it is a binary operator whose level lies above the first bound and up to the second
+-- Returns the next symbol's operator level, if the symbol is a binary operator whose level is above `below` and at
+-- most `most`.
 abbrev pub level_at : ℕ → ℕ → Option Terminal → Option ℕ
 level_at below most (Some (Mark s)) = level_within below most (binary_operator s)
 level_at below most _ = None
 
--- the symbols after the next one
+-- Returns the symbols after the next one.
 abbrev pub following : List Symbol → List Symbol
 following [] = []
 following (t ∷ ts) = ts
 
--- true if these symbols continue an operand: by arguments or by a postfix
+-- Returns true if the symbols continue an operand, by arguments or by a postfix.
 abbrev pub has_more : List Symbol → Bool
 has_more ts = sees signs.LeftParen ts || (sees signs.LeftBracket ts || sees signs.Arrow ts)
 
@@ -117,34 +118,35 @@ is_plain_before ts (Some (terminals.Number n)) = not (has_more ts)
 is_plain_before ts (Some (terminals.Identifier x)) = not (has_more ts)
 is_plain_before ts _ = false
 
--- true if the next operand is a single number or a single name
+-- Returns true if the next operand is a single number or a single name.
 abbrev pub is_plain : List Symbol → Bool
 is_plain ts = is_plain_before (following ts) (next ts)
 
--- True if these symbols continue an operand of the next level: by arguments, a postfix, or an operator up to this level.
+-- Returns true if the symbols continue an operand of the next operator level: by arguments, a postfix, or an operator up
+-- to the level `below`.
 abbrev pub is_continued : ℕ → List Symbol → Bool
 is_continued below ts = sees signs.LeftParen ts || ((sees signs.LeftBracket ts || sees signs.Arrow ts) || is_some (level_at 0 below (next ts)))
 
--- parses an operand for the operators of the level above this one
+-- Parses an operand for the operators of the level above `below`.
 abbrev pub operand : ℕ → Nested → ℕ → Parser Expression
 operand room inner below = unary room inner >>= climb (unary room inner) below
 
 abbrev pub then_operation : Operation → Operations → Operations
 then_operation o = ThenOperation o.operator (place_of_span o.span) (view_expression o.operand)
 
--- reads an operator with its operand, returned as a function of the operations after them
+-- Reads an operator with its operand, and returns them as a function of the operations that follow.
 abbrev pub one_operation : Parser Expression → ℕ → Parser (Option (Operations → Operations))
 one_operation operand k = choose (λ t. elim (operator_at k t) [
   | None ↦ pure None
   | Some o ↦ advance >>= (λ p. operand >>= (λ e. pure (Some (ThenOperation o p e))))
 ])
 
--- extends a first operand by the operators of this many levels above the given one
+-- Extends a first operand by the operators of a given number of levels above the level `below`.
 unfoldable pub climb_from : Parser Expression → ℕ → ℕ → Expression → Parser Expression
 climb_from tightest below zero e = pure e
 climb_from tightest below (suc count) e = operations (tightest >>= climb tightest below) (suc below) max_items >>= (λ os. climb_from tightest (suc below) count (binary_of e os))
 
--- extends an operand by the operators of the level above this one, and then of the levels up to the last
+-- Extends an operand by the operators of the level above `below`, and then of the levels up to `most`.
 abbrev pub one_level : ℕ → Nested → ℕ → ℕ → Expression → Parser Expression
 one_level room inner below most e = operations (operand room inner below) (suc below) max_items >>= (λ os. climb_from (unary room inner) (below + 1) (most - (below + 1)) (binary_of e os))
 

@@ -22,7 +22,7 @@ abbrev pub begins_type : Terminal → Bool
 begins_type (Word k) = is_type_word k
 begins_type _ = false
 
--- the next symbol, if it is a pointer mark
+-- Returns the kind of pointer that the next symbol denotes, if it is a pointer mark such as `*`.
 abbrev pub mark_at : Option Terminal → Option PointerKind
 mark_at (Some (Mark signs.Star)) = Some pointers.Nullable
 mark_at (Some (Mark signs.At)) = Some pointers.NonNull
@@ -32,7 +32,7 @@ mark_at _ = None
 abbrev pub optional_region : ℕ → Parser (Option Named)
 optional_region room = if_starts begins_region (region_name room >>= (λ r. pure (Some r))) (pure None)
 
--- the end of a type that has the maximal number of pointer marks: one more is rejected
+-- Ends a type that has the maximal number of pointer marks such as `*`; one more mark is rejected.
 abbrev pub no_more_pointers : Parser (List Pointer)
 no_more_pointers = if_is mark_at (λ k. refuse TooLong) (pure [])
 
@@ -46,7 +46,7 @@ with_pointers room p b = pointers_of room max_items >>= (λ ms. pure (record { p
 unfoldable pub optional_regions : ℕ → Parser (List Named)
 optional_regions room = if_sees signs.Less (region_list room) (pure [])
 
--- parses the region of a handle's or a key's type
+-- Parses the region of a handle's or a key's type.
 abbrev pub region_of : ℕ → Parser Named
 region_of room = sign room signs.Less >> region_name room >>= (λ r. sign room signs.Greater >> pure r)
 

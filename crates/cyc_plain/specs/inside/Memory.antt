@@ -1,5 +1,6 @@
--- Memory as seen by loads and stores. Memory has three ranges: the globals, the live blocks of the store, and the slots of active calls
--- whose address is taken. Every other slot is private to its call, like a register: no store changes it.
+-- Memory as loads and stores see it. Memory has three ranges: the globals, the live blocks of the store, and the slots of active calls
+-- whose address is taken. A slot whose address is not taken is private to its call, like a register, and no store instruction changes
+-- it.
 use Rattle.std.specs.Prelude.{◌≡◌, ℕ, ◌+◌, ◌-◌, ◌*◌, ◌/◌, ◌%◌, ◌^◌, ◌≤◌, Bool, false, ◌&&◌, ◌||◌, ◌==◌, nat_le, nat_lt, if◌then◌else◌, List, [], ◌∷◌, length, Option, Some, None}
 use Rattle.cyc_store.specs.State.{word_at, saved}
 use Rattle.cyc_store.specs.declared.range.TheConstants.{STORE_BASE, PAGE_WORDS, MOST_PAGES}
@@ -11,20 +12,21 @@ use Rattle.cyc_plain.specs.inside.State.{Words, put, Activation, Frame, Configur
 
 -- ---- addresses of the slots of calls
 
--- After all addresses of the store, and in the lower half of memory.
+-- The lowest address of slots, after all addresses of the store and in the lower half of memory.
 abbrev pub slots_base : ℕ
 slots_base = STORE_BASE + 4 * (PAGE_WORDS * MOST_PAGES)
 
 abbrev pub slots_end : ℕ
 slots_end = 2 ^ 31
 
--- The slots of a call of this function may be allocated from `base` on: they end below `above`.
+-- `IsBelow` says that the slots of a call of this function may be allocated from `base` on: they
+-- end below `above`.
 pub record IsBelow (program : Program) (function base above : ℕ) : Type 0 where
   pub aligned : base % 4 ≡ 0
   pub low : slots_base ≤ base
   pub high : base + 4 * (routine_at program function).slots ≤ above
 
--- The slots of each call lie below those of its caller.
+-- `AreBelow` says that the slots of each call lie below those of its caller.
 abbrev pub AreBelow : Program → (function base : ℕ) → List Frame → Type 0
 AreBelow program function base [] = IsBelow program function base slots_end
 AreBelow program function base (f ∷ frames) =
@@ -37,7 +39,8 @@ LieBelow program (Stuck output input) = Unit {0}
 
 -- ---- words with an address
 
--- An instruction that takes the address of this slot, so that it can be loaded and stored.
+-- Returns true if an instruction takes the address of this slot, so that loads and stores can
+-- access the slot.
 abbrev pub pins : Instruction → (slot : ℕ) → Bool
 pins (instructions.AddressOf destination first count) slot = nat_le first slot && nat_lt slot (first + count)
 pins instruction slot = false
@@ -46,16 +49,17 @@ abbrev pub is_pinned : List Instruction → (slot : ℕ) → Bool
 is_pinned [] slot = false
 is_pinned (i ∷ code) slot = pins i slot || is_pinned code slot
 
--- The number of the word at this address among consecutive words from `base` on, if `is_asked` accepts the number.
+-- Returns the number of the word at this address among consecutive words from `base` on, if `is_asked` accepts the
+-- number.
 abbrev pub numbered : (is_asked : ℕ → Bool) → (base address : ℕ) → Option ℕ
 numbered is_asked base address =
     if base + 4 * ((address - base) / 4) == address && is_asked ((address - base) / 4) then Some ((address - base) / 4) else None
 
--- The number of the global at this address.
+-- Returns the number of the global at this address, if there is one.
 abbrev pub global_at : Program → (address : ℕ) → Option ℕ
 global_at program address = numbered (λ (number : ℕ). nat_lt number (length program.globals)) GLOBALS_BASE address
 
--- The number of the slot of a call at this address.
+-- Returns the number of a call's slot at this address, if there is one.
 abbrev pub slot_at : Program → Activation → (address : ℕ) → Option ℕ
 slot_at program a address = numbered (is_pinned (routine_at program a.function).code) a.base address
 
@@ -65,7 +69,7 @@ abbrev pub word_or : Option ℕ → Words → (other : Option ℕ) → Option �
 word_or (Some number) words other = Some (words number)
 word_or None words other = other
 
--- The word at an address, if it is that of a slot of one of these calls.
+-- Returns the word at an address that belongs to a slot of one of these waiting calls, or `None`.
 abbrev pub word_waiting : Program → List Frame → (address : ℕ) → Option ℕ
 word_waiting program [] address = None
 word_waiting program (f ∷ frames) address =
@@ -76,7 +80,7 @@ put_or (Some slot) word f frames others =
     record f { caller = record f.caller { slots = put f.caller.slots slot word } } ∷ frames
 put_or None word f frames others = f ∷ others
 
--- The waiting calls after a word is written to an address.
+-- Returns the waiting calls after a word is written to an address.
 abbrev pub with_waiting : Program → List Frame → (address word : ℕ) → List Frame
 with_waiting program [] address word = []
 with_waiting program (f ∷ frames) address word =
@@ -84,7 +88,7 @@ with_waiting program (f ∷ frames) address word =
 
 -- ---- loads and stores
 
--- The range of memory that an address belongs to.
+-- The range of memory to which an address belongs.
 pub data Range : Type 0 where
   OfGlobals : Range
   OfStore : Range
@@ -100,7 +104,7 @@ word_in program c address OfStore = word_at c.store address
 word_in program c address OfSlots =
     word_or (slot_at program c.active address) c.active.slots (word_waiting program c.frames address)
 
--- The word at an address, if memory has one there.
+-- Returns the word at an address, or `None` if memory has no word there.
 abbrev pub memory_at : Program → Configuration → (address : ℕ) → Option ℕ
 memory_at program c address = word_in program c address (range_of address)
 
@@ -118,6 +122,6 @@ with_word program c address word OfGlobals = with_global c (global_at program ad
 with_word program c address word OfStore = record c { store = saved c.store address word }
 with_word program c address word OfSlots = with_slot program c (slot_at program c.active address) address word
 
--- The configuration after a word is written to an address, if memory has a word there.
+-- Returns the configuration after a word is written to an address, if memory has a word there.
 abbrev pub with_memory : Program → Configuration → (address word : ℕ) → Configuration
 with_memory program c address word = with_word program c address word (range_of address)

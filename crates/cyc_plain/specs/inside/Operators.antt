@@ -1,5 +1,5 @@
--- The operators of a plain program on words: those of C on a 32-bit machine. Sums wrap and shift counts are taken modulo 32; this behaviour
--- of the operators is this project's own choice.
+-- The operators of a plain program on words: those of C on a 32-bit machine. Sums wrap, and shift counts are taken modulo 32, as this
+-- project chooses.
 use Rattle.std.specs.Prelude.{ℕ, ◌==◌, Bool, false, not, if◌then◌else◌, nat_le, nat_lt, int_le, int_lt, bit_and, bit_or, bit_xor}
 use Rattle.std.specs.Int.{w32, bit_not}
 use Rattle.cyc_words.specs.Word.{signed, add_of, sub_of, mul_of, shl_of, sar_of, slt_of, div_of, rem_of}
@@ -10,7 +10,7 @@ use Rattle.cyc_plain.specs.declared.instruction.BinaryOperator.TheVariants as bi
 use Rattle.cyc_plain.specs.declared.instruction.Comparison.{Comparison}
 use Rattle.cyc_plain.specs.declared.instruction.Comparison.TheVariants as comparisons
 
--- The word that represents a truth value: 1 or 0.
+-- Returns the word that represents a truth value: 1 or 0.
 abbrev pub truth : Bool → ℕ
 truth holds = if holds then 1 else 0
 
@@ -37,13 +37,13 @@ binary_result binary.LessOrEqual a b = truth (int_le (signed a) (signed b))
 binary_result binary.Greater a b = slt_of b a
 binary_result binary.GreaterOrEqual a b = truth (int_le (signed b) (signed a))
 
--- The operator is a division or remainder, and the divisor is 0.
+-- Returns true if an operator is a division or remainder and its divisor is 0.
 abbrev pub has_no_result : BinaryOperator → ℕ → Bool
 has_no_result binary.Divide b = b == 0
 has_no_result binary.Remainder b = b == 0
 has_no_result operator b = false
 
--- A comparison of two words holds.
+-- Returns true if a comparison of two words holds.
 abbrev pub compares : Comparison → ℕ → ℕ → Bool
 compares comparisons.Equal a b = a == b
 compares comparisons.NotEqual a b = not (a == b)

@@ -1,5 +1,5 @@
--- Plain programs as mathematical data. The form (three-address code over numbered slots) is the field's; its contents, and all numbers, are
--- this project's own choice.
+-- Plain programs as mathematical data. The form of plain programs, three-address code over numbered slots, is common in compilers. The
+-- contents of plain programs, and all numbers in them, are this project's own choice.
 use Rattle.std.specs.Prelude.{ℕ, suc, ◌+◌, ◌*◌, List, [], ◌∷◌, ◌++◌, length, map, sum_by, slice_index_or}
 use Rattle.std.specs.List.{range_with_len}
 use Rattle.cyc_words.specs.declared.span.Span.{Span}
@@ -10,7 +10,8 @@ use Rattle.cyc_plain.specs.declared.instruction.BinaryOperator.TheVariants as bi
 use Rattle.cyc_plain.specs.declared.program.Function.{Function}
 use Rattle.cyc_plain.specs.inside.Requests.{request_size}
 
--- A function: the position of its name, the numbers of its parameter words, result words, slots and frame words, and its code.
+-- A function of a plain program: the position of its name, the numbers of its parameter words, result words, slots and frame
+-- words, and its code.
 pub record Routine : Type 0 where
   pub name : Span
   pub parameters : ℕ
@@ -19,7 +20,8 @@ pub record Routine : Type 0 where
   pub frame_count : ℕ
   pub code : List Instruction
 
--- A program: its functions, the initial words of its globals, and the function that is called first.
+-- A plain program: its functions, the initial words of its globals, and the number of the function
+-- that is called first.
 pub record Program : Type 0 where
   pub functions : List Routine
   pub globals : List ℕ
@@ -39,7 +41,7 @@ abbrev pub program_of : (functions : List Function) → (globals : List ℕ) →
 program_of functions globals main =
     record { functions = map routine_of functions; globals = globals; main = main }
 
--- The function of this number; a function without code if there is none.
+-- An empty function, which stands for a function number that does not exist.
 abbrev pub no_routine : Routine
 no_routine = record {
   name = record { line = 0; column = 0 };
@@ -53,8 +55,8 @@ no_routine = record {
 abbrev pub routine_at : Program → ℕ → Routine
 routine_at program function = slice_index_or program.functions function no_routine
 
--- Size: an upper bound of the words of machine code for an instruction. The bound allows two more words for each slot that the instruction
--- names, since register allocation saves and loads some. The code of a call has words for each word passed.
+-- The size of an instruction is an upper bound of the words of its machine code. The bound allows two more words for each slot that the
+-- instruction names, since register allocation saves and loads some slots. The size of a call includes words for each word passed.
 abbrev pub operator_size : BinaryOperator → ℕ
 operator_size binary.Divide = 18
 operator_size binary.Remainder = 18
@@ -90,18 +92,18 @@ instruction_size (instructions.Enter function) = 6
 abbrev pub size : Routine → ℕ
 size r = sum_by instruction_size r.code
 
--- The place of an instruction: its function, and its index in the code.
+-- The position of an instruction in a program: its function, and its index in the code.
 pub record CodePlace : Type 0 where
   pub function : ℕ
   pub index : ℕ
 
--- The places of the code of functions, the first of which has this number.
+-- Returns the code positions of these functions, the first of which has the number `function`.
 abbrev pub places_from : ℕ → List Routine → List CodePlace
 places_from function [] = []
 places_from function (r ∷ routines) =
     map (λ (i : ℕ). record { function = function; index = i }) (range_with_len 0 (length r.code))
     ++ places_from (suc function) routines
 
--- All places of a program's code.
+-- Returns all code positions of a program.
 abbrev pub places_of : Program → List CodePlace
 places_of program = places_from 0 program.functions

@@ -1,10 +1,11 @@
--- Requests to the store: their operands, and the slots that receive the result.
+-- Requests to the store (the heap of regions): their operands, and the slots that receive the
+-- result.
 use Rattle.std.specs.Prelude.{ℕ, ◌+◌, ◌*◌, Option, Some, None}
 use Rattle.cyc_plain.specs.declared.instruction.Operand.{Operand}
 use Rattle.cyc_plain.specs.declared.instruction.Request.{Request}
 use Rattle.cyc_plain.specs.declared.instruction.Request.TheVariants as requests
 
--- The operands of a request, at most two.
+-- Returns the first of a request's operands, of which there are at most two.
 abbrev pub first_operand : Request → Option Operand
 first_operand (requests.OpenLexical destination) = None
 first_operand (requests.CloseTo mark) = Some mark
@@ -17,7 +18,7 @@ abbrev pub second_operand : Request → Option Operand
 second_operand (requests.Allocate destination handle words) = Some words
 second_operand request = None
 
--- The number of words of the result.
+-- Returns the number of words of a request's result.
 abbrev pub answer_count : Request → ℕ
 answer_count (requests.OpenLexical destination) = 2
 answer_count (requests.CloseTo mark) = 0
@@ -26,7 +27,7 @@ answer_count (requests.CloseDynamic handle) = 0
 answer_count (requests.Allocate destination handle words) = 1
 answer_count (requests.Free address) = 0
 
--- The first of the slots that receive the result, if there is one.
+-- Returns the first of the slots that receive the result of a request, if it has one.
 abbrev pub destination_of : Request → ℕ
 destination_of (requests.OpenLexical destination) = destination
 destination_of (requests.OpenDynamic destination) = destination
@@ -37,7 +38,7 @@ abbrev pub operand_size : Option Operand → ℕ
 operand_size None = 0
 operand_size (Some operand) = 3
 
--- An upper bound of the words of machine code for a request.
+-- Returns an upper bound of the words of machine code for a request.
 abbrev pub request_size : Request → ℕ
 request_size request =
     2 + operand_size (first_operand request) + operand_size (second_operand request) + 3 * answer_count request

@@ -1,5 +1,5 @@
 -- The state of a running plain program. Every value of a plain program is a word. Slots and globals are total functions from numbers to
--- words; a well-formed program uses only the numbers that exist.
+-- words; a well-formed program uses only the numbers of existing slots and globals.
 use Rattle.std.specs.Prelude.{ℕ, suc, ◌+◌, ◌-◌, ◌==◌, ◌&&◌, nat_le, nat_lt, List, length, if◌then◌else◌}
 use Rattle.std.specs.List.{AllByRecursion}
 use Rattle.cyc_words.specs.Word.{IsWord}
@@ -10,14 +10,15 @@ use Rattle.cyc_store.specs.State as stores
 use Rattle.cyc_store.specs.State.{StoreState}
 use Rattle.cyc_plain.specs.inside.Program.{CodePlace}
 
--- The word in each slot, or in each global.
+-- A function from slot numbers, or from numbers of globals, to words.
 abbrev pub Words : Type 0
 Words = ℕ → ℕ
 
 abbrev pub put : Words → ℕ → ℕ → Words
 put words number word = λ (other : ℕ). if other == number then word else words other
 
--- The slots after `count` words from `source` on are copied to `destination` and the following places.
+-- Returns the slots after `count` words from slot `source` on are copied to the slots from
+-- `destination` on.
 abbrev pub copied : (from : Words) → (source count : ℕ) → (to : Words) → (destination : ℕ) → Words
 copied from source count to destination = λ (number : ℕ).
     if nat_le destination number && nat_lt number (destination + count) then from (source + (number - destination)) else to number
@@ -25,14 +26,14 @@ copied from source count to destination = λ (number : ℕ).
 abbrev pub AreWords : Words → Type 0
 AreWords words = (number : ℕ) → IsWord (words number)
 
--- An open handler of a call: the index of the instruction that opened it, the first slot of its record, and the contents of its record. The
--- handler may also be one that an exception has reached.
+-- A handler of a call. An open handler has the index of the instruction that opened it, the first slot of its record, and the record's
+-- contents. `Caught` is a handler that an exception has reached.
 pub data Handler : Type 0 where
   Open : (index first : ℕ) → (contents : Words) → Handler
   Caught : Handler
 
--- An active call: its function, the index of the next instruction, the address of its first slot, its slots, and its open handlers, newest
--- first.
+-- An active call: its function, the index of the next instruction, the address of its first slot, the words of its slots, and its open
+-- handlers, newest first.
 pub record Activation : Type 0 where
   pub function : ℕ
   pub next : ℕ
@@ -45,7 +46,8 @@ pub record Frame : Type 0 where
   pub caller : Activation
   pub result : ℕ
 
--- A running configuration: the active call, the waiting calls, newest first, and the parts of the state that all calls share.
+-- A running configuration of the plain machine: the active call, the waiting calls, newest first, and the parts of the state
+-- that all calls share.
 pub record Configuration : Type 0 where
   pub active : Activation
   pub frames : List Frame
@@ -54,13 +56,13 @@ pub record Configuration : Type 0 where
   pub output : List ℕ
   pub input : List ℕ
 
--- A state: running, ended, or stuck.
+-- A state of a plain program: running, ended, or stuck.
 pub data State : Type 0 where
   Running : Configuration → State
   Ended : Ending → (output input : List ℕ) → State
   Stuck : (output input : List ℕ) → State
 
--- The output of a state so far, and its remaining input.
+-- Returns the output of a state so far.
 abbrev pub output_of : State → List ℕ
 output_of (Running c) = c.output
 output_of (Ended ending output input) = output
@@ -79,13 +81,14 @@ status_of (Running c) = simulation.Running
 status_of (Ended ending output input) = simulation.Ended ending
 status_of (Stuck output input) = simulation.Failed
 
--- The place of the next instruction; none for a run that has ended.
+-- Returns the position of the next instruction, or of the first one in function 0 if the run has
+-- ended.
 abbrev pub place_of : State → CodePlace
 place_of (Running c) = record { function = c.active.function; index = c.active.next }
 place_of (Ended ending output input) = record { function = 0; index = 0 }
 place_of (Stuck output input) = record { function = 0; index = 0 }
 
--- The pages that the store's blocks require, and the number of calls.
+-- Returns the number of pages that the store's blocks require.
 abbrev pub demand : State → ℕ
 demand (Running c) = stores.demand c.store
 demand (Ended ending output input) = 0
@@ -96,7 +99,8 @@ depth (Running c) = suc (length c.frames)
 depth (Ended ending output input) = 0
 depth (Stuck output input) = 0
 
--- The slots, the globals, the store and the input contain only words.
+-- `HoldsWords` says that the slots, the globals, the store and the input of a state contain only
+-- words.
 abbrev pub HoldsWords : State → Type 0
 HoldsWords (Running c) =
     AreWords c.active.slots

@@ -1,5 +1,5 @@
--- The meaning of a plain program. A step is a function of the state and of a choice; the steps are a relation, since any allowed choice may
--- be made.
+-- The meaning of a plain program. A step is a function of the state and of a choice. Steps form a relation, since any allowed choice may be
+-- made.
 use Rattle.std.specs.Prelude.{◌≡◌, ℕ, zero, suc, ◌+◌, ◌-◌, ◌*◌, ◌%◌, ◌^◌, Bool, ◌==◌, ◌&&◌, nat_le, List, [], ◌∷◌, ◌++◌, drop, Option, Some, None, unwrap_or, slice_get, slice_index, if◌then◌else◌}
 use Rattle.cyc_words.specs.Word.{IsWord, signed, add_of}
 use Rattle.cyc_words.specs.Bytes.{byte_in, with_byte, word_of}
@@ -21,14 +21,14 @@ use Rattle.cyc_words.specs.Simulation.{Machine}
 use Rattle.cyc_plain.specs.inside.Memory.{IsBelow, memory_at, with_memory}
 use Rattle.cyc_plain.specs.inside.State.{Words, AreWords, put, copied, Handler, Open, Caught, Activation, Frame, Configuration, State, Running, Ended, Stuck, output_of, input_of, seen_of, status_of, place_of, demand, depth}
 
--- The choice of a step: the initial words of a new call's slots, the address of the first slot, and the store's choice if it receives a
--- request.
+-- The choice made in a step: the initial words of a new call's slots, the address of the first slot, and the store's choice if the step
+-- makes a request.
 pub record Choice : Type 0 where
   pub contents : Words
   pub base : ℕ
   pub serving : services.Choice
 
--- Configurations with one part changed.
+-- Returns the configuration with other words in the active call's slots.
 
 abbrev pub with_slots : Configuration → Words → Configuration
 with_slots c slots = record c { active = record c.active { slots = slots } }
@@ -36,18 +36,19 @@ with_slots c slots = record c { active = record c.active { slots = slots } }
 abbrev pub at : Configuration → ℕ → Configuration
 at c index = record c { active = record c.active { next = index } }
 
--- The configuration with the next instruction as the current one.
+-- Returns the configuration that continues at the next instruction.
 abbrev pub advanced : Configuration → Configuration
 advanced c = at c (c.active.next + 1)
 
--- Writes a slot and continues with the next instruction.
+-- Returns the state after a slot is written, which continues at the next instruction.
 abbrev pub gives : Configuration → ℕ → ℕ → State
 gives c destination word = Running (advanced (with_slots c (put c.active.slots destination word)))
 
 abbrev pub branches : Configuration → Bool → ℕ → State
 branches c taken target = Running (at c (if taken then target else c.active.next + 1))
 
--- A call: the new activation has its arguments in its first slots, and the caller waits after the call.
+-- Returns the state after a call: the new activation has its arguments in its first slots, and the
+-- caller waits at the instruction after the call.
 abbrev pub calls : Choice → Configuration → (function arguments count result : ℕ) → State
 calls choice c function arguments count result =
     Running (record c {
@@ -61,7 +62,8 @@ calls choice c function arguments count result =
       frames = record { caller = (advanced c).active; result = result } ∷ c.frames;
     })
 
--- Returns `results` words to the newest caller. Without a caller, `main` returns and the run ends.
+-- Returns the state after `results` words are returned to the newest waiting call. If no call
+-- waits, `main` returns and the run ends.
 abbrev pub returns : Configuration → (value results : ℕ) → List Frame → State
 returns c value results [] = Ended (Returned (signed (c.active.slots value))) c.output c.input
 returns c value results (f ∷ frames) =
@@ -70,12 +72,13 @@ returns c value results (f ∷ frames) =
       frames = frames;
     })
 
--- The word that an operand denotes.
+-- Returns the word that an operand denotes.
 abbrev pub operand_word : Words → Operand → ℕ
 operand_word slots (operands.Slot number) = slots number
 operand_word slots (operands.Word word) = word
 
--- Loads a word of memory into a slot, or stores a word. If memory has no word at the address, the run gets stuck.
+-- Returns the state after a word of memory is loaded into a slot. If memory has no word at the address, the run
+-- gets stuck.
 
 abbrev pub loads : Configuration → (destination : ℕ) → Option ℕ → State
 loads c destination (Some word) = gives c destination word
@@ -85,7 +88,8 @@ abbrev pub saves : Program → Configuration → (address word : ℕ) → Option
 saves program c address word (Some old) = Running (advanced (with_memory program c address word))
 saves program c address word None = Stuck c.output c.input
 
--- Loads a byte of the word at its address into a slot, or stores a byte into that word, whose other bytes stay.
+-- Returns the state after a byte of the word at its address is loaded into a slot. If memory has no word there,
+-- the run gets stuck.
 
 abbrev pub loads_byte : Configuration → (destination address : ℕ) → Option ℕ → State
 loads_byte c destination address (Some word) = gives c destination (byte_in word (address % 4))
@@ -96,7 +100,7 @@ saves_byte program c address byte (Some old) =
     Running (advanced (with_memory program c (word_of address) (with_byte old (address % 4) byte)))
 saves_byte program c address byte None = Stuck c.output c.input
 
--- The call of the store that a request makes.
+-- Returns the call of the store that a request makes.
 abbrev pub call_in : Words → Request → Call
 call_in slots (requests.OpenLexical destination) = services.OpenLexical
 call_in slots (requests.CloseTo mark) = services.CloseTo (operand_word slots mark)
@@ -106,35 +110,36 @@ call_in slots (requests.Allocate destination handle words) =
     services.Allocate (operand_word slots handle) (operand_word slots words)
 call_in slots (requests.Free address) = services.Free (operand_word slots address)
 
--- The slots after the store's result is written to those from `destination` on.
+-- Returns the slots after the store's result is written to the slots from `destination` on.
 abbrev pub reported : Answer → (destination : ℕ) → Words → Words
 reported (services.Opened handle) destination slots = put slots destination handle
 reported (services.OpenedLexical handle mark) destination slots = put (put slots destination handle) (suc destination) mark
 reported (services.Allocated address) destination slots = put slots destination address
 reported other destination slots = slots
 
--- The configuration after the store has served a call.
+-- Returns the configuration after the store has served a call.
 abbrev pub served_to : services.Choice → Configuration → (destination : ℕ) → Call → Configuration
 served_to serving c destination call =
     advanced (with_slots (record c { store = served c.store call serving }) (reported (answer c.store call serving) destination c.active.slots))
 
--- Calls the store. If there is no room for the result, the run ends, for every choice: demand depends on sizes only. A refusal for another
--- reason makes the run stuck.
+-- Returns the state after a call of the store. If memory for the result is lacking, the run ends for every choice, since the pages
+-- required depend only on sizes. A refusal for another reason makes the run stuck.
 abbrev pub asks : services.Choice → Configuration → (destination : ℕ) → Call → Option Refusal → State
 asks serving c destination call None = Running (served_to serving c destination call)
 asks serving c destination call (Some services.Full) = Ended Full c.output c.input
 asks serving c destination call (Some why) = Stuck c.output c.input
 
--- Handlers. The record of a handler occupies slots and is read only by the code generated below this level. If the record was overwritten,
--- the run gets stuck.
+-- Exception handlers. The record of a handler occupies slots and is read only by the machine code generated from the plain program. If the
+-- record was overwritten, the run gets stuck.
 
--- The record still holds the contents from when the handler was opened.
+-- Returns true if the slots of a handler's record still have the contents from when the handler was
+-- opened.
 abbrev pub is_intact : Words → (first : ℕ) → (contents : Words) → Bool
 is_intact slots first contents =
     slots first == contents 0
     && (slots (first + 1) == contents 1 && (slots (first + 2) == contents 2 && slots (first + 3) == contents 3))
 
--- Opens one more handler.
+-- Returns the state after one more handler is opened.
 abbrev pub opens : Choice → Configuration → (first : ℕ) → State
 opens choice c first =
     Running (record c {
@@ -145,14 +150,15 @@ opens choice c first =
       };
     })
 
--- Opens a handler, or catches the exception that has reached it.
+-- Returns the state after `Try`, which opens a handler or catches the exception that has reached
+-- its handler.
 abbrev pub tries : Choice → Configuration → (first handler : ℕ) → List Handler → State
 tries choice c first handler [] = opens choice c first
 tries choice c first handler (Open index other contents ∷ handlers) = opens choice c first
 tries choice c first handler (Caught ∷ handlers) =
     Running (record c { active = record c.active { next = handler; handlers = handlers } })
 
--- Closes the handler with this record, and every newer one.
+-- Returns the state after the handler with this record, and every newer one, is closed.
 abbrev pub closes : Configuration → (first : ℕ) → List Handler → State
 closes c first [] = Stuck c.output c.input
 closes c first (Caught ∷ handlers) = Stuck c.output c.input
@@ -163,7 +169,8 @@ closes c first (Open index other contents ∷ handlers) =
     else Stuck c.output c.input
     else closes c first handlers
 
--- Passes an exception to the newest handler of a call, or on to its caller. The tag and the value are written to the handler's record.
+-- Returns the state after an exception is passed to the newest handler of a call, or on to the caller. The exception's tag and value
+-- are written to the handler's record.
 abbrev pub lands : Configuration → (tag value : ℕ) → Activation → List Frame → (beyond : State) → List Handler → State
 lands c tag value a frames beyond [] = beyond
 lands c tag value a frames beyond (Caught ∷ handlers) = Stuck c.output c.input
@@ -184,12 +191,12 @@ throws c tag value a [] = lands c tag value a [] (Ended (Uncaught tag (signed va
 throws c tag value a (f ∷ frames) =
     lands c tag value a (f ∷ frames) (throws c tag value f.caller frames) a.handlers
 
--- Returns from a function with no handler open.
+-- Returns the state after a function returns; the run gets stuck if a handler of the call is open.
 abbrev pub finishes : Configuration → (value results : ℕ) → List Handler → State
 finishes c value results [] = returns c value results c.frames
 finishes c value results (h ∷ handlers) = Stuck c.output c.input
 
--- The state after an instruction.
+-- Returns the state after an instruction is executed.
 abbrev pub performed : Program → Choice → Configuration → Instruction → State
 performed program choice c (instructions.Move destination source) =
     gives c destination (operand_word c.active.slots source)
@@ -244,30 +251,30 @@ performed program choice c (instructions.Uncaught tag value) =
     Ended (Uncaught tag (signed (operand_word c.active.slots value))) c.output c.input
 performed program choice c (instructions.Enter function) = Running (advanced c)
 
--- The instruction to be executed.
+-- Returns the instruction at a code position, if there is one.
 abbrev pub instruction_at : Program → CodePlace → Option Instruction
 instruction_at program place = slice_get (routine_at program place.function).code place.index
 
--- The call of the store that an instruction makes, if it makes one.
+-- Returns the call of the store that an instruction makes, if it makes one.
 abbrev pub call_of : Words → Option Instruction → Option Call
 call_of slots (Some (instructions.Ask request)) = Some (call_in slots request)
 call_of slots (Some instruction) = None
 call_of slots None = None
 
--- The call of the store that the next step makes, if it makes one.
+-- Returns the call of the store that the next step makes, if it makes one.
 abbrev pub asked : Program → State → Option Call
 asked program (Running c) = call_of c.active.slots (instruction_at program (place_of (Running c)))
 asked program (Ended ending output input) = None
 asked program (Stuck output input) = None
 
--- The store's result consists of words.
+-- `HasAnswerWords` says that the store's result consists of words.
 abbrev pub HasAnswerWords : Answer → Type 0
 HasAnswerWords (services.Opened handle) = IsWord handle
 HasAnswerWords (services.OpenedLexical handle mark) = IsWord handle × IsWord mark
 HasAnswerWords (services.Allocated address) = IsWord address
 HasAnswerWords other = Unit {0}
 
--- A call that is not refused is served by a choice that the store allows, and its result consists of words.
+-- `IsServed` says that the store allows a choice for a call, and that the result consists of words.
 pub record IsServed (store : StoreState) (call : Call) (serving : services.Choice) : Type 0 where
   pub allowed : services.IsAllowed store call serving
   pub words : HasAnswerWords (answer store call serving)
@@ -276,26 +283,29 @@ abbrev pub MayServe : services.Choice → Option Call → State → Type 0
 MayServe serving (Some call) (Running c) = refusal c.store call ≡ None → IsServed c.store call serving
 MayServe serving call s = Unit {0}
 
--- The function that an instruction calls, or checks stack room for, if there is one.
+-- Returns the function that an instruction calls, or for which it checks for stack space, if there
+-- is one.
 abbrev pub callee_of : Option Instruction → Option ℕ
 callee_of (Some (instructions.Call function arguments count result)) = Some function
 callee_of (Some (instructions.Enter function)) = Some function
 callee_of (Some instruction) = None
 callee_of None = None
 
--- The function that the next step calls, or checks stack room for.
+-- Returns the function that the next step calls, or for which it checks for stack space, if there
+-- is one.
 abbrev pub called : Program → State → Option ℕ
 called program (Running c) = callee_of (instruction_at program (place_of (Running c)))
 called program (Ended ending output input) = None
 called program (Stuck output input) = None
 
--- The slots of a new call lie below those of its caller. A check of stack room requires that they could.
+-- `MayLie` says that the slots of a new call lie below those of its caller. For `Enter`, it requires
+-- that they could lie there.
 abbrev pub MayLie : Program → (base : ℕ) → Option ℕ → State → Type 0
 MayLie program base (Some function) (Running c) = IsBelow program function base c.active.base
 MayLie program base callee s = Unit {0}
 
--- The allowed choices of a program in a state: words, an address with room for the slots of a new call, and a choice of the store that it
--- allows.
+-- `IsAllowed` describes the choices that a step allows: words, an address with space for the slots of a new call, and a choice of the
+-- store that the store allows.
 pub record IsAllowed (program : Program) (s : State) (choice : Choice) : Type 0 where
   pub contents : AreWords choice.contents
   pub lies : MayLie program choice.base (called program s) s
@@ -305,28 +315,29 @@ abbrev pub executed : Program → Choice → Configuration → Option Instructio
 executed program choice c (Some instruction) = performed program choice c instruction
 executed program choice c None = Stuck c.output c.input
 
--- One step of a plain program, without limits. A run that has ended stays as it is.
+-- Returns the state after one step of a plain program without limits. A run that has ended stays in
+-- its state.
 abbrev pub step : Program → Choice → State → State
 step program choice (Running c) = executed program choice c (instruction_at program (place_of (Running c)))
 step program choice (Ended ending output input) = Ended ending output input
 step program choice (Stuck output input) = Stuck output input
 
--- Limits: at most `pages` pages of the store and `calls` calls. A step that would exceed a limit ends the run instead, with output and
--- input as before the step.
+-- A run has limits: at most `pages` pages of the store and `calls` active calls. A step that would exceed a limit ends the run
+-- instead, with output and input as before the step.
 abbrev pub is_within : (pages calls : ℕ) → State → Bool
 is_within pages calls s = nat_le (demand s) pages && nat_le (depth s) calls
 
 abbrev pub limited : (pages calls : ℕ) → (old new : State) → State
 limited pages calls old new = if is_within pages calls new then new else Ended Full (output_of old) (input_of old)
 
--- The limit of calls after an instruction. The limit is one less after `Enter`, so that there is room for the call that `Enter` checks and
--- does not make.
+-- Returns the limit of calls in the state after an instruction. After `Enter` the limit is one less, so that the call that `Enter` checks,
+-- but does not make, would be within the limit.
 abbrev pub limit_of : Option Instruction → (calls : ℕ) → ℕ
 limit_of (Some (instructions.Enter function)) calls = calls - 1
 limit_of (Some instruction) calls = calls
 limit_of None calls = calls
 
--- The limit of calls after the next step.
+-- Returns the limit of calls in the state after the next step.
 abbrev pub limit_at : Program → State → (calls : ℕ) → ℕ
 limit_at program (Running c) calls = limit_of (instruction_at program (place_of (Running c))) calls
 limit_at program (Ended ending output input) calls = calls
@@ -335,12 +346,13 @@ limit_at program (Stuck output input) calls = calls
 abbrev pub limited_step : Program → (pages calls : ℕ) → Choice → State → State
 limited_step program pages calls choice s = limited pages (limit_at program s calls) s (step program choice s)
 
--- A program with these limits may step from `old` to `new`.
+-- `Step` says that a program with these limits may step from `old` to `new`.
 abbrev pub Step : Program → (pages calls : ℕ) → State → State → Type 0
 Step program pages calls old new =
     (choice : Choice) × IsAllowed program old choice × (new ≡ limited_step program pages calls choice old)
 
--- The initial state: `main` is called with its slots from `base` on, nothing is printed, and all input is unread.
+-- Returns the initial state: `main` is called with its slots from `base` on, nothing is printed, and all input is
+-- unread.
 abbrev pub start : Program → (base : ℕ) → StoreState → List ℕ → State
 start program base store input =
     Running (record {
@@ -352,7 +364,7 @@ start program base store input =
       input = input;
     })
 
--- A program with limits, as a transition system.
+-- Returns the transition system of a plain program with limits.
 abbrev pub machine : Program → (pages calls : ℕ) → Machine
 machine program pages calls = record {
   State = State;
@@ -363,7 +375,7 @@ machine program pages calls = record {
   status = status_of;
 }
 
--- The state after `n` steps with one choice for all steps.
+-- Returns the state after `n` steps that all make the same choice.
 abbrev pub run : Program → (pages calls : ℕ) → Choice → ℕ → State → State
 run program pages calls choice zero s = s
 run program pages calls choice (suc n) s =

@@ -1,5 +1,5 @@
--- Straight-line code: instructions without jumps. The final configuration of straight-line code is a function of the initial one. A pass
--- that emits straight-line code is proved at once, not instruction by instruction.
+-- Straight-line code consists of instructions without jumps. The final configuration of straight-line code is a function of the initial
+-- one. A proof about a pass that emits straight-line code need not treat each instruction.
 use Rattle.std.specs.Prelude.{◌≡◌, ℕ, zero, suc, ◌+◌, Bool, true, false, List, [], ◌∷◌, Some, slice_get}
 use Rattle.cyc_plain.specs.declared.instruction.Instruction.{Instruction}
 use Rattle.cyc_plain.specs.declared.instruction.Instruction.TheVariants as instructions
@@ -9,7 +9,7 @@ use Rattle.cyc_plain.specs.inside.Program.{Program, CodePlace}
 use Rattle.cyc_plain.specs.inside.State.{Configuration, State, Running, Ended, Stuck}
 use Rattle.cyc_plain.specs.inside.Step.{Choice, performed}
 
--- The code contains this instruction at this index.
+-- `At` says that the code contains this instruction at this index.
 abbrev pub At : List Instruction → ℕ → Instruction → Type 0
 At code p i = slice_get code p ≡ Some i
 
@@ -17,13 +17,13 @@ abbrev pub HasAt : List Instruction → ℕ → List Instruction → Type 0
 HasAt code p [] = Unit {0}
 HasAt code p (i ∷ is) = At code p i × HasAt code (p + 1) is
 
--- An operator with a result for all words.
+-- Returns true if an operator has a result for all words: it is no division or remainder.
 abbrev pub is_total : BinaryOperator → Bool
 is_total binary.Divide = false
 is_total binary.Remainder = false
 is_total operator = true
 
--- An instruction that is always followed by the next one.
+-- Returns true if control passes from an instruction only to the next one.
 abbrev pub is_straight : Instruction → Bool
 is_straight (instructions.Move destination source) = true
 is_straight (instructions.MoveWords destination source count) = true
@@ -41,19 +41,19 @@ abbrev pub AreStraight : List Instruction → Type 0
 AreStraight [] = Unit {0}
 AreStraight (i ∷ is) = (is_straight i ≡ true) × AreStraight is
 
--- The configuration of a running state.
+-- Returns the configuration of a running state, otherwise the default configuration `other`.
 abbrev pub configuration_or : State → Configuration → Configuration
 configuration_or (Running c) other = c
 configuration_or (Ended ending output input) other = other
 configuration_or (Stuck output input) other = other
 
--- The configuration after straight-line code, in which nothing depends on choices.
+-- Returns the configuration after straight-line code, which does not depend on the choice.
 abbrev pub executed_in : Program → Choice → Configuration → List Instruction → Configuration
 executed_in program choice c [] = c
 executed_in program choice c (i ∷ is) =
     executed_in program choice (configuration_or (performed program choice c i) c) is
 
--- The `count` places of a function's code from `index` on.
+-- Returns the `count` code positions of a function from `index` on.
 abbrev pub places_after : (function index count : ℕ) → List CodePlace
 places_after function index zero = []
 places_after function index (suc count) =

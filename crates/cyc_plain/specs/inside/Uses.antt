@@ -1,5 +1,5 @@
--- The effect of an instruction on its function's slots: those that it reads (uses) and writes (defines). This file also defines the
--- successors of an instruction: the places where control may continue.
+-- The effect of an instruction on its function's slots: those that it reads (uses) and writes (defines). The successors of an
+-- instruction, where control may continue, are also defined in this file.
 use Rattle.std.specs.Prelude.{◌≡◌, ℕ, suc, ◌+◌, Bool, false, ◌==◌, ◌||◌, ◌&&◌, nat_le, nat_lt, Some, slice_get}
 use Rattle.cyc_plain.specs.declared.instruction.Instruction.{Instruction}
 use Rattle.cyc_plain.specs.declared.instruction.Instruction.TheVariants as instructions
@@ -10,7 +10,7 @@ use Rattle.cyc_plain.specs.declared.instruction.Request.TheVariants as requests
 use Rattle.cyc_plain.specs.declared.limits.TheConstants.{RECORD_WORDS}
 use Rattle.cyc_plain.specs.inside.Program.{Routine, Program, routine_at}
 
--- The code contains this instruction at this index.
+-- `At` says that a function's code contains this instruction at this index.
 abbrev pub At : Routine → (index : ℕ) → Instruction → Type 0
 At r index i = slice_get r.code index ≡ Some i
 
@@ -18,7 +18,7 @@ abbrev pub is_slot : Operand → (slot : ℕ) → Bool
 is_slot (operands.Slot number) slot = number == slot
 is_slot (operands.Word word) slot = false
 
--- The slot is one of `count` slots from `first` on.
+-- Returns true if a slot is one of the `count` slots from `first` on.
 abbrev pub is_among : (first count slot : ℕ) → Bool
 is_among first count slot = nat_le first slot && nat_lt slot (first + count)
 
@@ -38,7 +38,7 @@ request_writes (requests.CloseDynamic handle) slot = false
 request_writes (requests.Allocate destination handle words) slot = destination == slot
 request_writes (requests.Free address) slot = false
 
--- The instruction reads the slot, in a function with `results` result words.
+-- Returns true if an instruction reads the slot, in a function with `results` result words.
 abbrev pub reads : (results : ℕ) → Instruction → (slot : ℕ) → Bool
 reads results (instructions.Move destination source) slot = is_slot source slot
 reads results (instructions.MoveWords destination source count) slot = is_among source count slot
@@ -60,7 +60,8 @@ reads results (instructions.Finish value) slot = is_among value results slot
 reads results (instructions.Uncaught tag value) slot = is_slot value slot
 reads results instruction slot = false
 
--- The instruction writes the slot before the next instruction of its call.
+-- Returns true if an instruction writes the slot before the next instruction of its call is
+-- executed.
 abbrev pub writes : Program → Instruction → (slot : ℕ) → Bool
 writes program (instructions.Move destination source) slot = destination == slot
 writes program (instructions.MoveWords destination source count) slot = is_among destination count slot
@@ -78,7 +79,8 @@ writes program (instructions.CountLexical destination) slot = destination == slo
 writes program (instructions.Try first handler) slot = is_among first RECORD_WORDS slot
 writes program instruction slot = false
 
--- Control may continue at `next` after the instruction at `index`, in one call.
+-- Returns true if control may pass from the instruction at `index` to the one at `next` within one
+-- call.
 abbrev pub leads : Instruction → (index next : ℕ) → Bool
 leads (instructions.Jump target) index next = target == next
 leads (instructions.Branch comparison left right target) index next = suc index == next || target == next

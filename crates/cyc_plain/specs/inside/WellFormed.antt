@@ -1,4 +1,5 @@
--- A well-formed plain program: everything that it names exists, and its frames have room.
+-- A well-formed plain program: everything that its instructions name exists, and the size of its
+-- frames is within the limit.
 use Rattle.std.specs.Prelude.{◌≡◌, ◌≢◌, ℕ, ◌+◌, ◌-◌, ◌<◌, ◌≤◌, Bool, true, false, length, sum_by, All, IsSomeAnd, Option, Some, None, slice_get}
 use Rattle.cyc_words.specs.Word.{IsWord, add_of}
 use Rattle.cyc_words.specs.Bytes.{word_of}
@@ -17,31 +18,33 @@ use Rattle.cyc_plain.specs.inside.Step.{operand_word, instruction_at, asked}
 use Rattle.cyc_plain.specs.inside.Program.{Routine, Program, routine_at, size}
 use Rattle.cyc_plain.specs.declared.limits.TheConstants.{LAYOUT_WORDS, GREATEST_VALUE, MOST_GLOBALS, MOST_SIZE, RECORD_WORDS}
 
--- The `count` slots from `first` on are slots of the function.
+-- `HasSlots` says that the `count` slots from `first` on are slots of the function.
 abbrev pub HasSlots : Routine → (first count : ℕ) → Type 0
 HasSlots r first count = first + count ≤ r.slots
 
--- A call of a function of the program that passes the right number of words. The argument slots and the slots that receive the results
--- exist.
+-- `IsCallInRange` says that the callee exists and takes the number of words passed. The argument slots and the slots that receive the
+-- results exist.
 pub record IsCallInRange (program : Program) (r : Routine) (function arguments count result : ℕ) : Type 0 where
   pub function_in_range : function < length program.functions
   pub takes : count ≡ (routine_at program function).parameters
   pub arguments_in_range : HasSlots r arguments count
   pub result_in_range : HasSlots r result (routine_at program function).results
 
--- An operand is a word or a slot of the function.
+-- `IsOperand` says that an operand is a constant word or a slot of the function.
 abbrev pub IsOperand : Routine → Operand → Type 0
 IsOperand r (operands.Slot number) = number < r.slots
 IsOperand r (operands.Word word) = Unit {0}
 
--- The slots of a move of several words exist, and it moves no more words than a value has.
+-- `IsMoveInRange` says that the slots of a move of several words exist, and that the move copies no
+-- more words than a value can have.
 pub record IsMoveInRange (r : Routine) (destination source count : ℕ) : Type 0 where
   pub some : 0 < count
   pub few : count ≤ GREATEST_VALUE
   pub destination_in_range : HasSlots r destination count
   pub source_in_range : HasSlots r source count
 
--- A handler's record consists of slots, and its target is in the code. A function with handlers returns only by `Finish`.
+-- The record of a handler consists of slots of the function, and the handler's target is in the code. A function with
+-- handlers returns only by `Finish`.
 abbrev pub is_return : Instruction → Bool
 is_return (instructions.Return value) = true
 is_return instruction = false
@@ -56,13 +59,14 @@ abbrev pub IsArgument : Routine → Option Operand → Type 0
 IsArgument r (Some operand) = IsOperand r operand
 IsArgument r None = Unit {0}
 
--- The operands of a request exist, and so do the slots that receive its result.
+-- `IsRequestInRange` says that the operands of a request and the slots that receive its result
+-- exist.
 pub record IsRequestInRange (r : Routine) (request : Request) : Type 0 where
   pub answer_in_range : HasSlots r (destination_of request) (answer_count request)
   pub first_in_range : IsArgument r (first_operand request)
   pub second_in_range : IsArgument r (second_operand request)
 
--- The slots, targets, globals and functions that an instruction names exist.
+-- `IsInRange` says that the slots, targets, globals and functions that an instruction names exist.
 abbrev pub IsInRange : Program → Routine → Instruction → Type 0
 IsInRange program r (instructions.Move destination source) = (destination < r.slots) × IsOperand r source
 IsInRange program r (instructions.MoveWords destination source count) = IsMoveInRange r destination source count
@@ -97,7 +101,7 @@ IsInRange program r (instructions.Finish value) = HasSlots r value r.results
 IsInRange program r (instructions.Uncaught tag value) = IsOperand r value
 IsInRange program r (instructions.Enter function) = function < length program.functions
 
--- An instruction that is never followed by the next one.
+-- Returns true if control never passes from an instruction to the next one in the code.
 abbrev pub leaves : Instruction → Bool
 leaves (instructions.Jump target) = true
 leaves (instructions.Return value) = true
@@ -106,8 +110,9 @@ leaves (instructions.Finish value) = true
 leaves (instructions.Uncaught tag value) = true
 leaves instruction = false
 
--- A function: its parameters are slots, and its result is at most one value. A function's frame has room for the slots and for the words
--- that `layout` adds. Everything that its instructions name exists, and its code does not run off its end.
+-- `IsRoutine` says that a function is well-formed: its parameters are slots, and its result is at most one value. The function's frame
+-- has space for the slots and for the words that `layout` adds. Everything that the function's instructions name exists, and its last
+-- instruction never falls through.
 pub record IsRoutine (program : Program) (r : Routine) : Type 0 where
   pub parameters : r.parameters ≤ r.slots
   pub results : r.results ≤ GREATEST_VALUE
@@ -115,8 +120,8 @@ pub record IsRoutine (program : Program) (r : Routine) : Type 0 where
   pub instructions : All (IsInRange program r) r.code
   pub last : IsSomeAnd (slice_get r.code (length r.code - 1)) (λ i. leaves i ≡ true)
 
--- A program: its functions are well-formed, `main` is a function that takes nothing and returns one word, and there are not too many
--- globals.
+-- `IsWellFormed` says that a program's functions are well-formed, `main` is a function that takes nothing and returns one word, and
+-- the number of globals is within the limit.
 pub record IsWellFormed (program : Program) : Type 0 where
   pub functions : All (IsRoutine program) program.functions
   pub main : program.main < length program.functions
@@ -124,7 +129,8 @@ pub record IsWellFormed (program : Program) : Type 0 where
   pub main_results : (routine_at program program.main).results ≡ 1
   pub globals : length program.globals ≤ MOST_GLOBALS
 
--- All numbers of a program are words: its operands, its tags, and the initial values of its globals.
+-- All numbers of a program fit machine words: its constant operands, its tags, and the initial
+-- values of its globals.
 abbrev pub IsOfWord : Operand → Type 0
 IsOfWord (operands.Slot number) = Unit {0}
 IsOfWord (operands.Word word) = IsWord word
@@ -153,13 +159,13 @@ pub record HasWords (program : Program) : Type 0 where
   pub functions : All (λ r. All HasWord r.code) program.functions
   pub globals : All IsWord program.globals
 
--- The invariant of every value of type `Plain`.
+-- `IsPlain` is the invariant of every value of type `Plain`.
 pub record IsPlain (program : Program) : Type 0 where
   pub well_formed : IsWellFormed program
   pub words : HasWords program
   pub small : sum_by size program.functions ≤ MOST_SIZE
 
--- The next instruction divides by 0.
+-- `DividesByZero` says that the next instruction divides by 0.
 abbrev pub DividesByZero : Program → State → Type 0
 DividesByZero program (Running c) =
     (operator : BinaryOperator) × (destination : ℕ) × (left : Operand) × (right : Operand)
@@ -168,7 +174,7 @@ DividesByZero program (Running c) =
 DividesByZero program (Ended ending output input) = ⊥
 DividesByZero program (Stuck output input) = ⊥
 
--- An instruction that accesses the word of memory at this address, or a byte of it.
+-- `AsksAt` says that an instruction accesses the word of memory at this address, or a byte of it.
 abbrev pub AsksAt : Configuration → (address : ℕ) → Instruction → Type 0
 AsksAt c address (instructions.Load destination base offset) =
     add_of (operand_word c.active.slots base) offset ≡ address
@@ -179,7 +185,7 @@ AsksAt c address (instructions.StoreByte base offset source) =
     word_of (add_of (operand_word c.active.slots base) offset) ≡ address
 AsksAt c address instruction = ⊥
 
--- The next instruction accesses an address without a word.
+-- `AsksForNoWord` says that the next instruction accesses an address at which memory has no word.
 abbrev pub AsksForNoWord : Program → State → Type 0
 AsksForNoWord program (Running c) =
     (i : Instruction) × (address : ℕ) × (instruction_at program (place_of (Running c)) ≡ Some i) × AsksAt c address i
@@ -187,7 +193,8 @@ AsksForNoWord program (Running c) =
 AsksForNoWord program (Ended ending output input) = ⊥
 AsksForNoWord program (Stuck output input) = ⊥
 
--- The next instruction makes a request that the store refuses for a reason other than lack of room.
+-- `AsksInVain` says that the next instruction makes a request that the store refuses for a reason
+-- other than lack of memory.
 abbrev pub AsksInVain : Program → State → Type 0
 AsksInVain program (Running c) =
     (call : Call) × (why : Refusal) × (asked program (Running c) ≡ Some call) × (refusal c.store call ≡ Some why)
@@ -195,7 +202,8 @@ AsksInVain program (Running c) =
 AsksInVain program (Ended ending output input) = ⊥
 AsksInVain program (Stuck output input) = ⊥
 
--- An instruction that closes a handler, throws, or returns from a function with handlers.
+-- Returns true if an instruction closes a handler, throws, or returns from a function with
+-- handlers.
 abbrev pub is_of_handlers : Instruction → Bool
 is_of_handlers (instructions.Leave first) = true
 is_of_handlers (instructions.Throw tag value) = true

@@ -1,4 +1,5 @@
--- Facts about a function's slots and about memory: their truth, the facts that an instruction preserves, and those that it makes true.
+-- Facts about a function's slots and about memory: their truth, the facts that an instruction preserves, and those that it
+-- establishes.
 use Rattle.std.specs.Prelude.{◌≡◌, ℕ, zero, suc, ◌+◌, ◌*◌, ◌<◌, ◌^◌, Bool, true, false, not, ◌==◌, ◌&&◌, ◌||◌, nat_le, nat_lt, if◌then◌else◌, List, [], ◌∷◌, ◌++◌, length, filter, drop, Option, Some, None, slice_get, slice_index_or}
 use Rattle.std.specs.List.{AllByRecursion}
 use Rattle.cyc_words.specs.Word.{add_of}
@@ -29,16 +30,17 @@ use Rattle.cyc_propagation.specs.declared.fact.TheConstants.{MOST_FACTS}
 
 -- ---- truth of facts
 
--- The state that facts describe: the words in a call's slots, and memory, which has a word at some addresses.
+-- A scene is the part of a state that facts describe: the words in a call's slots, and memory, which has a
+-- word at some addresses.
 pub record Scene : Type 0 where
   pub slots : Words
   pub memory : (address : ℕ) → Option ℕ
 
--- The scene of the active call.
+-- Returns the slots of the active call, and memory.
 abbrev pub scene_of : Program → Configuration → Scene
 scene_of program c = record { slots = c.active.slots; memory = memory_at program c }
 
--- The word that a load reads.
+-- Returns the word that a load reads, or `None` if memory has no word there.
 abbrev pub found : Scene → (address : Operand) → (offset : ℕ) → Option ℕ
 found scene address offset = scene.memory (add_of (operand_word scene.slots address) offset)
 
@@ -99,7 +101,7 @@ is_same_operand (operands.Slot number) (operands.Slot other) = number == other
 is_same_operand (operands.Word word) (operands.Word other) = word == other
 is_same_operand operand other = false
 
--- Two references to one word of memory, by one address operand.
+-- Returns true if two references to memory have equal address operands and offsets.
 abbrev pub is_same_word : (address : Operand) → (offset : ℕ) → (other_address : Operand) → (other_offset : ℕ) → Bool
 is_same_word address offset other_address other_offset = is_same_operand address other_address && offset == other_offset
 
@@ -113,14 +115,16 @@ is_same_fact (facts_are.Held address offset value) (facts_are.Held address_2 off
     is_same_word address offset address_2 offset_2 && is_same_operand value value_2
 is_same_fact fact other = false
 
--- The list of facts contains the fact, or is that of an unreachable place.
+-- Returns true if the list of facts contains the fact, or contains a fact that is never true, as at
+-- unreachable positions.
 abbrev pub is_known : List Fact → Fact → Bool
 is_known [] fact = false
 is_known (other ∷ facts) fact = is_same_fact other fact || is_known facts fact
 
 -- ---- unreachable places
 
--- A fact that is never true and hence implies every fact. The fact `never` is known at unreachable places.
+-- The fact `never` is never true and hence implies every fact. The fact `never` is known at unreachable
+-- positions.
 abbrev pub never : Fact
 never = facts_are.Holds comparisons.NotEqual (operands.Word 0) (operands.Word 0)
 
@@ -128,13 +132,14 @@ abbrev pub is_never : Option Fact → Bool
 is_never (Some fact) = is_same_fact fact never
 is_never None = false
 
--- `never` is the first fact of the list.
+-- Returns true if `never` is the first fact of the list, so that the position is unreachable.
 abbrev pub is_unreached : List Fact → Bool
 is_unreached facts = is_never (slice_get facts 0)
 
 -- ---- globals
 
--- A global is a word of memory too, at an offset in bytes from the first global, if its number is in range.
+-- A global is also a word of memory, at an offset in bytes from the first global, if its number is in
+-- range.
 abbrev pub first_global : Operand
 first_global = operands.Word GLOBALS_BASE
 
@@ -143,11 +148,12 @@ global_offset global = if nat_lt global MOST_GLOBALS then Some (4 * global) else
 
 -- ---- slots that facts may mention
 
--- A slot is free if its address is not taken (`pinned`): no store changes it.
+-- Returns true if a slot is free: its address is not taken (`pinned`), so no store instruction
+-- changes it.
 abbrev pub is_free : List Bool → (slot : ℕ) → Bool
 is_free pinned slot = not (slice_index_or pinned slot true)
 
--- `count` slots from `first` on are free.
+-- Returns true if the `count` slots from `first` on are free, that is, their address is not taken.
 abbrev pub are_free : List Bool → (first count : ℕ) → Bool
 are_free pinned first zero = true
 are_free pinned first (suc count) = are_free pinned first count && is_free pinned (first + count)
@@ -156,7 +162,7 @@ abbrev pub suits_operand : List Bool → Operand → Bool
 suits_operand pinned (operands.Slot number) = is_free pinned number
 suits_operand pinned (operands.Word word) = nat_lt word (2 ^ 32)
 
--- A fact mentions only free slots and words.
+-- Returns true if a fact mentions only words and slots whose address is not taken.
 abbrev pub suits : List Bool → Fact → Bool
 suits pinned (facts_are.Equal slot operand) = is_free pinned slot && suits_operand pinned operand
 suits pinned (facts_are.Computed slot operator left right) =
@@ -170,7 +176,8 @@ are_suited pinned (fact ∷ facts) = suits pinned fact && are_suited pinned fact
 
 -- ---- facts that an instruction preserves
 
--- The slots that an instruction writes before the next instruction of its call. A move from a slot to that slot writes nothing.
+-- Returns the slots that an instruction writes before the next instruction of its call. A move from a slot to the same slot
+-- writes nothing.
 abbrev pub written : Program → Instruction → Written
 written program (instructions.Move destination source) =
     if is_slot source destination then record { first = destination; count = 0 } else record { first = destination; count = 1 }
@@ -196,14 +203,15 @@ abbrev pub leaves_operand : Written → Operand → Bool
 leaves_operand slots (operands.Slot number) = leaves_slot slots number
 leaves_operand slots (operands.Word word) = true
 
--- The part of memory that a write to this slot may change: none if the slot is free.
+-- Returns the part of memory that a write to a slot may change: nothing if the slot's address is
+-- not taken.
 abbrev pub touched_by : List Bool → (slot : ℕ) → Touched
 touched_by pinned slot = if is_free pinned slot then touches.Nothing else touches.All
 
 abbrev pub touched_by_words : List Bool → (first count : ℕ) → Touched
 touched_by_words pinned first count = if are_free pinned first count then touches.Nothing else touches.All
 
--- A write to a global changes this range of addresses.
+-- Returns the range of addresses that a write to a global changes.
 abbrev pub touched_global : (offset : Option ℕ) → Touched
 touched_global (Some offset) = touches.Word first_global offset
 touched_global None = touches.All
@@ -227,17 +235,18 @@ touched pinned (instructions.Ask request) = touches.All
 touched pinned (instructions.Try first handler) = touches.All
 touched pinned instruction = touches.Nothing
 
--- Loads with these two offsets from one address read disjoint words.
+-- Returns true if loads with these two offsets from one address read disjoint words.
 abbrev pub are_apart : (offset other : ℕ) → Bool
 are_apart offset other = nat_lt offset (2 ^ 32) && (nat_lt other (2 ^ 32) && not (offset == other))
 
--- The write leaves the word at this address unchanged.
+-- Returns true if a write leaves the word at this address unchanged.
 abbrev pub is_untouched : Touched → (address : Operand) → (offset : ℕ) → Bool
 is_untouched touches.Nothing address offset = true
 is_untouched (touches.Word other written) address offset = is_same_operand other address && are_apart written offset
 is_untouched touches.All address offset = false
 
--- A fact is preserved: no slot that it mentions is written, and no word of memory that it mentions is changed.
+-- Returns true if a fact is preserved: no slot that it mentions is written, and no word of memory that it
+-- mentions is changed.
 abbrev pub keeps : Written → Touched → Fact → Bool
 keeps slots touched (facts_are.Equal slot operand) = leaves_slot slots slot && leaves_operand slots operand
 keeps slots touched (facts_are.Computed slot operator left right) =
@@ -251,7 +260,7 @@ kept slots touched facts = filter (keeps slots touched) facts
 
 -- ---- facts that an instruction makes true
 
--- The comparison that holds exactly if the given one does not.
+-- Returns the comparison that holds exactly if this comparison does not.
 abbrev pub negated : Comparison → Comparison
 negated comparisons.Equal = comparisons.NotEqual
 negated comparisons.NotEqual = comparisons.Equal
@@ -269,37 +278,41 @@ is_any_slot (operands.Word word) = false
 abbrev pub suited : List Bool → Fact → Option Fact
 suited pinned fact = if suits pinned fact then Some fact else None
 
--- The fact that a branch shows if control continues at `next`.
+-- Returns the fact that a branch establishes if control continues at `next`.
 abbrev pub shown : List Bool → Comparison → (left right : Operand) → (target index next : ℕ) → Option Fact
 shown pinned comparison left right target index next =
     if target == index + 1 || not (is_any_slot left || is_any_slot right)
     then None
     else suited pinned (facts_are.Holds (if next == target then comparison else negated comparison) left right)
 
--- The fact that memory has this word.
+-- Returns the fact that memory has this word at an address.
 abbrev pub held : List Bool → (address : Operand) → (offset : ℕ) → (value : Operand) → Option Fact
 held pinned address offset value = suited pinned (facts_are.Held address offset value)
 
--- The fact after a load, whose destination may be the slot that holds the address.
+-- Returns the fact that a load establishes, or `None` if its destination is the slot that contains
+-- the address.
 abbrev pub loaded : List Bool → (address : Operand) → (offset destination : ℕ) → Option Fact
 loaded pinned address offset destination =
     if is_slot address destination then None else held pinned address offset (operands.Slot destination)
 
--- The fact that a global has this word.
+-- Returns the fact that a global contains this word.
 abbrev pub held_global : List Bool → (offset : Option ℕ) → (value : Operand) → Option Fact
 held_global pinned (Some offset) value = held pinned first_global offset value
 held_global pinned None value = None
 
--- The fact after a move. A move from a slot to that slot gives no fact.
+-- Returns the fact that a move establishes. A move from a slot to the same slot establishes no
+-- fact.
 abbrev pub moved : List Bool → (destination : ℕ) → (source : Operand) → Option Fact
 moved pinned destination source = if is_slot source destination then None else suited pinned (facts_are.Equal destination source)
 
--- The fact after an operator, whose destination may be the slot of an operand.
+-- Returns the fact that an operator establishes, or `None` if its destination is the slot of an
+-- operand.
 abbrev pub computed : List Bool → BinaryOperator → (destination : ℕ) → (left right : Operand) → Option Fact
 computed pinned operator destination left right =
     if is_slot left destination || is_slot right destination then None else suited pinned (facts_are.Computed destination operator left right)
 
--- The fact that holds after the instruction at `index` if control continues at `next`, whatever held before.
+-- Returns the fact that is true after the instruction at `index` if control continues at `next`, whatever
+-- was true before.
 abbrev pub made : List Bool → Instruction → (index next : ℕ) → Option Fact
 made pinned (instructions.Move destination source) index next = moved pinned destination source
 made pinned (instructions.Binary operator destination left right) index next = computed pinned operator destination left right
@@ -310,7 +323,7 @@ made pinned (instructions.Load destination address offset) index next = loaded p
 made pinned (instructions.Store address offset source) index next = held pinned address offset source
 made pinned instruction index next = None
 
--- An operator whose result is a truth value: 1 or 0.
+-- Returns true if an operator's result is a truth value, 1 or 0.
 abbrev pub is_test : BinaryOperator → Bool
 is_test binary.Equal = true
 is_test binary.NotEqual = true
@@ -324,34 +337,37 @@ abbrev pub is_not : UnaryOperator → Bool
 is_not unary.Not = true
 is_not operator = false
 
--- The slot holds a truth value.
+-- Returns the fact that a slot contains a truth value, 1 or 0.
 abbrev pub truth_in : (slot : ℕ) → Fact
 truth_in slot = facts_are.Holds comparisons.LessUnsigned (operands.Slot slot) (operands.Word 2)
 
 abbrev pub truth_of : List Bool → BinaryOperator → (destination : ℕ) → Option Fact
 truth_of pinned operator destination = if is_test operator then suited pinned (truth_in destination) else None
 
--- The fact that a test leaves a truth value, even if its destination is one of its operands.
+-- Returns the fact that a test's result is a truth value, which is true even if the test's
+-- destination is one of its operands.
 abbrev pub tested : List Bool → Instruction → Option Fact
 tested pinned (instructions.Unary operator destination operand) = if is_not operator then suited pinned (truth_in destination) else None
 tested pinned (instructions.Binary operator destination left right) = truth_of pinned operator destination
 tested pinned instruction = None
 
--- Adds a fact; if the list is full, the oldest fact is dropped.
+-- Returns the facts with one more fact. If the list is full, the oldest fact is dropped.
 abbrev pub remembered : List Fact → Option Fact → List Fact
 remembered facts (Some fact) = (if nat_lt (length facts) MOST_FACTS then facts else drop 1 facts) ++ fact ∷ []
 remembered facts None = facts
 
--- Two ranges of `count` slots are disjoint.
+-- Returns true if two ranges of `count` slots are disjoint.
 abbrev pub lie_apart : (first other count : ℕ) → Bool
 lie_apart first other count = nat_le (first + count) other || nat_le (other + count) first
 
--- The moved words are copies: source and destination are free slots, and no source is overwritten.
+-- Returns true if moved words stay equal to their sources: the addresses of source and destination
+-- slots are not taken, and no source is overwritten.
 abbrev pub are_copied : List Bool → (destination source count : ℕ) → Bool
 are_copied pinned destination source count =
     lie_apart destination source count && (are_free pinned destination count && are_free pinned source count)
 
--- One of the words that an instruction copies equals its source, if the instruction copies that many.
+-- Returns the fact that the word copied at `index` of a move equals its source, if the move copies
+-- that many words.
 abbrev pub copied : List Bool → Instruction → (index : ℕ) → Option Fact
 copied pinned (instructions.MoveWords destination source count) index =
     if nat_lt index count && are_copied pinned destination source count
@@ -359,12 +375,13 @@ copied pinned (instructions.MoveWords destination source count) index =
     else None
 copied pinned instruction index = None
 
--- Adds the facts about copied words: at most three, the size of a pointer with its bounds.
+-- Returns the facts with those about copied words: at most three, the words of a pointer with its
+-- bounds.
 abbrev pub with_copies : List Bool → Instruction → List Fact → List Fact
 with_copies pinned i facts = remembered (remembered (remembered facts (copied pinned i 0)) (copied pinned i 1)) (copied pinned i 2)
 
--- The facts that an instruction makes are true: copied words equal their sources, a test leaves a truth value, and the fact of any other
--- instruction holds.
+-- `IsMade` says that the facts that an instruction establishes are true: copied words equal their sources, a test computes a truth
+-- value, and the fact of any other instruction is true.
 abbrev pub IsMade : Scene → List Bool → Instruction → (index next : ℕ) → Type 0
 IsMade scene pinned (instructions.MoveWords destination source count) index next =
     are_copied pinned destination source count ≡ true → (k : ℕ) → k < count → scene.slots (destination + k) ≡ scene.slots (source + k)
@@ -374,7 +391,7 @@ IsMade scene pinned (instructions.Binary operator destination left right) index 
     × IsTrueIfAny scene (made pinned (instructions.Binary operator destination left right) index next)
 IsMade scene pinned instruction index next = IsTrueIfAny scene (made pinned instruction index next)
 
--- The facts known after an operator.
+-- Returns the facts known after an operator.
 abbrev pub facts_after_operator : List Bool → List Fact → BinaryOperator → (destination : ℕ) → (left right : Operand) → List Fact
 facts_after_operator pinned facts operator destination left right =
     remembered
@@ -382,7 +399,7 @@ facts_after_operator pinned facts operator destination left right =
     (truth_of pinned operator destination))
     (computed pinned operator destination left right)
 
--- The facts known after an instruction.
+-- Returns the facts known after an instruction.
 abbrev pub facts_after : Program → List Bool → List Fact → Instruction → (index next : ℕ) → List Fact
 facts_after program pinned facts i index next =
     remembered (remembered (with_copies pinned i (kept (written program i) (touched pinned i) facts)) (tested pinned i)) (made pinned i index next)

@@ -1,4 +1,4 @@
--- The replacement of an instruction under known facts: an instruction with exactly the effect of the original if the facts are true.
+-- The replacement of an instruction under known facts has exactly the effect of the original, if the facts are true.
 use Rattle.std.specs.Prelude.{ℕ, ◌+◌, Bool, true, false, nat_lt, bit_and, bit_or, bit_xor, ◌&&◌, ◌||◌, not, if◌then◌else◌, List, [], ◌∷◌, Option, Some, None, unwrap_or}
 use Rattle.cyc_words.specs.Word.{add_of, sub_of, mul_of, shl_of, sar_of}
 use Rattle.cyc_plain.specs.declared.instruction.Instruction.{Instruction}
@@ -20,12 +20,12 @@ use Rattle.cyc_propagation.specs.inside.Facts.{is_same_operator, is_same_word, i
 
 -- ---- operands
 
--- An operand that costs no more than a slot.
+-- Returns true if reading an operand costs no more instructions than reading a slot.
 abbrev pub is_cheap : Operand → Bool
 is_cheap (operands.Slot number) = true
 is_cheap (operands.Word word) = false
 
--- The operand that a fact offers in place of another.
+-- Returns the operand that a fact offers as a replacement of an operand, if it offers one.
 abbrev pub instead : Fact → Operand → Option Operand
 instead (facts_are.Equal slot other) operand = if is_slot operand slot && is_cheap other then Some other else None
 instead fact operand = None
@@ -44,7 +44,7 @@ abbrev pub own_word : Operand → Option ℕ
 own_word (operands.Slot number) = None
 own_word (operands.Word word) = Some word
 
--- The word that an operand denotes, by one fact, or by the first fact that gives one.
+-- Returns the word that an operand denotes, if this fact states it.
 abbrev pub word_by : Fact → Operand → Option ℕ
 word_by (facts_are.Equal slot (operands.Word word)) operand = if is_slot operand slot then Some word else None
 word_by fact operand = None
@@ -53,7 +53,7 @@ abbrev pub word_in : List Fact → Operand → Option ℕ
 word_in [] operand = own_word operand
 word_in (fact ∷ facts) operand = or_number (word_by fact operand) (word_in facts operand)
 
--- A small word costs no instruction as the second operand of this operator.
+-- Returns true if a small word as the second operand of this operator costs no instruction.
 abbrev pub takes_word : BinaryOperator → Bool
 takes_word binary.And = true
 takes_word binary.Or = true
@@ -66,11 +66,11 @@ abbrev pub small_or : Option ℕ → Operand → Operand
 small_or (Some word) operand = if nat_lt word 32768 then operands.Word word else operand
 small_or None operand = operand
 
--- An operand equal to an operator's second operand that costs no more instructions.
+-- Returns an operand that equals an operator's second operand and costs no more instructions.
 abbrev pub right_operand : List Fact → BinaryOperator → Operand → Operand
 right_operand facts operator operand = if takes_word operator then small_or (word_in facts operand) operand else operand
 
--- The result of an operator on two words.
+-- Returns the result of an operator on two words, or `None` if it has none.
 abbrev pub folded : BinaryOperator → (left right : ℕ) → Option ℕ
 folded binary.Add left right = Some (add_of left right)
 folded binary.Subtract left right = Some (sub_of left right)
@@ -86,7 +86,8 @@ abbrev pub folded_of : BinaryOperator → (left right : Option ℕ) → Option �
 folded_of operator (Some left) (Some right) = folded operator left right
 folded_of operator left right = None
 
--- The result of an operator on two operands whose words are known. If no fact is known, no operator is folded.
+-- Returns the result of an operator on two operands whose words are known. If the list of facts is empty, no
+-- operator is folded.
 abbrev pub folded_in : List Fact → BinaryOperator → (left right : Operand) → Option ℕ
 folded_in [] operator left right = None
 folded_in (fact ∷ facts) operator left right = folded_of operator (word_in (fact ∷ facts) left) (word_in (fact ∷ facts) right)
@@ -95,7 +96,7 @@ abbrev pub negated_of : UnaryOperator → Option ℕ → Option ℕ
 negated_of operator (Some word) = Some (unary_result operator word)
 negated_of operator None = None
 
--- The result of an operator on one operand whose word is known.
+-- Returns the result of an operator on one operand whose word is known.
 abbrev pub folded_unary : List Fact → UnaryOperator → Operand → Option ℕ
 folded_unary [] operator operand = None
 folded_unary (fact ∷ facts) operator operand = negated_of operator (word_in (fact ∷ facts) operand)
@@ -104,8 +105,8 @@ abbrev pub simplified_unary : Option ℕ → UnaryOperator → (destination : �
 simplified_unary (Some word) operator destination operand = instructions.Move destination (operands.Word word)
 simplified_unary None operator destination operand = instructions.Unary operator destination operand
 
--- True if the replacement loses no knowledge of the result: both operands are constants, or a fact replaces an operand. In all other cases
--- the operator stays, so that a value that a loop recomputes from the same slots is known at the loop header.
+-- Returns true if folding loses no knowledge of the result: both operands are constants, or a fact replaces an operand. In all other cases
+-- the operator is kept, so that a value that a loop recomputes from the same slots is known at the loop header.
 abbrev pub may_fold : (destination : ℕ) → (left right : Operand) → Bool
 may_fold destination left right = not (is_cheap left) || (is_slot left destination || is_slot right destination)
 
@@ -115,7 +116,8 @@ folded_at facts operator destination left right =
 
 -- ---- known results
 
--- A truth value is compared with 0 by `!=`: the result is the truth value.
+-- Returns true if an operator compares a truth value with 0 by `!=`, so that its result is the
+-- truth value.
 abbrev pub is_truth_test : Comparison → (bound : Operand) → BinaryOperator → (right : Operand) → Bool
 is_truth_test comparison bound operator right =
     is_same_comparison comparison comparisons.LessUnsigned
@@ -125,7 +127,7 @@ abbrev pub own_slot : Operand → Option ℕ
 own_slot (operands.Slot number) = Some number
 own_slot (operands.Word word) = None
 
--- The slot that holds a result already, by one fact, or by the first fact that gives one.
+-- Returns the slot that already contains a result, if this fact states one.
 abbrev pub holder : Fact → BinaryOperator → (left right : Operand) → Option ℕ
 holder (facts_are.Computed slot other left_2 right_2) operator left right =
     if is_same_operator other operator && (is_same_operand left_2 left && is_same_operand right_2 right) then Some slot else None
@@ -156,9 +158,7 @@ abbrev pub simplified_move : (is_there : Bool) → (destination : ℕ) → Opera
 simplified_move true destination source = instructions.Move destination (operands.Slot destination)
 simplified_move false destination source = instructions.Move destination source
 
--- The first comparison implies the second, for all words.
-
--- The outcome of the asked comparison, if the known one decides it.
+-- Returns true if the comparison `known` implies the comparison `asked`, for all words.
 abbrev pub implies : (known asked : Comparison) → Bool
 implies comparisons.Equal comparisons.LessOrEqual = true
 implies comparisons.Equal comparisons.GreaterOrEqual = true
@@ -170,7 +170,7 @@ implies comparisons.Greater comparisons.GreaterOrEqual = true
 implies comparisons.LessUnsigned comparisons.NotEqual = true
 implies known asked = is_same_comparison known asked
 
--- The replacement of a branch that is never taken: a move from a slot to that slot, which has no effect and a smaller size.
+-- Returns the outcome of the comparison `asked`, if the comparison `known` decides it.
 abbrev pub verdict : (known asked : Comparison) → Option Bool
 verdict known asked = if implies known asked then Some true else if implies known (negated asked) then Some false else None
 
@@ -187,7 +187,8 @@ abbrev pub decision_in : List Fact → Comparison → (left right : Operand) →
 decision_in [] comparison left right = None
 decision_in (fact ∷ facts) comparison left right = or_verdict (decision fact comparison left right) (decision_in facts comparison left right)
 
--- The replacement of a branch that is never taken: a move from a slot to that slot, which also has no effect and a smaller size.
+-- Returns the replacement of a branch that is never taken: a move from a slot to the same slot, which also has no effect and has
+-- a smaller size.
 abbrev pub passed_by : (left right : Operand) → (target : ℕ) → Instruction
 passed_by (operands.Slot number) right target = instructions.Move number (operands.Slot number)
 passed_by (operands.Word word) (operands.Slot number) target = instructions.Move number (operands.Slot number)
@@ -201,7 +202,7 @@ simplified_branch None comparison left right target = instructions.Branch compar
 
 -- ---- loads
 
--- The word that memory has at this address, by one fact, or by the first fact that gives one.
+-- Returns the word that memory has at this address, if this fact states it.
 abbrev pub value_by : Fact → (address : Operand) → (offset : ℕ) → Option Operand
 value_by (facts_are.Held other other_offset value) address offset = if is_same_word other other_offset address offset then Some value else None
 value_by fact address offset = None
@@ -218,7 +219,7 @@ abbrev pub simplified_load : Option Operand → (destination : ℕ) → (address
 simplified_load (Some value) destination address offset = instructions.Move destination value
 simplified_load None destination address offset = instructions.Load destination address offset
 
--- The word that a global is known to hold.
+-- Returns the word that a global is known to contain, if facts state one.
 abbrev pub global_value : List Fact → (offset : Option ℕ) → Option Operand
 global_value facts (Some offset) = value_in facts first_global offset
 global_value facts None = None
@@ -254,7 +255,7 @@ simplified_otherwise facts (instructions.Throw tag value) =
 simplified_otherwise facts (instructions.Uncaught tag value) = instructions.Uncaught tag (simplified_operand facts value)
 simplified_otherwise facts instruction = instruction
 
--- The replacement of an instruction: the most frequent kinds first, then the others.
+-- Returns the replacement of an instruction. The most frequent kinds of instructions come first.
 abbrev pub simplified_instruction : List Fact → Instruction → Instruction
 simplified_instruction facts (instructions.Move destination source) =
     simplified_move (is_known facts (facts_are.Equal destination (simplified_operand facts source))) destination (simplified_operand facts source)
@@ -271,7 +272,8 @@ simplified_instruction facts instruction = simplified_otherwise facts instructio
 
 -- ---- unreachable places
 
--- An unreachable instruction may be dropped unless it takes the address of slots, so that the pinned slots are unchanged.
+-- Returns true if an instruction may be dropped when it is unreachable. An instruction that takes the address of slots is
+-- kept, so that the set of these slots is unchanged.
 abbrev pub may_vanish : Instruction → Bool
 may_vanish (instructions.AddressOf destination slot count) = false
 may_vanish i = true
@@ -279,11 +281,11 @@ may_vanish i = true
 abbrev pub vanishes : List Fact → Instruction → Bool
 vanishes facts i = is_unreached facts && may_vanish i
 
--- The place after `index`, or the last place if `index` is the last one, so that the code does not run off its end.
+-- Returns the position after `index`, or `index` if it is the last one, so that control never leaves the code.
 abbrev pub place_after : (index count : ℕ) → ℕ
 place_after index count = if nat_lt (index + 1) count then index + 1 else index
 
--- The replacement of the instruction at place `index` of `count`. At an unreachable place it is a jump to the next place, which needs no
--- machine code except at the last place.
+-- Returns the replacement of the instruction at position `index` of `count`. An unreachable instruction becomes a jump to the next
+-- position, which needs no machine code except at the last position.
 abbrev pub put_at : List Fact → (index count : ℕ) → Instruction → Instruction
 put_at facts index count i = if vanishes facts i then instructions.Jump (place_after index count) else simplified_instruction facts i

@@ -1,6 +1,6 @@
--- Stack room for calls. An `Enter` is dropped if an earlier call of the same activation already had the stack room that it checks. The room
--- depends on the address of the caller's slots and on the number of active calls. The address of the caller's slots and the number of
--- active calls do not change until the call ends, so facts about room are never forgotten.
+-- Stack space for calls. An `Enter` is dropped if an earlier call of the same activation already had the stack space that the `Enter`
+-- checks. The available stack space depends on the address of the caller's slots and on the number of active calls. The address of the
+-- caller's slots and the number of active calls do not change until the call ends, so facts about stack space are never forgotten.
 use Rattle.std.specs.Prelude.{◌≡◌, ℕ, zero, suc, ◌+◌, ◌*◌, ◌<◌, ◌≤◌, Bool, true, ◌&&◌, nat_le, nat_lt, if◌then◌else◌, List, length, Some, slice_get, slice_index_or}
 use Rattle.cyc_plain.specs.declared.instruction.Instruction.{Instruction}
 use Rattle.cyc_plain.specs.declared.instruction.Instruction.TheVariants as instructions
@@ -12,17 +12,18 @@ use Rattle.cyc_propagation.specs.inside.Table.{IsReplaced}
 
 -- ---- stack room
 
--- The number of slots of each function.
+-- Returns the number of slots of a function.
 abbrev pub slots_in : Program → ℕ → ℕ
 slots_in program function = (routine_at program function).slots
 
--- Room is a number: 0 if none is known, else one more than the slots of a callee. A call with these slots fits above `base` with `depth`
--- active calls, of at most `calls`.
+-- Known stack space is a number: 0 if nothing is known, otherwise one more than the slots of a callee. `HasRoom` says that a call with
+-- these slots fits above `base` when `depth` of at most `calls` calls are active.
 abbrev pub HasRoom : (calls : ℕ) → (room base depth : ℕ) → Type 0
 HasRoom calls zero base depth = Unit {0}
 HasRoom calls (suc slots) base depth = (slots_base + 4 * slots ≤ base) × (depth < calls)
 
--- The room that an instruction has proved when control continues after it.
+-- Returns the stack space that an instruction has proved to be available when control continues
+-- after it.
 abbrev pub room_of : (slots : ℕ → ℕ) → Instruction → ℕ
 room_of slots (instructions.Call function arguments count result) = suc (slots function)
 room_of slots (instructions.Enter function) = suc (slots function)
@@ -31,13 +32,14 @@ room_of slots i = 0
 abbrev pub greater : (one other : ℕ) → ℕ
 greater one other = if nat_lt one other then other else one
 
--- The room known after an instruction.
+-- Returns the stack space known to be available after an instruction.
 abbrev pub room_following : (slots : ℕ → ℕ) → (room : ℕ) → Instruction → ℕ
 room_following slots room i = greater room (room_of slots i)
 
 -- ---- tables
 
--- The room known at each place of code, none at the entry. The room at a place is at most the room known on every edge to the place.
+-- `IsRoomTable` describes the stack space known at each position of the code: none at the entry, and at each other position at most
+-- the space known on every edge to it.
 pub record IsRoomTable (slots : ℕ → ℕ) (code : List Instruction) (rooms : ℕ → ℕ) : Type 0 where
   pub first : rooms 0 ≡ 0
   pub edges : (index next : ℕ) (i : Instruction) → slice_get code index ≡ Some i → leads i index next ≡ true
@@ -45,15 +47,15 @@ pub record IsRoomTable (slots : ℕ → ℕ) (code : List Instruction) (rooms : 
 
 -- ---- the check
 
--- The room recorded for a place; none if nothing is recorded.
+-- Returns the stack space recorded for a code position, or 0 if nothing is recorded.
 abbrev pub room_at : List ℕ → (place : ℕ) → ℕ
 room_at rooms place = slice_index_or rooms place 0
 
--- A place requires no more than this room.
+-- Returns true if a code position requires no more than this stack space.
 abbrev pub is_enough : List ℕ → (room place : ℕ) → Bool
 is_enough rooms room place = nat_le (room_at rooms place) room
 
--- Each successor of an instruction requires at most this much stack room.
+-- Returns true if each successor of an instruction requires at most this much stack space.
 abbrev pub leads_to_enough : List ℕ → (room : ℕ) → Instruction → (index : ℕ) → Bool
 leads_to_enough rooms room (instructions.Jump target) index = is_enough rooms room target
 leads_to_enough rooms room (instructions.Branch comparison left right target) index =
@@ -67,7 +69,7 @@ leads_to_enough rooms room i index = is_enough rooms room (index + 1)
 
 -- ---- dropped checks
 
--- A jump to the next place.
+-- Returns a jump to the next position, which has no effect.
 abbrev pub nothing_at : (index : ℕ) → Instruction
 nothing_at index = instructions.Jump (index + 1)
 
@@ -76,7 +78,8 @@ spared_instruction slots room index (instructions.Enter function) =
     if nat_lt room (suc (slots function)) then instructions.Enter function else nothing_at index
 spared_instruction slots room index i = i
 
--- The code in which each redundant `Enter` is replaced by a jump to the next place.
+-- `IsSparedCode` says that each redundant `Enter` of the code is replaced by a jump to the next
+-- position.
 pub record IsSparedCode (slots : ℕ → ℕ) (code spared : List Instruction) : Type 0 where
   pub as_many : length spared ≡ length code
   pub rooms : ℕ → ℕ
@@ -84,7 +87,8 @@ pub record IsSparedCode (slots : ℕ → ℕ) (code spared : List Instruction) :
   pub each : (index : ℕ) (i : Instruction) → slice_get code index ≡ Some i
       → slice_get spared index ≡ Some (spared_instruction slots (rooms index) index i)
 
--- The first `count` instructions are checked, and redundant checks among them are dropped.
+-- `AreSparedFirst` says that the first `count` instructions are checked, and that the redundant
+-- checks for stack space among them are dropped.
 pub record AreSparedFirst (slots : ℕ → ℕ) (code : List Instruction) (rooms : List ℕ) (count : ℕ) (spared : List Instruction) : Type 0 where
   pub as_many : length spared ≡ count
   pub each : (index : ℕ) (i : Instruction) → slice_get code index ≡ Some i → index < count
@@ -98,7 +102,8 @@ pub record IsSpared (slots : ℕ → ℕ) (r s : Routine) : Type 0 where
   pub same : s ≡ with_code r s.code
   pub code : IsSparedCode slots r.code s.code
 
--- Corresponding functions, in order.
+-- `AreSpared` relates the functions of two programs in order: redundant checks for stack space are
+-- dropped in each.
 pub record AreSpared (program spared : Program) : Type 0 where
   pub as_many : length spared.functions ≡ length program.functions
   pub each : (k : ℕ) → k < length program.functions → IsSpared (slots_in program) (routine_at program k) (routine_at spared k)
@@ -107,15 +112,16 @@ pub record AreSpared (program spared : Program) : Type 0 where
 
 -- ---- simplified functions
 
--- The first `count` functions of a program, simplified, then with redundant room checks dropped. The given program supplies the numbers of
--- slots.
+-- `AreMadeFirst` says that the first `count` functions of a program were simplified, and their redundant checks for stack space then
+-- dropped. The original program determines the numbers of slots.
 pub record AreMadeFirst (program : Program) (count : ℕ) (routines : List Routine) : Type 0 where
   pub between : List Routine
   pub replaced : AreFirstReplaced program count between
   pub as_many : length routines ≡ count
   pub spared : (k : ℕ) → k < count → IsSpared (slots_in program) (slice_index_or between k no_routine) (slice_index_or routines k no_routine)
 
--- A function, simplified, then with redundant room checks dropped.
+-- `IsMadeFunction` says that a function was simplified, and its redundant checks for stack space
+-- then dropped.
 pub record IsMadeFunction (program : Program) (r s : Routine) : Type 0 where
   pub between : Routine
   pub replaced : IsReplaced program r between

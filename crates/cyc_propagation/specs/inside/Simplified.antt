@@ -1,4 +1,4 @@
--- The promise of value propagation: the new program behaves as the given one.
+-- The contract of value propagation: the new program behaves as the original one.
 use Rattle.std.specs.Prelude.{◌≡◌, ℕ, ◌<◌, ◌≤◌, List, [], ◌∷◌, length}
 use Rattle.cyc_words.specs.Simulation.{NeverFails}
 use Rattle.cyc_words.specs.inside.Following.{Follows}
@@ -7,7 +7,8 @@ use Rattle.cyc_plain.specs.inside.Program.{Routine, Program, routine_at, size}
 use Rattle.cyc_plain.specs.inside.Step.{machine, start}
 use Rattle.cyc_plain.specs.inside.WellFormed.{IsPlain}
 
--- A function with the slots, frame and number of instructions of the given one, and with code that is not larger.
+-- `IsLike` says that a function has the slots, frame and number of instructions of the original one, and that its
+-- code is not larger.
 pub record IsLike (r s : Routine) : Type 0 where
   pub name : s.name ≡ r.name
   pub parameters : s.parameters ≡ r.parameters
@@ -17,8 +18,8 @@ pub record IsLike (r s : Routine) : Type 0 where
   pub as_many : length s.code ≡ length r.code
   pub small : size s ≤ size r
 
--- A program with the functions, globals and `main` of the given one, in simplified form. If no run of the given program fails, each run of
--- the new one is a run of the given one, step by step.
+-- `IsSimplified` says that a program has the functions, globals and `main` of the original one, in simplified form. If no run of the
+-- original program fails, each run of the new program is a run of the original one, step by step.
 pub record IsSimplified (program simplified : Program) : Type 0 where
   pub plain : IsPlain simplified
   pub as_many : length simplified.functions ≡ length program.functions

@@ -1,5 +1,5 @@
--- Tables of the facts known at each place of a function, and the check of a table, instruction by instruction. The entries are untrusted:
--- if the check succeeds everywhere, the table is true in each run.
+-- Tables of the facts known at each position of a function's code, and the check of a table, instruction by instruction. The entries are
+-- untrusted: if the check succeeds for each instruction, the table is true in each run.
 use Rattle.std.specs.Prelude.{◌≡◌, ℕ, zero, suc, ◌+◌, ◌<◌, ◌≤◌, Bool, true, false, ◌&&◌, ◌||◌, nat_lt, if◌then◌else◌, List, [], ◌∷◌, length, Option, Some, None, slice_get}
 use Rattle.cyc_plain.specs.declared.instruction.Instruction.{Instruction}
 use Rattle.cyc_plain.specs.declared.instruction.Instruction.TheVariants as instructions
@@ -14,12 +14,13 @@ use Rattle.cyc_propagation.specs.inside.Replacement.{simplified_operand, word_in
 
 -- ---- tables
 
--- The slots of a function whose address is taken.
+-- `ArePins` says that `pinned` is true for each slot of a function whose address is taken.
 pub record ArePins (r : Routine) (pinned : List Bool) : Type 0 where
   pub as_many : length pinned ≡ r.slots
   pub right : (slot : ℕ) → is_free pinned slot ≡ true → is_pinned r.code slot ≡ false
 
--- Facts for each place of a function. Nothing is known at the entry, nor at a handler, which exceptions can reach.
+-- `IsTable` describes the facts at each position of a function. Nothing is known at the entry, nor at a handler,
+-- which exceptions can reach.
 pub record IsTable (program : Program) (r : Routine) (pinned : List Bool) (table : ℕ → List Fact) : Type 0 where
   pub first : table 0 ≡ []
   pub tries : (index first handler : ℕ) → At r index (instructions.Try first handler) → table index ≡ []
@@ -27,7 +28,8 @@ pub record IsTable (program : Program) (r : Routine) (pinned : List Bool) (table
   pub edges : (index next : ℕ) (i : Instruction) → At r index i → leads i index next ≡ true
       → (scene : Scene) → AreTrueIn scene (kept (written program i) (touched pinned i) (table index)) → IsMade scene pinned i index next → AreTrueIn scene (table next)
 
--- The second function is the first with each instruction replaced by the facts known at its place.
+-- `IsReplaced` says that each instruction of the second function is the replacement of that of the
+-- first one, under the facts known at its position.
 pub record IsReplaced (program : Program) (r s : Routine) : Type 0 where
   pub name : s.name ≡ r.name
   pub parameters : s.parameters ≡ r.parameters
@@ -42,7 +44,8 @@ pub record IsReplaced (program : Program) (r s : Routine) : Type 0 where
   pub is_table : IsTable program s pinned table
   pub each : (index : ℕ) (i : Instruction) → At r index i → At s index (put_at (table index) index (length r.code) i)
 
--- Corresponding functions, in order.
+-- `AreReplaced` relates the functions of two programs in order: each is replaced under the facts
+-- known at its positions.
 pub record AreReplaced (program simplified : Program) : Type 0 where
   pub as_many : length simplified.functions ≡ length program.functions
   pub each : (k : ℕ) → k < length program.functions → IsReplaced program (routine_at program k) (routine_at simplified k)
@@ -51,7 +54,7 @@ pub record AreReplaced (program simplified : Program) : Type 0 where
 
 -- ---- a table given by its entries at jump targets
 
--- Control continues at the next place.
+-- Returns true if control may continue at the next instruction.
 abbrev pub goes_on : Instruction → Bool
 goes_on (instructions.Jump target) = false
 goes_on (instructions.Return value) = false
@@ -60,11 +63,12 @@ goes_on (instructions.Finish value) = false
 goes_on (instructions.Uncaught tag value) = false
 goes_on i = true
 
--- The facts known at the next place, if no jump leads there.
+-- Returns the facts known at the next position, if no jump goes there.
 abbrev pub after_put : Program → List Bool → List Fact → Instruction → (index : ℕ) → List Fact
 after_put program pinned facts i index = if goes_on i then facts_after program pinned facts i index (index + 1) else never ∷ []
 
--- The facts at a place: the entry if it is a jump target, else those known after the previous instruction.
+-- Returns the facts at a position: those of its entry if it is a jump target, otherwise those known after
+-- the previous instruction.
 abbrev pub entered_or : Option (List Fact) → List Fact → List Fact
 entered_or (Some facts) others = facts
 entered_or None others = others
@@ -81,7 +85,7 @@ facts_at program pinned entry code (suc index) =
 
 -- ---- the check
 
--- The fact equals the optional extra fact.
+-- Returns true if a fact equals the extra fact, if there is one.
 abbrev pub is_more : Option Fact → Fact → Bool
 is_more (Some other) fact = is_same_fact other fact
 is_more None fact = false
@@ -89,7 +93,7 @@ is_more None fact = false
 abbrev pub is_known_with : List Fact → Option Fact → Fact → Bool
 is_known_with facts more fact = is_known facts fact || is_more more fact
 
--- A comparison whose operands are replaced by operands known to be equal.
+-- Returns a comparison whose operands are replaced by operands known to be equal.
 abbrev pub resolved_fact : List Fact → Fact → Fact
 resolved_fact facts (facts_are.Holds comparison left right) =
     facts_are.Holds comparison (simplified_operand facts left) (simplified_operand facts right)
@@ -99,7 +103,7 @@ abbrev pub are_below : (left right : Option ℕ) → Bool
 are_below (Some left) (Some right) = nat_lt left right
 are_below left right = false
 
--- The fact is a comparison that holds for two known words.
+-- Returns true if a fact is a comparison `<` of two known words that holds.
 abbrev pub is_below : List Fact → Fact → Bool
 is_below facts (facts_are.Holds comparison left right) =
     is_same_comparison comparison comparisons.LessUnsigned && are_below (word_in facts left) (word_in facts right)
@@ -113,12 +117,12 @@ abbrev pub are_known : (asked facts : List Fact) → Option Fact → Bool
 are_known [] facts more = true
 are_known (fact ∷ asked) facts more = follows facts more fact && are_known asked facts more
 
--- The facts that a jump target requires are known, or are the extra fact.
+-- Returns true if each fact that a jump target requires is known or is the extra fact.
 abbrev pub may_jump : Option (List Fact) → (facts : List Fact) → Option Fact → Bool
 may_jump (Some asked) facts more = are_known asked facts more
 may_jump None facts more = false
 
--- The facts that the next place requires, if it is a jump target, are known.
+-- Returns true if the facts that the next position requires, if it is a jump target, are known.
 abbrev pub may_go_on : Option (List Fact) → (facts : List Fact) → Option Fact → Bool
 may_go_on (Some asked) facts more = are_known asked facts more
 may_go_on None facts more = true
@@ -131,8 +135,8 @@ abbrev pub is_empty : List Fact → Bool
 is_empty [] = true
 is_empty (fact ∷ facts) = false
 
--- Each successor of the simplified instruction requires only facts known there. A jump and a branch write nothing. An unreachable jump has
--- no successor.
+-- Returns true if each successor of the simplified instruction requires only facts known there. A jump and a branch write nothing. An
+-- unreachable jump has no successor.
 abbrev pub leads_well : Program → List Bool → (entry : ℕ → Option (List Fact)) → List Fact → Instruction → (index : ℕ) → Bool
 leads_well program pinned entry facts (instructions.Jump target) index = is_unreached facts || may_jump (entry target) facts None
 leads_well program pinned entry facts (instructions.Branch comparison left right target) index =
@@ -151,7 +155,7 @@ abbrev pub is_checked_at : Program → List Bool → (entry : ℕ → Option (Li
 is_checked_at program pinned entry facts i index =
     is_entry_suited pinned (entry (index + 1)) && leads_well program pinned entry facts i index
 
--- The check succeeds for each instruction of a function.
+-- `IsChecked` says that the check succeeds for each instruction of a function.
 abbrev pub IsChecked : Program → Routine → List Bool → (entry : ℕ → Option (List Fact)) → Type 0
 IsChecked program r pinned entry = (index : ℕ) (i : Instruction) → At r index i
     → is_checked_at program pinned entry (facts_at program pinned entry r.code index)

@@ -1,5 +1,5 @@
--- The tail of code: the places after the last one that a jump or a fall-through from before can reach. No instruction in the tail of code
--- is reachable.
+-- The tail of code consists of the positions after the last one that a jump or a fall-through can reach. No instruction in the tail is
+-- reachable.
 use Rattle.std.specs.Prelude.{◌≡◌, ℕ, ◌+◌, ◌<◌, ◌≤◌, true, ◌&&◌, nat_lt, if◌then◌else◌, List, length, Option, Some, None, slice_get}
 use Rattle.cyc_plain.specs.declared.instruction.Instruction.{Instruction}
 use Rattle.cyc_plain.specs.declared.instruction.Instruction.TheVariants as instructions
@@ -8,7 +8,7 @@ use Rattle.cyc_propagation.specs.inside.Replacement.{may_vanish, place_after}
 use Rattle.cyc_propagation.specs.inside.Room.{greater}
 use Rattle.cyc_propagation.specs.inside.Table.{goes_on}
 
--- The jump target of an instruction, if it has one.
+-- Returns the jump target of an instruction, if it has one.
 abbrev pub target_of : Instruction → Option ℕ
 target_of (instructions.Jump target) = Some target
 target_of (instructions.Branch comparison left right target) = Some target
@@ -19,30 +19,33 @@ abbrev pub greater_if_any : (one : ℕ) → Option ℕ → ℕ
 greater_if_any one (Some other) = greater one other
 greater_if_any one None = one
 
--- The last place reached so far, including by this instruction.
+-- Returns the last position reached by the instructions visited so far, including this one.
 abbrev pub last_after : (last : ℕ) → Instruction → (index : ℕ) → ℕ
 last_after last i index = greater_if_any (if goes_on i then greater last (index + 1) else last) (target_of i)
 
--- None of the first `count` instructions jumps or falls through to a place after `last`.
+-- `IsLastOf` says that none of the first `count` instructions jumps or falls through to a position
+-- after `last`.
 abbrev pub IsLastOf : List Instruction → (count last : ℕ) → Type 0
 IsLastOf code count last = (index next : ℕ) (i : Instruction) → slice_get code index ≡ Some i → index < count → leads i index next ≡ true → next ≤ last
 
--- No instruction up to `last` leads to a place after it.
+-- `IsLast` says that no instruction up to the position `last` jumps or falls through past it.
 abbrev pub IsLast : List Instruction → (last : ℕ) → Type 0
 IsLast code last = IsLastOf code (last + 1) last
 
--- The replacement of an instruction at place `index` of `count`: after `last`, a jump to the next place.
+-- Returns the replacement of the instruction at position `index` of `count`: after `last`, a jump to the
+-- next position.
 abbrev pub tailless_instruction : (last index count : ℕ) → Instruction → Instruction
 tailless_instruction last index count i =
     if nat_lt last index && may_vanish i then instructions.Jump (place_after index count) else i
 
--- The first `count` instructions of code, with the tail after `last` emptied.
+-- `AreTailless` describes the first `count` instructions of code, in which those after `last` are
+-- replaced by jumps.
 pub record AreTailless (code : List Instruction) (last count : ℕ) (made : List Instruction) : Type 0 where
   pub as_many : length made ≡ count
   pub each : (index : ℕ) (i : Instruction) → slice_get code index ≡ Some i → index < count
       → slice_get made index ≡ Some (tailless_instruction last index (length code) i)
 
--- Code with an emptied tail.
+-- `IsTailless` says that the unreachable tail of the code is replaced by jumps.
 pub record IsTailless (code made : List Instruction) : Type 0 where
   pub last : ℕ
   pub is_last : IsLast code last

@@ -1,18 +1,20 @@
--- The free pages and the chains of a pool as lists, and the effect of the pool's calls on them.
+-- The free pages and the chains of a pool as lists, and the effect of the pool's functions on these
+-- lists.
 use Rattle.std.specs.Prelude.{◌==◌, ℕ, zero, suc, Bool, true, false, if◌then◌else◌, List, [], ◌∷◌, ◌++◌, drop, replicate, slice_index_or, set}
 use Rattle.cyc_rawpages.specs.declared.change.Change.{Change}
 use Rattle.cyc_rawpages.specs.declared.change.Change.TheVariants.{Made, Taken, Pushed, Given}
 
--- The free pages in the order of their links, and for each page the chain of which it is the head.
+-- The free pages in the order of their links, and for each page the chain that begins with the
+-- page.
 pub record Lists : Type 0 where
   pub free : List ℕ
   pub chains : List (List ℕ)
 
--- The chain with this head; empty if the page is no head.
+-- The chain with the given head page; the chain is empty if the page is not a head.
 abbrev pub chain_at : List (List ℕ) → (head : ℕ) → List ℕ
 chain_at chains head = slice_index_or chains head []
 
--- The `count` numbers from `first` on.
+-- The list of the `count` numbers from `first` on.
 abbrev pub numbers_from : (first count : ℕ) → List ℕ
 numbers_from first zero = []
 numbers_from first (suc count) = first ∷ numbers_from (suc first) count
@@ -35,7 +37,7 @@ abbrev pub is_among : List ℕ → (page : ℕ) → Bool
 is_among [] page = false
 is_among (x ∷ xs) page = if page == x then true else is_among xs page
 
--- For each page whether it is free after these pages are freed too.
+-- For each page, true if the page is free after the given pages are freed.
 abbrev pub freed : (free : List Bool) → (pages : List ℕ) → List Bool
 freed free [] = free
 freed free (page ∷ pages) = set (freed free pages) page true

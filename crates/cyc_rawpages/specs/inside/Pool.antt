@@ -1,4 +1,4 @@
--- The contents of a pool, and their representation in the block.
+-- The contents of a page pool, and their representation in a block of words.
 use Rattle.std.specs.Prelude.{◌≡◌, ℕ, zero, suc, replicate, ◌+◌, ◌*◌, ◌/◌, ◌%◌, ◌^◌, ◌<◌, ◌≤◌, ◌==◌, ◌&&◌, ◌⊎◌, nat_le, nat_lt, Bool, true, false, if◌then◌else◌, List, [], ◌∷◌, length, slice_index, slice_index_or}
 use Rattle.std.specs.List.{AllByRecursion}
 use Rattle.std.specs.Int.{bit_at}
@@ -6,7 +6,8 @@ use Rattle.cyc_rawpages.specs.inside.Lists.{Lists, chain_at, numbers_from, is_am
 use Rattle.cyc_rawpages.specs.inside.Words.{Parts}
 use Rattle.cyc_rawpages.specs.declared.header.TheConstants.{PAGE_WORDS, HEADER_WORDS, HEAD_WORDS, MOST_PAGES, FILL, OWNER, LOW, HIGH, NEXT, TAIL, NONE}
 
--- The lists `words` and `bits` have 1,024 items for each page, and the other lists have one item, in the order of the page numbers.
+-- The lists `words` and `bits` have 1,024 items for each page, and the other lists have one item for each page. All lists are in
+-- the order of the page numbers.
 pub record PoolState : Type 0 where
   pub pages : ℕ
   pub words : List ℕ
@@ -14,15 +15,16 @@ pub record PoolState : Type 0 where
   pub owners : List ℕ
   pub serials : List ℕ
   pub bits : List Bool
-  -- The set of free pages: for each page whether it is free.
+  -- For each page, true if the page is free.
   pub free : List Bool
-  -- For each page the chain of which it is the head, with all of its pages in order; empty if it is no head.
+  -- For each page, the pages of the chain that begins with the page, in order. The list is empty if the page
+  -- is not the head of a chain.
   pub chains : List (List ℕ)
 
 abbrev pub IsFree : (free : List Bool) → (page : ℕ) → Type 0
 IsFree free page = slice_index_or free page false ≡ true
 
--- The page is the head of a chain.
+-- Says that a page is the head of a chain.
 abbrev pub IsHead : List (List ℕ) → (page : ℕ) → Type 0
 IsHead chains page = (rest : List ℕ) × (chain_at chains page ≡ page ∷ rest)
 
@@ -38,18 +40,18 @@ new_pool pages = record {
   chains = replicate pages [];
 }
 
--- The `count` bits from `first` on are set to `value`.
+-- The bits after `count` bits from `first` on are set to `value`.
 abbrev pub between : (old : ℕ → Bool) → (first count : ℕ) → (value : Bool) → ℕ → Bool
 between old first count value number = if nat_le first number && nat_lt number (first + count) then value else old number
 
 -- ---- the representation in the block
 
--- The list `f 0`, `f 1`, .. of length `count`.
+-- The list `f 0`, `f 1`, .. with `count` elements.
 abbrev pub tabulate : {A : Type 0} → (count : ℕ) → (ℕ → A) → List A
 tabulate zero f = []
 tabulate (suc count) f = f 0 ∷ tabulate count (λ k. f (suc k))
 
--- The index of a field of a page's header.
+-- The index, among all head words of the pool, of a field of a page's header.
 abbrev pub header_at : (page field : ℕ) → ℕ
 header_at page field = HEAD_WORDS * page + field
 
@@ -59,7 +61,8 @@ field_of raw field page = slice_index raw.heads (header_at page field)
 abbrev pub serial_of : Parts → (page : ℕ) → ℕ
 serial_of raw page = field_of raw LOW page + 2 ^ 32 * field_of raw HIGH page
 
--- The index of the word that contains a bit, after the header of its page. Bits are numbered across all pages.
+-- The index of the word that contains a bit; the words of a page's bits follow the page's header. Bits are
+-- numbered across all pages.
 abbrev pub bits_at : (number : ℕ) → ℕ
 bits_at number = header_at (number / PAGE_WORDS) (HEADER_WORDS + number % PAGE_WORDS / 32)
 
@@ -83,12 +86,13 @@ state_of pages raw l = record {
 abbrev pub put : (ℕ → ℕ) → (at value : ℕ) → ℕ → ℕ
 put f at value = λ (other : ℕ). if other == at then value else f other
 
--- Beginning with `first`, each page links to the next one, and the last links to `end`.
+-- Says that, beginning with `first`, each page of a list links to the next page, and the last page
+-- links to `end`.
 abbrev pub IsLinked : (next : ℕ → ℕ) → (first : ℕ) → List ℕ → (end : ℕ) → Type 0
 IsLinked next first [] end = first ≡ end
 IsLinked next first (x ∷ xs) end = (first ≡ x) × IsLinked next (next x) xs end
 
--- Beginning with `first`, each page links to the next one, up to `last`.
+-- Says that, beginning with `first`, each page links to the next page, up to the page `last`.
 abbrev pub Runs : (next : ℕ → ℕ) → (first : ℕ) → (rest : List ℕ) → (last : ℕ) → Type 0
 Runs next first [] last = first ≡ last
 Runs next first (x ∷ xs) last = (next first ≡ x) × Runs next x xs last
@@ -97,17 +101,20 @@ abbrev pub IsDistinct : List ℕ → Type 0
 IsDistinct [] = Unit {0}
 IsDistinct (x ∷ xs) = AllByRecursion (λ y. x ≡ y → ⊥) xs × IsDistinct xs
 
--- The page exists and has this home: the head of its chain, or none if it is free.
+-- Says that a page exists and has the given home: the head of its chain, or `NONE` if the page is
+-- free.
 abbrev pub IsIn : (pages : ℕ) → (home : ℕ → ℕ) → (where_to page : ℕ) → Type 0
 IsIn pages home where_to page = (page < pages) × (home page ≡ where_to)
 
--- A chain is empty, or begins with its head and runs by links to the tail that the head stores.
+-- Says that a chain is empty, or begins with its head and follows links to the tail that the head
+-- stores.
 abbrev pub IsChain : (pages : ℕ) → (next tail home : ℕ → ℕ) → (head : ℕ) → List ℕ → Type 0
 IsChain pages next tail home head [] = Unit {0}
 IsChain pages next tail home head (x ∷ xs) =
     (x ≡ head) × Runs next x xs (tail head) × IsDistinct (x ∷ xs) × AllByRecursion (IsIn pages home head) (x ∷ xs)
 
--- The pages are linked consistently. No page is in two lists: each has one home.
+-- Says that the pages of a pool are linked consistently. No page is in two lists, because each page
+-- has one home.
 pub record IsLinkedUp (pages : ℕ) (next tail : ℕ → ℕ) (first : ℕ) (l : Lists) : Type 0 where
   pub few : pages ≤ MOST_PAGES
   pub many : length l.chains ≡ pages
@@ -121,10 +128,10 @@ pub record IsPool (pages : ℕ) (raw : Parts) (first : ℕ) (l : Lists) : Type 0
   pub whole : length raw.heads ≡ HEAD_WORDS * pages
   pub words : length raw.words ≡ PAGE_WORDS * pages
   pub up : IsLinkedUp pages (field_of raw NEXT) (field_of raw TAIL) first l
-  -- The words of a page that is not free are initialised.
+  -- The words of each page that is not free are initialised.
   pub made : (page : ℕ) → page < pages → (is_among l.free page ≡ true) ⊎ (PAGE_WORDS * page + PAGE_WORDS ≤ raw.made)
 
--- All pages are linked to one another, and nothing else is written.
+-- Says that all pages are linked one after the other, and that no other word is written.
 pub record LinksAll (pages : ℕ) (old new : Parts) (first : ℕ) : Type 0 where
   pub whole : length new.heads ≡ HEAD_WORDS * pages
   pub words : new.words ≡ old.words

@@ -1,4 +1,4 @@
--- The contents of a block, as lists.
+-- The contents of a block of words, as lists.
 use Rattle.std.specs.Prelude.{◌≡◌, ℕ, zero, suc, ◌+◌, ◌<◌, ◌≤◌, List, [], ◌∷◌, length, get_or, set, take, drop, Option, Some, None}
 use Rattle.std.specs.declared.alloc.Global.{Global}
 use Rattle.cyc_rawpages.specs.declared.cells.Start.{Start}
@@ -6,22 +6,23 @@ use Rattle.cyc_rawpages.specs.declared.cells.Cells.{Cells}
 use Rattle.cyc_rawpages.specs.declared.cells.Lease.{Lease}
 use Rattle.cyc_rawpages.specs.inside.Ownership.{IsFilled}
 
--- The readable part of a block: its heads, its words after them, and the number of initialised words, counted from the first.
+-- The readable part of a block: its head words, the words after them, and the number of initialised words, counted from the
+-- first.
 pub record Parts : Type 0 where
   pub heads : List ℕ
   pub words : List ℕ
   pub made : ℕ
 
--- The block's contents after a head is written.
+-- The contents of a block after one of its head words is written.
 abbrev pub headed : Parts → (index word : ℕ) → Parts
 headed parts index word = record parts { heads = set parts.heads index word }
 
--- The block after one word is written to `count` heads from `first` on.
+-- The contents of a block after one word is written to `count` head words from `first` on.
 abbrev pub headed_all : Parts → (first count word : ℕ) → Parts
 headed_all parts first zero word = parts
 headed_all parts first (suc count) word = headed (headed_all parts first count word) (first + count) word
 
--- A cell that was never written is read as 0.
+-- The word read from a cell; a cell that was never written is read as 0.
 abbrev pub value_of : Option ℕ → ℕ
 value_of None = 0
 value_of (Some w) = w
@@ -33,12 +34,13 @@ words_of (c ∷ cs) = value_of c ∷ words_of cs
 abbrev pub parts_of : (heads made : ℕ) → List (Option ℕ) → Parts
 parts_of heads made cs = record { heads = take heads (words_of cs); words = drop heads (words_of cs); made = made }
 
--- The cells before `end` contain words, and the others are empty.
+-- Says that the cells before `end` contain words, and that all other cells are empty.
 pub record AreWritten (cs : List (Option ℕ)) (end : ℕ) : Type 0 where
   pub filled : (index : ℕ) → index < end → IsFilled cs index
   pub blank : (index : ℕ) → end ≤ index → get_or cs index None ≡ None
 
--- The fields describe one block. The cells of its heads contain words, and so do the first `made` cells after the heads.
+-- Says that the fields of a struct describe one block. The cells of the block's heads contain words, and so do the first
+-- `made` cells after the heads.
 pub record IsBlock (start : Start) (count heads made : ℕ) (cells : Cells) (lease : Lease Global) (alloc : Global) : Type 0 where
   pub at : cells.at ≡ start.at
   pub many : length cells.slots ≡ count

@@ -1,4 +1,4 @@
--- The scope of a function's body, given the region names that its parameters declare.
+-- The scope of a function's body, computed from the region names that its parameters declare.
 use Rattle.std.specs.Prelude.{suc, false, List, [], ◌∷◌, length}
 use Rattle.cyc_syntax.specs.Trees.{Named, Member}
 use Rattle.cyc_types.specs.declared.region.Region.TheVariants as regions
@@ -7,11 +7,11 @@ use Rattle.cyc_types.specs.typing.Scopes.{RegionName, Scope}
 use Rattle.cyc_types.specs.typing.DeclarationRules.{region_numbers}
 use Rattle.cyc_types.specs.typing.Programs.{Program, parameter_locals, body_regions}
 
--- the region names with the function's own region, which has the function's name
+-- the region names extended by the function's own region, which has the function's name
 abbrev pub own_names : Named → List RegionName → List RegionName
 own_names x names = record { name = x.name; region = regions.Variable 0 } ∷ names
 
--- `body_scope`, computed from the declarations of the parameters
+-- the scope `body_scope` of a function's body, computed from the declarations of the parameters
 abbrev pub body_with : Program → Signature → Named → List RegionName → List Member → Scope
 body_with p s x names ms = record {
   structs = p.known.structs;

@@ -1,4 +1,5 @@
--- The views of declared entities and of locals: their data without the layout of types and signatures in memory.
+-- The mathematical views of declared entities and of locals; the views omit the memory layout of types and
+-- signatures.
 use Rattle.std.specs.Prelude.{◌≡◌, ℕ, nat_eq, if◌then◌else◌, List, [], ◌∷◌, map, reverse, get_or, Option, Some, None}
 use Rattle.std.specs.declared.vec.Vec.{Vec}
 use Rattle.std.specs.declared.alloc.Global.{Global}
@@ -49,24 +50,25 @@ view_local l = record { name = l.name; number = l.number; of_type = view_ty l.of
 abbrev pub view_binding : Binding → LocalVariable
 view_binding b = view_local b.local
 
--- the locals of these bindings (oldest first), listed newest first
+-- lists the locals of the bindings, newest first; the bindings are oldest first
 abbrev pub locals_of : List Binding → List LocalVariable
 locals_of bs = map view_binding (reverse bs)
 
 abbrev pub local_names : List LocalVariable → List ℕ
 local_names vs = map (λ (v : LocalVariable). v.name) vs
 
--- the newest local of this name
+-- the newest local with the name x
 abbrev pub newest : List LocalVariable → ℕ → Option LocalVariable
 newest [] x = None
 newest (v ∷ vs) x = if nat_eq v.name x then Some v else newest vs x
 
--- the table contains the index of the newest local of each name, and each binding stores the index that it hides
+-- says that the table contains the index of the newest local of each name, and that each binding stores the
+-- index it hides
 abbrev pub Finds : List (Option ℕ) → List Binding → Type 0
 Finds table bs = ((x : ℕ) → get_or table x None ≡ newest_place (local_names (locals_of bs)) x)
     × (map (λ (b : Binding). b.hidden) (reverse bs) ≡ hidden_by (local_names (locals_of bs)))
 
--- the meaning found among the locals, or this default
+-- the meaning found among the locals, or else the default meaning
 abbrev pub meaning_or : Meaning → Option Meaning → Meaning
 meaning_or m None = m
 meaning_or m (Some found) = found

@@ -1,16 +1,18 @@
--- Leaving a scope. A mark is taken at the entry of a construct. At its end, the names that came into scope since then are removed.
+-- A mark records the size of a scope at the entry of a construct. At the end of the construct, the names that came into scope
+-- since then are removed.
 use Rattle.std.specs.Prelude.{ℕ, suc, ◌-◌, ◌<◌, ◌≤◌, List, [], ◌∷◌, length, drop}
 use Rattle.cyc_types.specs.declared.region.Region.TheVariants as regions
 use Rattle.cyc_types.specs.declared.scope.Kind.{Kind}
 use Rattle.cyc_types.specs.typing.Scopes.{LocalVariable, Scope, with_scope}
 use Rattle.cyc_scope.specs.declared.scope.Mark.{Mark}
 
--- the region numbers of locals never increase from the newest to the oldest, and the newest has at most this one
+-- says that the region numbers of locals never increase from the newest local to the oldest, and that the newest
+-- has at most `region`
 abbrev pub Descends : ℕ → List LocalVariable → Type 0
 Descends region [] = Unit {0}
 Descends region (v ∷ vs) = (v.region ≤ region) × Descends v.region vs
 
--- regions are numbered from the outermost to the innermost block
+-- says that regions are numbered from the outermost block to the innermost
 pub record IsInOrder (g : Scope) : Type 0 where
   pub locals : Descends g.region g.locals
   pub inside : g.region < g.next_region
@@ -25,7 +27,8 @@ mark_of g = record {
   counters = g.counters;
 }
 
--- The scope without the names added since the mark. Used numbers and taken region names stay used.
+-- The scope without the names added since the mark was taken. Numbers that were used and region
+-- names that were taken stay so.
 abbrev pub left_to : Mark → Scope → Scope
 left_to m g = record g {
   names = drop (length g.names - m.names) g.names;
@@ -36,6 +39,6 @@ left_to m g = record g {
   counters = m.counters;
 }
 
--- the scope in which the next region, which already has its name, is declared and opened
+-- the scope after the next region, which already has a name, is declared and opened
 abbrev pub with_next_opened : Kind → Scope → Scope
 with_next_opened k g = record g { next_region = suc g.next_region; regions = with_scope k (regions.Variable g.next_region) g.regions }

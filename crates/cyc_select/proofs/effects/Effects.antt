@@ -1,4 +1,5 @@
--- An ordinary instruction that is safe does not trap and has its usual effect.
+-- A safe ordinary instruction does not trap, and changes registers and memory as its definition
+-- says.
 use Rattle.std.proofs.Common.{◌≡◌, ◌≢◌, ℕ, ◌+◌, ◌-◌, ◌%◌, ◌^◌, Bool, true, false, not, ◌&&◌, ◌||◌, List, [], ◌∷◌, drop, Option, None, Some, refl, sym, ap, subst, ◌∙◌, arith, inl, inr, ◌++◌}
 use Rattle.std.specs.Prelude.{◌==◌, if◌then◌else◌, slice_get, unwrap_or, is_none}
 use Rattle.std.proofs.lemmas.Bool.{cases_eq, eq-eqb, ne_eqb, or_from, and_left, and_right, not_from_true}
@@ -36,7 +37,8 @@ use Rattle.cyc_select.specs.inside.Machine as labelled
 use Rattle.cyc_select.proofs.relation.Cells.{IsCell, IsLive, cell, place_of-data, place_of-stack}
 use Rattle.cyc_select.proofs.effects.Views.{Contents, saved_in, View, Width, OneWord, OneByte, load_op, store_op, word_place, loaded_part, stored_word, answered_registers, does_r, does_w, IsSafe, IsWritable, moved, live_place, view_put, view_product, view_store, view_saved}
 
--- An instruction that is performed without an event reaches this state.
+-- If the machine performs an instruction without an event, the next state is running, at the next
+-- line.
 performs_to : (c : Configuration) (i : Instr) (left : machines.State) (next : State) → executes (machine_of c) i ≡ Does Ran left → left.phase ≡ phases.Running
     → Performs c i next → next ≡ Running (from_world (record { machine = left; output = c.output; input = c.input }) (c.line + 1))
 performs_to c i left next does running (event, s, acts, is) =
@@ -63,7 +65,8 @@ division_has_result a b nonzero least = or_from (b == 0) (a == 2 ^ 31 && b == 2 
   | inr other ↦ and_left (a == 2 ^ 31) (b == 2 ^ 32 - 1) (ne_eqb a (2 ^ 31) other)
 ])
 
--- A load continues if its address has a place, and a store if that place is not in the text.
+-- A load does not trap if its address is mapped. A store does not trap if its address is mapped and
+-- outside the text range.
 module _ (c : Configuration) (base : Register) (offset : ℕ) where
   abbrev goes_to : Width → Place
   goes_to width = place_of (memory_of c) (word_place width (memory_address (word_in c base.number) offset))
@@ -86,7 +89,8 @@ module _ (c : Configuration) (base : Register) (offset : ℕ) where
       let i : Instr = Memory StoreByte source base offset in
       performs_to c i (after (machine_of c) i) next (executes-performs (machine_of c) i (no_cause false _ _ _ _ refl aligned there live apart)) refl goes
 
--- A memory cell is at an address that may be written.
+-- The address of each word of the data range or the stack is mapped, not in freed memory and not in
+-- the text range.
 module _ (globals stack : ℕ) (c : Configuration) (r : Words) (w : Contents) (view : View globals stack c r w) where
   stands : (a : ℕ) → IsCell globals stack a → (is_nowhere (place_of (memory_of c) a) ≡ false) × (is_dead (memory_of c) (place_of (memory_of c) a) ≡ false) × (is_text (place_of (memory_of c) a) ≡ false)
   stands a (inl (aligned, from, below)) =
@@ -123,7 +127,7 @@ module _ (globals stack : ℕ) (c : Configuration) (r : Words) (w : Contents) (v
       let there = stands a (at_cell width base offset at) in
       store_performs c base offset width source next (aligned a (at_cell width base offset at)) there.0 there.1 there.2 goes
 
-  -- A safe instruction continues with the next line.
+  -- After a safe instruction the machine continues with the next line.
   pub performed : (i : Instr) (next : State) → IsSafe globals stack i r → Performs c i next → next ≡ Running (moved c i)
   performed (Immediate op target source half) next safe goes = performs_to c (Immediate op target source half) (after (machine_of c) (Immediate op target source half)) next refl refl goes
   performed (LoadUpper target half) next safe goes = performs_to c (LoadUpper target half) (after (machine_of c) (LoadUpper target half)) next refl refl goes
@@ -150,7 +154,8 @@ module _ (globals stack : ℕ) (c : Configuration) (r : Words) (w : Contents) (v
   performed (JumpRegisterLink destination source) next safe goes = absurd safe
   performed (Exception op code) next safe goes = absurd safe
 
-  -- The view of registers and memory after a safe instruction.
+  -- After a safe instruction, the configuration has the registers and the memory that the
+  -- instruction's definition computes.
   pub moved_view : (i : Instr) → IsSafe globals stack i r → View globals stack (moved c i) (does_r i r w) (does_w i r w)
   moved_view (Immediate op target source half) safe =
       view_put globals stack c r w view target.number (immediate_result op (word_in c source.number) half) (immediate_result op (r source.number) half) (c.line + 1) target.in_range safe
@@ -213,7 +218,7 @@ module _ (globals stack : ℕ) (c : Configuration) (r : Words) (w : Contents) (v
   at_live : (width : Width) (base : Register) (offset word : ℕ) → IsLive w.store (word_place width (memory_address (r base.number) offset)) word → IsLive w.store (word_place width (memory_address (word_in c base.number) offset)) word
   at_live width base offset word live = subst (λ (n : ℕ). IsLive w.store (word_place width (memory_address n offset)) word) (sym (view.reg base.number base.in_range)) live
 
-  -- A load from a word of a live block finds the word.
+  -- A load from the address of a word in a live block reads this word.
   live_cell : (a word : ℕ) → IsLive w.store a word → cell (memory_of c) a ≡ word
   live_cell a word live =
       let found : word_at c.store a ≡ Some word = ap (λ (s : StoreState). word_at s a) view.store ∙ live.there in
@@ -263,13 +268,14 @@ module _ (globals stack : ℕ) (c : Configuration) (r : Words) (w : Contents) (v
 
 -- ---- services
 
--- A `syscall` with a requested service calls that service.
+-- If the registers request a service, a `syscall` calls this service.
 called : (c : Configuration) (code : TrapCode) (service : Service) → asked (core_of c) ≡ Some service → executes (machine_of c) (Exception Syscall code) ≡ Calls service
 called c code service asks =
     let fine : cause_of (machine_of c) (Exception Syscall code) ≡ None = ap (λ (o : Option Service). if is_none o then Some causes.BadService else None) asks in
     executes-performs (machine_of c) (Exception Syscall code) fine ∙ ap (λ (o : Option Service). calls o (machine_of c)) asks
 
--- The effect of a service: the event and the next state.
+-- `Served` says that serving a request in a configuration causes an event and leads to the state
+-- `next`.
 abbrev Served : Configuration → Service → State → Type 0
 Served c service next =
     (event : Event) × (s : machines.State) × Serves service (machine_of c) event s
@@ -279,7 +285,8 @@ service_serves : (c : Configuration) (code : TrapCode) (service : Service) (numb
 service_serves c code service number next is_number asks (event, s, acts, is) =
     (event, s, subst (λ (a : Action). Acts a (machine_of c) event s) (called c code service (ap (service_of (core_of c)) is_number ∙ asks)) acts, is)
 
--- The observed state that follows from an event and a machine state.
+-- If a service reports an event and leaves a machine state, these two determine the next observed
+-- state.
 seen : (c : Configuration) (next : State) (event reported_event : Event) (s left : machines.State) → event ≡ reported_event → s ≡ left
     → next ≡ settled (reported (world_of c) event s) (c.line + 1) (reported (world_of c) event s).machine.phase
     → next ≡ settled (reported (world_of c) reported_event left) (c.line + 1) (reported (world_of c) reported_event left).machine.phase
@@ -288,7 +295,7 @@ seen c next event reported_event s left same_event same is =
     ∙ (ap (λ (e : Event). settled (reported (world_of c) e s) (c.line + 1) (reported (world_of c) e s).machine.phase) same_event
     ∙ ap (λ (t : machines.State). settled (reported (world_of c) reported_event t) (c.line + 1) (reported (world_of c) reported_event t).machine.phase) same)
 
--- The byte that a program reads, or -1 at the end of the input.
+-- Returns the byte that a program reads next, or -1 at the end of the input.
 abbrev pub byte_of : List ℕ → ℕ
 byte_of input = unwrap_or (slice_get input 0) (2 ^ 32 - 1)
 
@@ -334,7 +341,8 @@ ends_full c code next number goes =
 
 -- ---- requests to the store
 
--- The call of the store that the argument registers describe.
+-- Returns the call of the store (the heap of regions) that a requested service and its argument
+-- registers describe.
 abbrev pub call_by : Request → (first second : ℕ) → Call
 call_by (requests.OpenLexical destination) first second = services.OpenLexical
 call_by (requests.CloseTo mark) first second = services.CloseTo first
@@ -354,11 +362,11 @@ service_is c (requests.CloseDynamic handle) = refl
 service_is c (requests.Allocate destination handle words) = refl
 service_is c (requests.Free address) = refl
 
--- The configuration after the store's result is written to the registers.
+-- Returns the configuration after the store's result is written to the result registers.
 abbrev pub given_answer : Configuration → Answer → StoreState → Configuration
 given_answer c a store = record c { registers = answered_registers c a; store = store; line = c.line + 1 }
 
--- The observed state after the store's result.
+-- Returns the observed state after the store has answered a call.
 abbrev after_answer : Configuration → Answer → StoreState → State
 after_answer c a store =
     settled (reported (world_of c) (reported_by a) (answered (with_store (machine_of c) store) a)) (c.line + 1)

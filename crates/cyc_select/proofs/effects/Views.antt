@@ -1,4 +1,5 @@
--- The effect of an ordinary instruction on registers and memory, both viewed as functions from numbers to words.
+-- The effect of an ordinary instruction on registers and memory, where both are viewed as functions from numbers
+-- to words.
 use Rattle.std.proofs.Common.{◌≡◌, ◌≢◌, ℕ, ◌+◌, ◌-◌, ◌%◌, ◌^◌, ◌<◌, ◌≤◌, false, List, [], length, refl, sym, ap, subst, ◌∙◌, arith, inl, inr}
 use Rattle.std.specs.Prelude.{◌==◌, if◌then◌else◌, slice_set, slice_index}
 use Rattle.std.proofs.lemmas.Bool.{cases_eq, cond-false}
@@ -22,20 +23,22 @@ use Rattle.cyc_plain.proofs.SlotLaws.{put-same, put-other}
 use Rattle.cyc_select.specs.inside.Machine.{Configuration, core_of, memory_of, machine_of, from_world, word_in}
 use Rattle.cyc_select.proofs.relation.Cells.{IsCell, IsLive, cell, place_of-data, place_of-stack, place_of-live, cell-store, cell-stored}
 
--- The contents of memory: the words of the data range and the stack, by address, and the store.
+-- `Contents` describes memory: the words of the data range and the stack, indexed by address, and
+-- the store (the heap).
 pub record Contents : Type 0 where
   pub words : Words
   pub store : StoreState
 
--- The contents after a word of the data range or the stack is written.
+-- Returns the contents of memory after a word of the data range or the stack is written.
 abbrev pub written : Contents → (address word : ℕ) → Contents
 written w address word = record w { words = put w.words address word }
 
--- The view after a word of a live block is written.
+-- Returns the contents of memory after a word of a live heap block is written.
 abbrev pub saved_in : Contents → (address word : ℕ) → Contents
 saved_in w address word = record w { store = saved w.store address word }
 
--- The configuration has these registers (HI and LO are numbers 32 and 33) and this memory, and its ranges have these sizes.
+-- `View` says that a configuration has the registers `r` (HI and LO are numbers 32 and 33) and the memory `w`, and that its
+-- data range and stack have the sizes given.
 pub record View (globals stack : ℕ) (c : Configuration) (r : Words) (w : Contents) : Type 0 where
   pub wide : length c.registers ≡ 32
   pub data_words : length c.globals ≡ globals
@@ -62,12 +65,12 @@ abbrev pub store_op : Width → MemoryOp
 store_op OneWord = StoreWord
 store_op OneByte = StoreByte
 
--- The address of the word that an access needs.
+-- Returns the address of the aligned word that contains the accessed byte or word.
 abbrev pub word_place : Width → (address : ℕ) → ℕ
 word_place OneWord address = address
 word_place OneByte address = word_of address
 
--- The loaded part of that word, and the word after a store.
+-- Returns the byte or word that a load extracts from the aligned memory word at its address.
 abbrev pub loaded_part : Width → (address word : ℕ) → ℕ
 loaded_part OneWord address word = word
 loaded_part OneByte address word = byte_in word (address % 4)
@@ -99,11 +102,12 @@ does_w (Memory StoreByte source base offset) r w =
     written w (word_of address) (stored_word OneByte address (w.words (word_of address)) (r source.number))
 does_w i r w = w
 
--- A register that code may write.
+-- Code may write a register if its number is not 0.
 abbrev pub IsWritable : ℕ → Type 0
 IsWritable number = (number == 0) ≡ false
 
--- The instruction has its usual effect and does not trap.
+-- `IsSafe` holds if an instruction, executed with these registers, does not trap and has its usual
+-- effect.
 abbrev pub IsSafe : (globals stack : ℕ) → Instr → Words → Type 0
 IsSafe globals stack (Immediate op target source half) r = IsWritable target.number
 IsSafe globals stack (LoadUpper target half) r = IsWritable target.number
@@ -122,7 +126,7 @@ IsSafe globals stack (MultiplyDivide Divide left right) r =
 IsSafe globals stack (Arithmetic op destination left right) r = IsWritable destination.number
 IsSafe globals stack i r = ⊥
 
--- The registers after the store's result is written to the registers.
+-- Returns the registers after the store (the heap of regions) has written its result to them.
 abbrev pub answered_r : Answer → Words → Words
 answered_r (Refused why) r = r
 answered_r Done r = r
@@ -138,7 +142,7 @@ answered_registers c (OpenedLexical handle mark) =
     (with_register (with_register (core_of c) 2 handle) 3 mark).registers
 answered_registers c (Allocated address) = (with_register (core_of c) 2 address).registers
 
--- The configuration after an instruction without a jump.
+-- Returns the configuration after an instruction that does not jump.
 abbrev pub moved : Configuration → Instr → Configuration
 moved c i = from_world (record { machine = after (machine_of c) i; output = c.output; input = c.input }) (c.line + 1)
 
@@ -160,7 +164,8 @@ set_register core n v m wide below writable =
     ]
 
 module _ (globals stack : ℕ) (c : Configuration) (r : Words) (w : Contents) (view : View globals stack c r w) where
-  -- The view after one register is written.
+  -- After a register is written, the configuration has the registers in which this one is replaced,
+  -- and the same memory.
   pub view_put : (n v word line : ℕ) → n < 32 → IsWritable n → v ≡ word
       → View globals stack (record c { registers = (with_register (core_of c) n v).registers; line = line }) (put r n word) w
   view_put n v word line below writable same = record {
@@ -181,7 +186,7 @@ module _ (globals stack : ℕ) (c : Configuration) (r : Words) (w : Contents) (v
     store = view.store;
   }
 
-  -- The view does not depend on the next line, the output and the input.
+  -- The relation `View` does not depend on the next line, the output and the input.
   pub view_seen : (line : ℕ) (output input : List ℕ) → View globals stack (record c { line = line; output = output; input = input }) r w
   view_seen line output input = record {
     wide = view.wide;
@@ -199,7 +204,8 @@ module _ (globals stack : ℕ) (c : Configuration) (r : Words) (w : Contents) (v
   pub view_at : (line : ℕ) → View globals stack (record c { line = line }) r w
   view_at line = view_seen line c.output c.input
 
-  -- The view after HI and LO are written.
+  -- After HI and LO are written, the configuration has the registers in which these two are
+  -- replaced, and the same memory.
   pub view_product : (h l high low line : ℕ) → h ≡ high → l ≡ low → View globals stack (record c { high = h; low = l; line = line }) (put (put r 32 high) 33 low) w
   view_product h l high low line same_high same_low = record {
     wide = view.wide;
@@ -216,7 +222,7 @@ module _ (globals stack : ℕ) (c : Configuration) (r : Words) (w : Contents) (v
     store = view.store;
   }
 
-  -- The store is unchanged if a word of the data range or the stack is written.
+  -- A write to a word of the data range or the stack leaves the store (the heap) unchanged.
   same_store : (a word : ℕ) → IsCell globals stack a → (stored (memory_of c) (place_of (memory_of c) a) word).store ≡ c.store
   same_store a word (inl (aligned, from, below)) =
       ap (λ (p : Place). (stored (memory_of c) p word).store) (place_of-data c.globals c.stack c.store a (aligned, from, omega (arith, below, view.data_words)))
@@ -224,7 +230,7 @@ module _ (globals stack : ℕ) (c : Configuration) (r : Words) (w : Contents) (v
       ap (λ (p : Place). (stored (memory_of c) p word).store)
       (place_of-stack c.globals c.stack c.store a (omega (arith, view.data_words, view.few_globals)) (omega (arith, view.stack_words, view.few_stack)) (aligned, omega (arith, from, view.stack_words), below))
 
-  -- The place of a word of a live block.
+  -- The address of a word in a live block is mapped to the store (the heap).
   pub live_place : (a word : ℕ) → IsLive w.store a word → place_of (memory_of c) a ≡ InStore a
   live_place a word live =
       place_of-live c.globals c.stack c.store a word (omega (arith, view.data_words, view.few_globals)) (omega (arith, view.stack_words, view.few_stack))
@@ -272,7 +278,8 @@ module _ (globals stack : ℕ) (c : Configuration) (r : Words) (w : Contents) (v
         | inr other ↦ put-other (cell (memory_of c)) a b word other ∙ (view.mem b b_at ∙ sym (put-other w.words a b word other))
       ]
 
-  -- The view after the store changes.
+  -- If the store (the heap of regions) changes, the configuration has the same registers, and the
+  -- memory with the new store.
   pub view_stored : (line : ℕ) (store other : StoreState) → other ≡ store → View globals stack (record c { store = other; line = line }) r (record w { store = store })
   view_stored line store other same = record {
     wide = view.wide;
@@ -290,7 +297,8 @@ module _ (globals stack : ℕ) (c : Configuration) (r : Words) (w : Contents) (v
     store = same;
   }
 
-  -- The view after a word of a live block is written.
+  -- After a word of a live block is written, the configuration has the same registers, and the
+  -- memory in which this word is replaced.
   pub view_saved : (a old address v word line : ℕ) → IsLive w.store a old → address ≡ a → v ≡ word
       → View globals stack (record c {
         globals = (stored (memory_of c) (place_of (memory_of c) address) v).globals;
@@ -322,7 +330,8 @@ module _ (globals stack : ℕ) (c : Configuration) (r : Words) (w : Contents) (v
           ∙ (ap (λ (p : Place). stored (memory_of c) p v) (live_place a old live)
           ∙ ap (λ (x : ℕ). let m : machines.Memory = record (memory_of c) { store = saved c.store a x } in m) same)
 
--- The view after the store's result.
+-- After the store (the heap of regions) has written its result, the configuration has the registers
+-- with this result, and the memory with the new store.
 pub view_answered : (globals stack : ℕ) (c : Configuration) (r : Words) (w : Contents) → View globals stack c r w → (a : Answer) (line : ℕ) (store other : StoreState) → other ≡ store
     → View globals stack (record c { registers = answered_registers c a; store = other; line = line }) (answered_r a r) (record w { store = store })
 view_answered globals stack c r w view (Refused why) line store other same = view_stored globals stack c r w view line store other same

@@ -1,4 +1,4 @@
--- Walks: stretches of a run of labelled code through lines with ascending numbers.
+-- A `Walk` is a stretch of a run of labelled code through lines with ascending numbers.
 use Rattle.std.proofs.Common.{◌≡◌, ℕ, suc, ◌+◌, ◌≤◌, ◌%◌, drop, Bool, true, List, [], ◌∷◌, ◌++◌, length, Option, Some, None, slice_get, refl, sym, ap, subst, ◌∙◌, arith, inl, inr}
 use Rattle.std.specs.Prelude.{◌⊎◌, if◌then◌else◌}
 use Rattle.cyc_machine_model.specs.declared.constants.TheConstants.{RETURN_ADDRESS}
@@ -34,12 +34,13 @@ use Rattle.cyc_select.proofs.effects.Effects.{performed, moved_view, loads_live,
 use Rattle.cyc_select.proofs.effects.Sequences.{Rises, comes_map, Stands, after_r, after_w, AreSafe, part_word, does_words_r, does_words_w, safe_ordinary}
 
 module _ (code : Labelled) (formed : IsFormed code) (addresses : ℕ → ℕ) (globals stack : ℕ) where
-  -- The state is running with this output and input, or the step of the source is already visible (`Late`).
+  -- `Quiet` says that the state is running with this output and input, or that the effect of the source
+  -- step is already visible (`Late`).
   abbrev pub Quiet : (out rest : List ℕ) → (Late : State → Type 0) → State → Type 0
   Quiet out rest Late t = ((status_of t ≡ simulation.Running) × (output_of t ≡ out) × (input_of t ≡ rest)) ⊎ Late t
 
-  -- Each run from `t` visits at least `least` lines, in ascending order between `lo` and `hi`, and reaches the goal. Nothing is read before
-  -- the state is late.
+  -- `Walk` says that each run from `t` visits at least `least` lines, in ascending order between `lo` and `hi`, and reaches the goal. No
+  -- input is read before the state satisfies `Late`.
   pub record Walk (least lo hi : ℕ) (out : List ℕ) (Late Goal : State → Type 0) (t : State) : Type 0 where
     pub places : List ℕ
     pub enough : least ≤ length places
@@ -67,7 +68,7 @@ module _ (code : Labelled) (formed : IsFormed code) (addresses : ℕ → ℕ) (g
   pub walk_few : {Late : State → Type 0} (m n lo hi : ℕ) (out : List ℕ) (Goal : State → Type 0) (t : State) → m ≤ n → Walk n lo hi out Late Goal t → Walk m lo hi out Late Goal t
   walk_few m n lo hi out Goal t fewer walk = record { places = walk.places; enough = omega (arith, walk.enough); rises = walk.rises; comes = walk.comes }
 
-  -- A walk to a goal is a walk to any weaker goal.
+  -- A walk (stretch of a run) that reaches a goal also reaches each weaker goal.
   pub walk_to : {Late : State → Type 0} (n lo hi : ℕ) (out : List ℕ) (Goal Goal' : State → Type 0) (t : State) → ((u : State) → Goal u → Goal' u) → Walk n lo hi out Late Goal t → Walk n lo hi out Late Goal' t
   walk_to {Late} n lo hi out Goal Goal' t goals walk = record {
     places = walk.places;
@@ -76,7 +77,7 @@ module _ (code : Labelled) (formed : IsFormed code) (addresses : ℕ → ℕ) (g
     comes = comes_map (machine code addresses) (Quiet out (input_of t) Late) Goal (Quiet out (input_of t) Late) Goal' walk.places t (λ u quiet. quiet) goals walk.comes;
   }
 
-  -- After its first step a walk remains a walk, through later lines.
+  -- A walk (stretch of a run) without its first step is still a walk, through the later lines.
   pub walk_rest : {Late : State → Type 0} (n lo hi : ℕ) (out : List ℕ) (Goal : State → Type 0) (c d : Configuration) → d.input ≡ c.input → Walk (suc n) lo hi out Late Goal (Running c)
       → Step code addresses (Running c) (Running d) → Walk n (suc c.line) hi out Late Goal (Running d)
   walk_rest {Late} n lo hi out Goal c d unread walk step = by walk.places walk.enough walk.rises walk.comes
@@ -99,7 +100,7 @@ module _ (code : Labelled) (formed : IsFormed code) (addresses : ℕ → ℕ) (g
   pub walk_from : {Late : State → Type 0} (n lo from hi : ℕ) (out : List ℕ) (Goal : State → Type 0) (t : State) → lo ≤ from → Walk n from hi out Late Goal t → Walk n lo hi out Late Goal t
   walk_from n lo from hi out Goal t below walk = record { places = walk.places; enough = walk.enough; rises = rises_from lo from hi walk.places below walk.rises; comes = walk.comes }
 
-  -- The run is at this line with these registers and this memory.
+  -- `Now` says that the run is at this line with these registers and this memory.
   pub record Now (line : ℕ) (out rest : List ℕ) (r : Words) (w : Contents) (c : Configuration) : Type 0 where
     pub view : View globals stack c r w
     pub r_words : AreWords r
@@ -121,7 +122,7 @@ module _ (code : Labelled) (formed : IsFormed code) (addresses : ℕ → ℕ) (g
   stands_now : (k : ℕ) (out input : List ℕ) (r : Words) (w : Contents) (c : Configuration) (l : Line) → Now k out input r w c → slice_get code.lines k ≡ Some l → slice_get code.lines c.line ≡ Some l
   stands_now k out input r w c l now stands = ap (slice_get code.lines) now.at_line ∙ stands
 
-  -- The run continues after an ordinary instruction, whatever its effect.
+  -- After an ordinary instruction that the machine performs, the run continues with the next line.
   pub performs_now : (k : ℕ) (out input : List ℕ) (r : Words) (w : Contents) (c : Configuration) (i : Instr) (next : State) → Now k out input r w c → slice_get code.lines k ≡ Some (lines.Ordinary i) → is_ordinary i ≡ true
       → Step code addresses (Running c) next → Performs c i next
   performs_now k out input r w c i next now stands is step =
@@ -132,7 +133,7 @@ module _ (code : Labelled) (formed : IsFormed code) (addresses : ℕ → ℕ) (g
       → Now (k + 1) out input (does_r i r w) (does_w i r w) (moved c i)
   moved_now k out input r w c i now fits view = record { view = view; r_words = does_words_r i r w fits now.r_words now.w_words; w_words = does_words_w i r w now.r_words now.w_words; at_line = ap (λ (n : ℕ). n + 1) now.at_line; output = now.output; input = now.input }
 
-  -- One safe instruction followed by a walk is a walk.
+  -- A safe instruction followed by a walk (stretch of a run) is a walk.
   pub walk_one : {Late : State → Type 0} (i : Instr) (n k lo hi : ℕ) (out input : List ℕ) (Goal : State → Type 0) (r : Words) (w : Contents) (c : Configuration)
       → Now k out input r w c → slice_get code.lines k ≡ Some (lines.Ordinary i) → IsSafe globals stack i r → lo ≤ k
       → (Now (k + 1) out input (does_r i r w) (does_w i r w) (moved c i) → Walk n (k + 1) hi out Late Goal (Running (moved c i)))
@@ -144,7 +145,8 @@ module _ (code : Labelled) (formed : IsFormed code) (addresses : ℕ → ℕ) (g
       (walk_from n (suc c.line) (k + 1) hi out Goal (Running (moved c i)) (omega (arith, now.at_line))
       (goes (moved_now k out input r w c i now fits (moved_view globals stack c r w now.view i safe))))
 
-  -- A walk begins with a block of safe instructions. The view of the final state does not depend on the next line.
+  -- A sequence of safe instructions followed by a walk (stretch of a run) is a walk. The relation `View` for the
+  -- final state of a walk does not depend on the next line.
   pub walk_block : {Late : State → Type 0} (is : List Instr) (n k lo hi : ℕ) (out input : List ℕ) (Goal : State → Type 0) (r : Words) (w : Contents) (c : Configuration)
       → Now k out input r w c → Stands code k (ordinary is) → AreSafe globals stack is r w → lo ≤ k
       → ((d : Configuration) → Now (k + length is) out input (after_r is r w) (after_w is r w) d → Walk n (k + length is) hi out Late Goal (Running d))
@@ -163,7 +165,8 @@ module _ (code : Labelled) (formed : IsFormed code) (addresses : ℕ → ℕ) (g
 
   -- ---- words of live blocks
 
-  -- A walk loads a word of a live block into a register.
+  -- An instruction that loads a word of a live block into a register, followed by a walk (stretch
+  -- of a run), is a walk.
   pub walk_load : {Late : State → Type 0} (width : Width) (n k lo hi : ℕ) (out input : List ℕ) (Goal : State → Type 0) (r : Words) (w : Contents) (c : Configuration) (target base : Register) (offset word : ℕ)
       → Now k out input r w c → slice_get code.lines k ≡ Some (lines.Ordinary (Memory (load_op width) target base offset)) → lo ≤ k → IsWritable target.number
       → IsLive w.store (word_place width (memory_address (r base.number) offset)) word → IsWord word
@@ -183,7 +186,8 @@ module _ (code : Labelled) (formed : IsFormed code) (addresses : ℕ → ℕ) (g
         input = now.input;
       })))
 
-  -- A walk stores a word of a live block.
+  -- An instruction that stores to a word of a live block, followed by a walk (stretch of a run), is
+  -- a walk.
   pub walk_save : {Late : State → Type 0} (width : Width) (n k lo hi : ℕ) (out input : List ℕ) (Goal : State → Type 0) (r : Words) (w : Contents) (c : Configuration) (source base : Register) (offset old : ℕ)
       → Now k out input r w c → slice_get code.lines k ≡ Some (lines.Ordinary (Memory (store_op width) source base offset)) → lo ≤ k
       → IsLive w.store (word_place width (memory_address (r base.number) offset)) old
@@ -275,7 +279,8 @@ module _ (code : Labelled) (formed : IsFormed code) (addresses : ℕ → ℕ) (g
       → Step code addresses (Running c) next → Performs c syscall next
   syscall_now k out input r w c next now stands step = performs_now k out input r w c syscall next now stands refl step
 
-  -- After the read of a byte the walk is late.
+  -- After the `syscall` that reads a byte, the walk (stretch of a run) is late: the effect of the
+  -- source step is visible.
   pub walk_get : {Late : State → Type 0} (n k lo hi : ℕ) (out input : List ℕ) (Goal : State → Type 0) (r : Words) (w : Contents) (c : Configuration)
       → Now k out input r w c → slice_get code.lines k ≡ Some (lines.Ordinary syscall) → lo ≤ k → r 2 ≡ 1 → IsWord (byte_of input)
       → ((t : State) → status_of t ≡ simulation.Running → output_of t ≡ out → input_of t ≡ drop 1 input → Late t)
@@ -304,7 +309,8 @@ module _ (code : Labelled) (formed : IsFormed code) (addresses : ℕ → ℕ) (g
       is_late t (inl (running, output, left)) = late t running output (left ∙ ap (drop 1) now.input)
       is_late t (inr already) = already
 
-  -- The goal is reached as soon as a byte is printed or the run has ended.
+  -- The walk (stretch of a run) reaches its goal as soon as the `syscall` prints a byte or the run
+  -- ends.
   pub walk_put : {Late : State → Type 0} (k lo hi : ℕ) (out input : List ℕ) (Goal : State → Type 0) (r : Words) (w : Contents) (c : Configuration)
       → Now k out input r w c → slice_get code.lines k ≡ Some (lines.Ordinary syscall) → lo ≤ k → suc k ≤ hi → r 2 ≡ 2
       → ((d : Configuration) → Now (k + 1) (out ++ r 4 % 256 ∷ []) input r w d → Goal (Running d))
@@ -361,7 +367,7 @@ module _ (code : Labelled) (formed : IsFormed code) (addresses : ℕ → ℕ) (g
 
   -- ---- requests to the store
 
-  -- The line numbers of a block that begins at line `k`.
+  -- Returns the line numbers of a sequence of instructions that begins at line `k`.
   abbrev pub lines_from : ℕ → List Instr → List ℕ
   lines_from k [] = []
   lines_from k (i ∷ is) = k ∷ lines_from (k + 1) is
@@ -370,7 +376,8 @@ module _ (code : Labelled) (formed : IsFormed code) (addresses : ℕ → ℕ) (g
   lines_rise [] lo k hi from below = omega (arith, from, below)
   lines_rise (i ∷ is) lo k hi from below = (from, lines_rise is (suc k) (k + 1) hi (omega arith) (omega (arith, below)))
 
-  -- Safe instructions at the end of a stretch.
+  -- A sequence of safe instructions ends a stretch of a run if the state after the sequence
+  -- satisfies the goal.
   pub comes_block : (Late : State → Type 0) (is : List Instr) (k : ℕ) (out input : List ℕ) (Goal : State → Type 0) (r : Words) (w : Contents) (c : Configuration)
       → Now k out input r w c → Stands code k (ordinary is) → AreSafe globals stack is r w
       → ((d : Configuration) → Now (k + length is) out input (after_r is r w) (after_w is r w) d → Goal (Running d))
@@ -413,7 +420,8 @@ module _ (code : Labelled) (formed : IsFormed code) (addresses : ℕ → ℕ) (g
     numbered : word_in c 2 ≡ service_number request
     numbered = now.view.reg 2 (omega arith) ∙ number
 
-    -- The store serves the call. The next places after the served call do not depend on the store's choice.
+    -- A `syscall` whose call the store (the heap of regions) serves, followed by a walk (stretch of a run),
+    -- is a walk. The lines visited after the call do not depend on the store's choice.
     pub walk_served : {Late : State → Type 0} (n : ℕ) (places : List ℕ) → refusal store call ≡ None
         → ((choice : services.Choice) → services.IsAllowed store call choice → HasAnswerWords (services.answer store call choice)) → n ≤ length places → Rises (suc k) hi places
         → ((choice : services.Choice) → services.IsAllowed store call choice → (d : Configuration)
@@ -454,7 +462,7 @@ module _ (code : Labelled) (formed : IsFormed code) (addresses : ℕ → ℕ) (g
       );
     }
 
-    -- The run ends if the store has no room for the result.
+    -- The run ends if the store has no memory left for the call's result.
     pub walk_no_room : {Late : State → Type 0} → suc k ≤ hi → refusal store call ≡ Some services.Full → Goal (Ended Full out input) → Walk 1 lo hi out Late Goal (Running c)
     walk_no_room below full goal =
         walk_step 0 lo hi out Goal c (Ended Full out input) (omega (arith, from, now.at_line)) now.output (sym now.input)

@@ -1,4 +1,5 @@
--- Lines emitted piece by piece: appending the next piece extends the emitted lines.
+-- The lines of a function are emitted piece by piece: appending the next piece keeps the invariant
+-- of the emitting loop.
 use Rattle.std.proofs.Common.{◌≡◌, ℕ, suc, ◌+◌, ◌-◌, ◌*◌, ◌<◌, List, [], ◌∷◌, ◌++◌, drop, refl, ap, ◌∙◌, arith}
 use Rattle.cyc_words.proofs.Lists.{append_goes_on}
 use Rattle.cyc_isa.specs.declared.instr.Instr.{Instr}
@@ -19,7 +20,8 @@ ordinary_append : (is js : List Instr) → ordinary (is ++ js) ≡ ordinary is +
 ordinary_append [] js = refl
 ordinary_append (i ∷ is) js = ap (λ (l : List Line). lines.Ordinary i ∷ l) (ordinary_append is js)
 
--- One more word is moved.
+-- The loop invariant of a move of several words is kept when the lines of one more word are
+-- emitted.
 pub moved_next : (frame : Frame) (destination source count word : ℕ) (all old new : List Line) → word < count
     → new ≡ old ++ ordinary (move_to (value_register frame (destination + word)) frame (destination + word) (operands.Slot (source + word)))
     → old ++ ordinary (moves frame (destination + word) (source + word) (count - word)) ≡ all
@@ -37,7 +39,7 @@ moved_next frame destination source count word all old new below is before =
     ∙ ap (λ (n : ℕ). ordinary one ++ ordinary (moves frame (destination + (word + 1)) n (count - (word + 1)))) from)
     before
 
--- One more argument is passed.
+-- The loop invariant of passing arguments is kept when the lines of one more argument are emitted.
 pub copied : (caller callee : Frame) (source slot count : ℕ) (all old new : List Line) → slot < count
     → new ≡ old ++ ordinary (pass caller callee (source + slot) slot)
     → old ++ ordinary (copies caller callee (source + slot) slot (count - slot)) ≡ all
@@ -55,7 +57,7 @@ copied caller callee source slot count all old new below is before =
     ∙ ap (λ (n : ℕ). ordinary one ++ ordinary (copies caller callee (source + (slot + 1)) n (count - (slot + 1)))) to)
     before
 
--- One more slot is spilled.
+-- The loop invariant of spilling slots is kept when the lines of one more slot are emitted.
 pub spilled_next : (caller callee : Frame) (source count slot : ℕ) (all old new : List Line) → slot < count
     → new ≡ old ++ ordinary (spill caller callee (source + slot) slot)
     → old ++ ordinary (spills caller callee (source + slot) slot (count - slot)) ≡ all
@@ -73,7 +75,7 @@ spilled_next caller callee source count slot all old new below is before =
     ∙ ap (λ (n : ℕ). ordinary one ++ ordinary (spills caller callee (source + (slot + 1)) n (count - (slot + 1)))) to)
     before
 
--- One more register is saved.
+-- The loop invariant of saving registers is kept when the store of one more register is emitted.
 pub saves_next : (frame : Frame) (number : ℕ) (all old new : List Line) → number < frame.saved
     → new ≡ old ++ ordinary (store (FIRST_PRESERVED + number) (4 * (frame.first_saved + number)) ∷ [])
     → old ++ ordinary (saves_from frame.first_saved number (frame.saved - number)) ≡ all
@@ -88,7 +90,7 @@ saves_next frame number all old new below is before =
     ∙ ap (λ (n : ℕ). ordinary one ++ ordinary (saves_from frame.first_saved n (frame.saved - (number + 1)))) to)
     before
 
--- One more register is restored.
+-- The loop invariant of restoring registers is kept when the load of one more register is emitted.
 pub restores_next : (frame : Frame) (number : ℕ) (all old new : List Line) → number < frame.saved
     → new ≡ old ++ ordinary (load (FIRST_PRESERVED + number) (4 * (frame.first_saved + number)) ∷ [])
     → old ++ ordinary (restores_from frame.first_saved number (frame.saved - number)) ≡ all
@@ -103,7 +105,8 @@ restores_next frame number all old new below is before =
     ∙ ap (λ (n : ℕ). ordinary one ++ ordinary (restores_from frame.first_saved n (frame.saved - (number + 1)))) to)
     before
 
--- One more parameter is loaded into its register.
+-- The loop invariant of loading parameters is kept when the lines that load one more parameter into
+-- its register are emitted.
 pub arrived_next : (frame : Frame) (slot : ℕ) (all old new : List Line) → new ≡ old ++ ordinary (reload frame (home_of (arriving frame) slot) slot)
     → old ++ ordinary (reloads_from frame slot (drop slot (arriving frame))) ≡ all → new ++ ordinary (reloads_from frame (slot + 1) (drop (slot + 1) (arriving frame))) ≡ all
 arrived_next frame slot all old new is before =

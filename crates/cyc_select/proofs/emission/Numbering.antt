@@ -1,4 +1,4 @@
--- Line numbers as sums over the preceding lines.
+-- The number of each line is the sum of the numbers of lines of the code before it.
 use Rattle.std.proofs.Common.{◌≡◌, ℕ, zero, suc, ◌+◌, ◌<◌, ◌≤◌, Bool, true, false, List, [], ◌∷◌, ◌++◌, length, drop, take, Some, slice_get, refl, sym, ap, subst, ◌∙◌, inl, inr, arith}
 use Rattle.std.specs.Prelude.{sum_by, slice_index_or, if◌then◌else◌, ◌||◌}
 use Rattle.std.proofs.lemmas.Bool.{cases_lt}
@@ -49,7 +49,8 @@ way_small frame = go frame.saves
     go true = omega arith
     go false = omega arith
 
--- The number of words that save the return address: 1 if the code overwrites its register, else 0.
+-- Returns the number of words that a function's entry takes to save the return address: 1 if the
+-- code overwrites the return address register, otherwise 0.
 abbrev pub losing : List Instruction → ℕ
 losing code = if loses_any code then 1 else 0
 
@@ -60,7 +61,8 @@ losing_next i code = go (loses i)
     go true = omega arith
     go false = omega arith
 
--- The number of words that the code reserves to save registers and load parameters into them.
+-- Returns the number of words that the size of the code includes to save registers and to load
+-- parameters into them.
 abbrev pub returning : List Instruction → ℕ
 returning code = if returns_any code then 14 else 0
 
@@ -71,11 +73,12 @@ returning_next i code = go (returns i)
     go true = omega arith
     go false = omega arith
 
--- A function with this code saves at its entry no more than the code has room for.
+-- `IsSaving` says that a function's entry saves no more registers than the size of its code
+-- reserves lines for.
 abbrev pub IsSaving : Frame → List Instruction → Type 0
 IsSaving frame code = (frame.saves ≡ loses_any code) × (frame.saved + arrival_count frame ≤ returning code)
 
--- No more parameters are loaded into callee-saved registers than the function saves.
+-- A function saves at least as many callee-saved registers as it loads parameters into.
 pub arrivals_few : (program : Program) (r : Routine) (frame : Frame) → IsFrame r frame → AreHomes program r frame.saved frame.homes → arrival_count frame ≤ frame.saved
 arrivals_few program r frame is right = subst (λ (n : ℕ). sum_by saved_count (take n frame.homes) ≤ frame.saved) (sym is.parameters) right.arrivals
 
@@ -88,7 +91,8 @@ is_saving program r frame is right = (is.saved, go frame.saved refl)
         let room : returning r.code ≡ 14 = ap (λ (b : Bool). if b then 14 else 0) (is.returning (omega (arith, some))) in
         omega (arith, room, is.most_saved, arrivals_few program r frame is right)
 
--- The functions from this index on save no more than their code has room for.
+-- From this index on, each function saves no more registers than the size of its code reserves
+-- lines for.
 abbrev pub AreSaved : List Frame → (first : ℕ) → List Routine → Type 0
 AreSaved frames first routines = (k : ℕ) → k < length routines → IsSaving (frame_at frames (first + k)) (slice_index_or routines k no_routine).code
 
@@ -113,7 +117,7 @@ operator_fits binary.Divide = omega arith
 operator_fits binary.Remainder = omega arith
 operator_fits operator = omega arith
 
--- A function reloads few registers after a call, and saves few.
+-- `ReadsFew` says that a function reloads at most 6 registers after a call and saves at most 7.
 abbrev pub ReadsFew : List Frame → (function : ℕ) → Type 0
 ReadsFew frames function = (reload_count (frame_at frames function) ≤ 6) × ((frame_at frames function).saved ≤ 7)
 
@@ -151,7 +155,8 @@ function_count_small program frames function fit few index i = omega (arith, bod
     go true = omega arith
     go false = omega arith
 
--- Every function number, in range or not, has few registers to reload.
+-- For every function number, in range or not, few registers are reloaded after a call, and few are
+-- saved.
 pub function_reads_few : (program : Program) (frames : List Frame) → AreFrames program frames → (k : ℕ) → ReadsFew frames k
 function_reads_few program frames fit k = elim (cases_lt k (length program.functions)) [
   | inl below ↦ ((fit.homes k below).few, (fit.each k below).most_saved)
@@ -167,14 +172,14 @@ code_small program frames function fit few index [] = omega arith
 code_small program frames function fit few index (i ∷ code) =
     omega (arith, sum_by-cons instruction_size i code, function_count_small program frames function fit few index i, code_small program frames function fit few (suc index) code, losing_next i code, returning_next i code)
 
--- The lines of a function, with those that save registers, are within its size.
+-- A function's lines, with those that save its registers, are at most as many as its size.
 pub routine_small : (program : Program) (frames : List Frame) (function : ℕ) → ReadsFew frames function → AreFew program → (code : List Instruction) → IsSaving (frame_at frames function) code
     → saving_count (frame_at frames function) + code_count program frames function 0 code ≤ sum_by instruction_size code
 routine_small program frames function fit few code saved =
     let same : way_count (frame_at frames function) ≡ losing code = ap (λ (b : Bool). if b then 1 else 0) saved.0 in
     omega (arith, same, saved.1, code_small program frames function fit few 0 code)
 
--- A prefix of the code has no more lines than the whole.
+-- A prefix of a function's code has at most as many lines as all of its code.
 count_take : (program : Program) (frames : List Frame) (function first : ℕ) (code : List Instruction) (k : ℕ) → code_count program frames function first (take k code) ≤ code_count program frames function first code
 count_take program frames function first [] zero = omega arith
 count_take program frames function first [] (suc k) = omega arith
@@ -194,13 +199,14 @@ functions_count_small program frames first fit few (r ∷ routines) saved (suc k
       functions_count_small program frames (suc first) fit few routines (saved_next frames first r routines saved) k,
     )
 
--- The first line of each function fits a machine word.
+-- The number of a function's first line plus the function's size is at most the size of the whole
+-- program.
 pub start_fits : (program : Program) (frames : List Frame) → AreFrames program frames → ((k : ℕ) → ReadsFew frames k) → AreFew program → (k : ℕ) → k < length program.functions
     → function_line program frames k + size (routine_at program k) ≤ START_LINES + sum_by size program.functions
 start_fits program frames are fit few k below =
     omega (arith, functions_count_small program frames 0 fit few program.functions (are_saved program frames are) k, sum_by-drop_more size program.functions k no_routine below, sum_by-take-drop size program.functions k)
 
--- The line of each instruction fits a machine word.
+-- The line number of each instruction is at most the size of the whole program.
 pub line_fits : (program : Program) (frames : List Frame) → AreFrames program frames → ((k : ℕ) → ReadsFew frames k) → AreFew program → (k : ℕ) → k < length program.functions → (index : ℕ)
     → instruction_line program frames k index ≤ START_LINES + sum_by size program.functions
 line_fits program frames are fit few k below index =
@@ -208,7 +214,8 @@ line_fits program frames are fit few k below index =
 
 -- ---- properties of all functions of a well-formed program
 
--- Every function number, in range or not, has few result words.
+-- For every function number, in range or not, the number of result words is at most that of one
+-- value.
 routines_few : (routines : List Routine) → ((k : ℕ) → k < length routines → (slice_index_or routines k no_routine).results ≤ GREATEST_VALUE)
     → (k : ℕ) → (slice_index_or routines k no_routine).results ≤ GREATEST_VALUE
 routines_few [] few zero = omega arith
@@ -234,7 +241,7 @@ slots_reached r frame fit = slots_below r frame fit r.slots refl
 pub homes_reached : (program : Program) (r : Routine) (frame : Frame) → IsFrame r frame → AreHomes program r frame.saved frame.homes → AreReached frame 0 (length frame.homes)
 homes_reached program r frame fit right = slots_below r frame fit (length frame.homes) right.as_many
 
--- A function's slots fit its frame.
+-- The slots of a function fit in its frame.
 slots_end : (r : Routine) (frame : Frame) → IsFrame r frame → (past : ℕ) → past ≤ r.slots → past ≤ MOST_FRAME_WORDS
 slots_end r frame fit zero below = omega arith
 slots_end r frame fit (suc slot) below = omega (arith, fit.inside slot (omega (arith, below)), fit.small)
@@ -257,7 +264,7 @@ lines_at program frames function index here (i ∷ code) zero d below = omega ar
 lines_at program frames function index here (i ∷ code) (suc k) d below =
     omega (arith, lines_at program frames function (suc index) (here + count_of program frames function index i) code k d (omega arith))
 
--- The table of line numbers stays right when one more function is appended.
+-- The table of line numbers stays correct when one more function is appended to it.
 pub numbered_more : (program : Program) (frames : List Frame) (k : ℕ) (functions : List FunctionLines) (its : FunctionLines) → AreNumbered program frames k functions → IsNumbered program frames k its
     → AreNumbered program frames (k + 1) (functions ++ its ∷ [])
 numbered_more program frames k functions its are one = record {
@@ -278,7 +285,7 @@ pub routine_is_small : (program : Program) → IsPlain program → (k : ℕ) →
 routine_is_small program plain k below =
     omega (arith, plain.small, sum_by-drop_more size program.functions k no_routine below, sum_by-take-drop size program.functions k)
 
--- A function begins at a line from which all its lines fit.
+-- From the first line of each function on, all lines of the function fit in the text range.
 pub function_fits : (program : Program) (frames : List Frame) → IsPlain program → AreFrames program frames → (k : ℕ) → k < length program.functions
     → function_line program frames k + size (routine_at program k) ≤ most_lines
 function_fits program frames plain fit k below =

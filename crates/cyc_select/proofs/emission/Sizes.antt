@@ -1,4 +1,4 @@
--- The number of words of the code is bounded by the program's size.
+-- The number of words of the emitted code is bounded by the size of the plain program.
 use Rattle.std.proofs.Common.{◌≡◌, ℕ, suc, ◌+◌, ◌*◌, ◌≤◌, Bool, true, false, List, [], ◌∷◌, ◌++◌, length, refl, ap, arith, length-append}
 use Rattle.std.specs.Prelude.{Option, sum_by, ◌==◌, if◌then◌else◌}
 use Rattle.std.specs.List.{range_with_len}
@@ -51,7 +51,8 @@ words_ordinary : (is : List Instr) → all_words (ordinary is) ≡ length is
 words_ordinary [] = refl
 words_ordinary (i ∷ is) = omega (arith, sum_by-cons words_of (lines.Ordinary i) (ordinary is), words_ordinary is)
 
--- The number of words of lines that stand at a place.
+-- If lines stand at a place of the code, the words of this range of lines are the words of these
+-- lines.
 pub words_range : (code : Labelled) (a : ℕ) (ls : List Line) → Stands code a ls → sum_by (words_at code) (range_with_len a (length ls)) ≡ all_words ls
 words_range code a [] stands = refl
 words_range code a (l ∷ ls) (first, rest) =
@@ -79,7 +80,7 @@ module _ (program : Program) (frames : List Frame) (reads_few : (function : ℕ)
       words_either (is_tested operator right) (divide_code frame here (part_of operator) destination left right) (ordinary (plan_code frame (binary_plan operator left right) destination))
       (divide_words frame here (part_of operator) destination left right) (plan_words frame (binary_plan operator left right) destination)
 
-  -- Only a division takes as many words as a tested division.
+  -- The code of each operator takes at most as many words as a division with a test of its divisor.
   operator_words : (frame : Frame) (here : ℕ) (operator : BinaryOperator) (destination : ℕ) (left right : Operand) → all_words (operator_code frame here operator destination left right) ≤ operator_size operator
   operator_words frame here binary.Divide destination left right = omega (arith, tested_words frame here binary.Divide destination left right)
   operator_words frame here binary.Remainder destination left right = omega (arith, tested_words frame here binary.Remainder destination left right)
@@ -208,7 +209,7 @@ module _ (program : Program) (frames : List Frame) (reads_few : (function : ℕ)
       go true = omega arith
       go false = omega arith
 
-  -- The words of the code, with those that save registers, are within its size.
+  -- A function's code, with the words that save registers, takes at most as many words as its size.
   pub code_words : (function index here : ℕ) (code : List Instruction) → all_words (code_lines program frames function index here code) + losing code + returning code ≤ sum_by instruction_size code
   code_words function index here [] = omega arith
   code_words function index here (i ∷ code) =

@@ -1,4 +1,4 @@
--- Each line of the code is well-formed, and each part has few words.
+-- Each line of the selected code is well-formed, and each part of it has few words.
 use Rattle.std.proofs.Common.{◌≡◌, ℕ, zero, suc, ◌+◌, ◌-◌, ◌*◌, ◌/◌, ◌%◌, ◌^◌, ◌<◌, ◌≤◌, Bool, true, false, List, [], ◌∷◌, ◌++◌, length, take, Option, None, Some, slice_get, refl, ap, subst, ◌∙◌, arith}
 use Rattle.std.specs.Prelude.{◌==◌, if◌then◌else◌, slice_index_or}
 use Rattle.std.specs.List.{AllByRecursion}
@@ -87,7 +87,7 @@ module _ (program : Program) (well : IsWellFormed program) (words : HasWords pro
   abbrev Formed : List Line → Type 0
   Formed ls = AllByRecursion (IsFormedLine line_count) ls
 
-  -- The lines of an instruction are in the code.
+  -- The lines of each instruction that is not idle lie within the code.
   line_known : (function index : ℕ) (i : Instruction) → instruction_at program (record { function = function; index = index }) ≡ Some i → is_idle (frame_at frames function) index i ≡ false
       → instruction_line program frames function index + body_count program frames function i ≤ line_count
   line_known function index i at busy =
@@ -131,7 +131,7 @@ module _ (program : Program) (well : IsWellFormed program) (words : HasWords pro
         let four : ending_count program function ≡ 4 = ap (λ (b : Bool). if b then 4 else 0) is in
         ((omega (arith, long, four)), ((loaded_formed line_count frame routine within (value_register frame value) ARGUMENT value (omega (arith, fits, one))).0, ((refl, (omega arith)), ((refl, tt), tt))))
 
-    -- The saves and restores of callee-saved registers are well-formed.
+    -- The lines that save and restore callee-saved registers are well-formed.
     saved_fits : (j : ℕ) → j < 7 → 4 * (frame.first_saved + j) < 2 ^ 16
     saved_fits j below = (let f = fit.each function known in let inside = f.saved_inside j below in omega (arith, inside, f.small))
 
@@ -143,7 +143,7 @@ module _ (program : Program) (well : IsWellFormed program) (words : HasWords pro
     restores_formed j zero few = tt
     restores_formed j (suc count) few = ((refl, saved_fits j (omega (arith, few))), restores_formed (suc j) count (omega (arith, few)))
 
-    -- The save of the return address is well-formed.
+    -- The line that saves the return address is well-formed.
     way_formed : Formed (ordinary (way_code frame))
     way_formed = go frame.saves
       where
@@ -195,12 +195,12 @@ module _ (program : Program) (well : IsWellFormed program) (words : HasWords pro
         formed_append line_count (operand_code frame FIRST source) (global_code StoreWord (operand_register frame FIRST source) global) (operand_formed line_count frame routine within FIRST source there)
         (global_formed StoreWord (operand_register frame FIRST source) global below)
 
-    -- A line that may stand before a branch is well-formed.
+    -- An instruction's first line, which may be hoisted before a branch, is well-formed.
     first_formed : (i : Instruction) (n : ℕ) (x : Instr) → first_line frame i ≡ Some x → IsInRange program routine i → HasWord i → n + body_count program frames function i ≤ line_count
         → IsFormedLine line_count (lines.Ordinary x)
     first_formed i n x is in_range fits long = go i is in_range fits long
       where
-        -- The first line is well-formed if the lines of its instruction are.
+        -- The first line of an instruction is well-formed if all lines of this instruction are.
         at_head : (j : Instruction) → first_line frame j ≡ Some x → Formed (body program frames function n j) → IsFormedLine line_count (lines.Ordinary x)
         at_head j begun all = let head = first_begins program frames function j x begun n in (subst Formed head.1 all).0
 
@@ -220,7 +220,8 @@ module _ (program : Program) (well : IsWellFormed program) (words : HasWords pro
         go (plain.StoreGlobal global source) begun (a, b) words_fit below = at_head (plain.StoreGlobal global source) begun (global_stored_formed global source a (b, words_fit))
         go j begun inside words_fit below = absurd (none-some x begun)
 
-    -- An instruction with more than its first line is followed by another.
+    -- An instruction whose first line can be hoisted does not leave the code: the next instruction
+    -- follows it.
     stays : (i : Instruction) (x : Instr) → first_line frame i ≡ Some x → leaves i ≡ false
     stays (plain.Move destination source) x is = refl
     stays (plain.Unary operator destination operand) x is = refl
@@ -231,7 +232,8 @@ module _ (program : Program) (well : IsWellFormed program) (words : HasWords pro
     stays (plain.StoreGlobal global source) x is = refl
     stays i x is = absurd (none-some x is)
 
-    -- A hoisted line is well-formed, and so is the label after it.
+    -- A line hoisted before a branch is well-formed, and so is the label to which the branch then
+    -- jumps.
     module _ (target : ℕ) (condition : Condition) (x : Instr) (its : Hoists program frames function target condition x) where
       hoisted_formed : IsFormedLine line_count (lines.Ordinary x)
       hoisted_formed =
@@ -245,8 +247,8 @@ module _ (program : Program) (well : IsWellFormed program) (words : HasWords pro
           let counted = ap (λ (b : Bool). (if b then 0 else body_count program frames function its.i) + after_count program frames function its.i) its.busy in
           omega (arith, target_known function (target + 1) further, line_next program frames function target its.i its.at, counted, some)
 
-    -- The branch of `Enter` leads to the first line of the next place. The lemma `place_formed` proves that this line exists, which depends
-    -- on the next instruction.
+    -- `IsFormedBy` says nothing of the lines of `Enter`, because its branch jumps to the first line of the next instruction. The lemma
+    -- `place_formed` proves that this line exists.
     abbrev IsFormedBy : Instruction → List Line → Type 0
     IsFormedBy (plain.Enter callee) ls = Unit {0}
     IsFormedBy i ls = Formed ls

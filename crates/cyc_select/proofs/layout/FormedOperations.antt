@@ -1,4 +1,5 @@
--- The lines that read slots, compute and write slots are well-formed, and so are moves, loads and stores.
+-- The lines that read slots, compute and write slots are well-formed. The lines of moves, loads and
+-- stores are well-formed too.
 use Rattle.std.proofs.Common.{◌≡◌, ℕ, zero, suc, ◌+◌, ◌-◌, ◌/◌, ◌%◌, ◌^◌, ◌<◌, ◌≤◌, Bool, true, false, List, [], ◌∷◌, ◌++◌, length, Option, None, Some, refl, arith}
 use Rattle.std.specs.Prelude.{◌==◌, ◌&&◌, nat_lt, if◌then◌else◌}
 use Rattle.std.specs.List.{AllByRecursion}
@@ -50,7 +51,7 @@ use Rattle.cyc_select.specs.inside.Selection.{product_code, quotient_code, move_
 use Rattle.cyc_select.specs.inside.Selection.{regions_code, load_at, store_at, write_code}
 use Rattle.cyc_select.proofs.values.Plans.{AllOfTest, all_unary, all_binary, all_test}
 
--- Lines that are well-formed in code of `line_count` lines.
+-- `Formed` says that all lines are well-formed in code of `line_count` lines.
 module _ (line_count : ℕ) where
   abbrev Formed : List Line → Type 0
   Formed ls = AllByRecursion (IsFormedLine line_count) ls
@@ -103,7 +104,8 @@ module _ (line_count : ℕ) where
   outcome_formed outcomes.WhetherZero target = ((refl, (omega arith)), tt)
   outcome_formed outcomes.WhetherNotZero target = ((refl, tt), tt)
 
-  -- In a function's frame whose slots are reached by offsets.
+  -- The module's lemmas concern a function's frame in which every slot's offset from the frame
+  -- pointer fits 16 bits.
   module _ (frame : Frame) (routine : Routine) (within : (slot : ℕ) → slot < routine.slots → slot_word frame slot < MOST_FRAME_WORDS) where
     pub slot_fits : (slot : ℕ) → slot < routine.slots → slot_offset frame slot < 2 ^ 16
     slot_fits slot below = omega (arith, within slot below)
@@ -194,7 +196,7 @@ module _ (line_count : ℕ) where
 
     -- ---- operands, plans and tests
 
-    -- An operand of an existing slot, whose constant is a word.
+    -- `IsThere` says that an operand is an existing slot or a constant that is a word.
     abbrev pub IsThere : Operand → Type 0
     IsThere o = IsOperand routine o × IsOfWord o
 
@@ -218,7 +220,7 @@ module _ (line_count : ℕ) where
     operands_formed left right l r =
         formed_append (operand_code frame FIRST left) (operand_code frame SECOND right) (operand_formed FIRST left l) (operand_formed SECOND right r)
 
-    -- A plan whose operands exist and whose immediate fits.
+    -- `IsPlanThere` says that the operands of a plan exist and its immediate fits 16 bits.
     abbrev IsPlanThere : Plan → Type 0
     IsPlanThere plan = IsThere plan.left × IsThere plan.right × HalfFits plan.operation
 

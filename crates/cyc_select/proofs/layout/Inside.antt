@@ -1,4 +1,4 @@
--- Each place of a program lies within its code.
+-- Each code position of a program has its line within the emitted code.
 use Rattle.std.proofs.Common.{◌≡◌, ℕ, zero, suc, ◌+◌, ◌-◌, ◌<◌, ◌≤◌, Bool, true, false, List, [], ◌∷◌, ◌++◌, length, Some, slice_get, refl, sym, subst, arith, inl, inr}
 use Rattle.std.specs.Prelude.{if◌then◌else◌}
 use Rattle.std.proofs.lemmas.Bool.{cases_Bool, cases_lt}
@@ -27,7 +27,7 @@ use Rattle.cyc_select.proofs.emission.Counts.{operation_some, move_some, move_wo
 use Rattle.cyc_select.proofs.layout.Structure.{stand}
 use Rattle.cyc_select.proofs.effects.Sequences.{Stands, stands_front}
 
--- Lines that stand at a place lie within the code.
+-- If a nonempty sequence of lines stands at a line number, it lies within the code.
 pub within_code : (code : Labelled) (n : ℕ) (ls : List Line) → 0 < length ls → Stands code n ls → n + length ls ≤ length code.lines
 within_code code n [] some stands = absurd (omega (arith, some))
 within_code code n (l ∷ []) some (first, rest) = omega (arith, below_from_slice_get code.lines n l first)
@@ -43,7 +43,8 @@ some_either : (b : Bool) (m n : ℕ) → 0 < m → 0 < n → 0 < (if b then m el
 some_either true m n first second = first
 some_either false m n first second = second
 
--- Everything that an instruction of the program names exists.
+-- All functions, globals, slots and targets that an instruction of a well-formed program names
+-- exist.
 pub range_at : (program : Program) → IsWellFormed program → (place : CodePlace) (i : Instruction) → instruction_at program place ≡ Some i → IsInRange program (routine_at program place.function) i
 range_at program well place i at =
     All_at (IsInRange program (routine_at program place.function)) (routine_at program place.function).code place.index i
@@ -80,7 +81,7 @@ module _ (program : Program) (well : IsWellFormed program) (frames : List Frame)
     (stand : (function index : ℕ) (i : Instruction) → instruction_at program (record { function = function; index = index }) ≡ Some i
     → Stands code (instruction_line program frames function index) (place_lines program frames function index (instruction_line program frames function index) i ++ following program frames function i))
     (long : (function line : ℕ) (i : Instruction) → length (body program frames function line i) ≡ body_count program frames function i) where
-  -- The lines of an instruction that is not idle.
+  -- The lines of an instruction that is not idle stand at the line counted for this instruction.
   pub body_stands : (function index : ℕ) (i : Instruction) → instruction_at program (record { function = function; index = index }) ≡ Some i → is_idle (frame_at frames function) index i ≡ false
       → Stands code (instruction_line program frames function index) (body program frames function (instruction_line program frames function index) i ++ following program frames function i)
   body_stands function index i at busy =
@@ -99,7 +100,7 @@ module _ (program : Program) (well : IsWellFormed program) (frames : List Frame)
             (stands_front code line (body program frames function line i) (following program frames function i) (body_stands function index i at busy)),
       )
 
-  -- The place after an idle one is in the code.
+  -- The instruction after an idle one (one without lines) is in the function's code.
   idle_before : (function index : ℕ) (i : Instruction) → instruction_at program (record { function = function; index = index }) ≡ Some i → is_idle (frame_at frames function) index i ≡ true
       → index + 1 < length (routine_at program function).code
   idle_before function index i at idle = go i at idle
@@ -122,7 +123,8 @@ module _ (program : Program) (well : IsWellFormed program) (frames : List Frame)
           omega (arith, further, below)
       go j there is = absurd (let e : false ≡ true = is in cc)
 
-  -- The line of each place exists: it is the place's own, or that of a later place.
+  -- The line counted for each code position exists in the code: it belongs to this position or to a
+  -- later one.
   pub place_inside : (function index : ℕ) → index < length (routine_at program function).code → instruction_line program frames function index < length code.lines
   place_inside function index below = go (length (routine_at program function).code - suc index) index (omega (arith, below))
     where

@@ -1,4 +1,5 @@
--- The lines that belong to each place.
+-- Assigns to each code position of the plain program the lines of the emitted code that belong to
+-- it.
 use Rattle.std.proofs.Common.{◌≡◌, ℕ, zero, suc, ◌+◌, ◌-◌, ◌≤◌, List, Option, Some, None, slice_get, refl, ap, arith}
 use Rattle.std.specs.List.{range_with_len}
 use Rattle.cyc_plain.specs.declared.instruction.Instruction.{Instruction}
@@ -9,7 +10,7 @@ use Rattle.cyc_select.specs.inside.Slots.{saving_count}
 use Rattle.cyc_select.specs.inside.Counts.{after_count, place_count, instruction_line}
 use Rattle.cyc_select.proofs.layout.Lines.{line_next, line_first}
 
--- The lines after a call belong to the next place.
+-- Returns the number of lines that follow a call, which belong to the next code position.
 abbrev pub after_of : Program → List Frame → (function : ℕ) → Option Instruction → ℕ
 after_of program frames function (Some i) = after_count program frames function i
 after_of program frames function None = 0
@@ -29,7 +30,7 @@ own_of program frames place =
     (instruction_line program frames place.function place.index - previous_count program frames place.function code place.index)
     (previous_count program frames place.function code place.index + body_of program frames place.function place.index (slice_get code place.index))
 
--- The lines that belong to a place but stand before it exist.
+-- If lines that belong to a code position stand before its counted line, these lines exist.
 pub previous_fits : (program : Program) (frames : List Frame) (function index : ℕ) → previous_count program frames function (routine_at program function).code index ≤ instruction_line program frames function index
 previous_fits program frames function zero = omega (arith, line_first program frames function)
 previous_fits program frames function (suc index) = go (slice_get (routine_at program function).code index) refl

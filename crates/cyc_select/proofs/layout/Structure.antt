@@ -1,4 +1,4 @@
--- The code of a program as a whole: the lengths of its parts, and the line of each.
+-- The emitted code as a whole: the lengths of its parts, and the line at which each part begins.
 use Rattle.std.proofs.Common.{◌≡◌, ℕ, zero, suc, ◌+◌, ◌<◌, ◌≤◌, Bool, true, false, List, [], ◌∷◌, ◌++◌, length, take, Option, Some, None, slice_get, refl, subst, ◌∙◌, arith, length-append, append_assoc, ◌*◌}
 use Rattle.std.specs.Prelude.{◌==◌, if◌then◌else◌, slice_index_or}
 use Rattle.cyc_plain.specs.declared.instruction.Instruction.{Instruction}
@@ -278,7 +278,7 @@ module _ (program : Program) (frames : List Frame) (few_results : (function : �
         (subst (λ (m : ℕ). Stands all (here + m) (function_lines program frames (suc first) (here + function_count program frames first r) routines)) long
         (stands_back all here (routine_lines program frames first here r) (function_lines program frames (suc first) (here + function_count program frames first r) routines) stands)))
 
-  -- A piece of code stands at the line number equal to the length of the code before it.
+  -- A piece of code begins at the line whose number is the length of the code before this piece.
   stands_from : (front rest : List Line) (globals : List ℕ) → Stands (record { lines = front ++ rest; globals = globals }) (length front) rest
   stands_from front [] globals = tt
   stands_from front (l ∷ rest) globals = (
@@ -299,7 +299,8 @@ module _ (program : Program) (frames : List Frame) (few_results : (function : �
       subst (λ (f : ℕ). Stands (select_of program frames) (function_line program frames function) (routine_lines program frames f (function_line program frames function) (routine_at program function))) same
       (functions_stand (select_of program frames) 0 START_LINES program.functions function (function_line program frames function) known refl stand_functions)
 
-  -- A function begins with its saves, followed by its code.
+  -- The code of a function begins with the lines that save registers, followed by those of its
+  -- instructions.
   pub stand_saving : (function : ℕ) → function < length program.functions → Stands (select_of program frames) (function_line program frames function) (ordinary (saving_code (frame_at frames function)))
   stand_saving function known =
       stands_front (select_of program frames) (function_line program frames function) (ordinary (saving_code (frame_at frames function)))

@@ -1,4 +1,4 @@
--- Memory as a function from addresses to words: the words of the data range and the stack.
+-- Memory is viewed as a function from addresses to the words of the data range and the stack.
 use Rattle.std.proofs.Common.{◌≡◌, ◌≢◌, ℕ, ◌+◌, ◌-◌, ◌*◌, ◌%◌, ◌<◌, ◌≤◌, Bool, true, false, List, [], length, None, Some, refl, sym, ap, ◌∙◌, arith, inl, inr}
 use Rattle.std.specs.Prelude.{◌⊎◌, nat_le, nat_lt, if◌then◌else◌, is_some, Option, slice_index_or}
 use Rattle.std.proofs.lemmas.Bool.{cases_eq, le-leb, lt-ltb, le-ltb, lt-leb, and_from, and_left, and_right, cond-true, cond-false}
@@ -9,7 +9,7 @@ use Rattle.cyc_machine_model.proofs.MemoryLaws.{place_of-stored, loaded-stored_g
 use Rattle.cyc_plain.specs.inside.State.{put}
 use Rattle.cyc_plain.proofs.SlotLaws.{put-same, put-other}
 
--- The address of a word of the data range or the stack, for ranges of these sizes.
+-- `IsData` says that an address is that of an aligned word of the data range of this size.
 abbrev pub IsData : (globals : ℕ) → ℕ → Type 0
 IsData globals a = (a % 4 ≡ 0) × (data_base ≤ a) × (a < data_base + 4 * globals)
 
@@ -19,7 +19,8 @@ IsStack stack a = (a % 4 ≡ 0) × (stack_end - 4 * stack ≤ a) × (a < stack_e
 abbrev pub IsCell : (globals stack : ℕ) → ℕ → Type 0
 IsCell globals stack a = IsData globals a ⊎ IsStack stack a
 
--- The word of a live block at an address in the store's pages.
+-- `IsLive` says that `word` is the word of a live block at the address `a`, which lies in the
+-- store's pages.
 pub record IsLive (store : StoreState) (a word : ℕ) : Type 0 where
   pub aligned : a % 4 ≡ 0
   pub low : STORE_BASE ≤ a
@@ -27,11 +28,11 @@ pub record IsLive (store : StoreState) (a word : ℕ) : Type 0 where
   pub few : store.pages ≤ MOST_PAGES
   pub there : word_at store a ≡ Some word
 
--- The word that a load finds at an address.
+-- Returns the word that a load from an address reads.
 abbrev pub cell : Memory → ℕ → ℕ
 cell m a = loaded m (place_of m a)
 
--- The memory of labelled code has no text.
+-- Returns the memory of the labelled machine, whose text range is empty.
 abbrev pub memory : (globals stack : List ℕ) → StoreState → Memory
 memory globals stack store = record { text = []; globals = globals; stack = stack; store = store }
 
@@ -70,7 +71,7 @@ place_of-live globals stack store a word few_globals few_stack live =
     ∙ (cond-false _ _ _ (before_is_outside (stack_base stack) (length stack) a (omega (arith, live.high, live.few)))
     ∙ cond-true _ _ _ (between_is_within store_base (words_per_page * store.pages) a live.low live.high)))
 
--- The words of the data range and the stack do not depend on the store.
+-- The words of the data range and the stack do not change if the store (the heap) changes.
 pub cell-store : (globals stack : List ℕ) (store other : StoreState) (a : ℕ) → length globals ≤ 1048576 → length stack ≤ 1048576 → IsCell (length globals) (length stack) a
     → cell (memory globals stack other) a ≡ cell (memory globals stack store) a
 cell-store globals stack store other a few_globals few_stack (inl in_data) =
@@ -80,7 +81,7 @@ cell-store globals stack store other a few_globals few_stack (inr on_stack) =
     ap (loaded (memory globals stack other)) (place_of-stack globals stack other a few_globals few_stack on_stack)
     ∙ sym (ap (loaded (memory globals stack store)) (place_of-stack globals stack store a few_globals few_stack on_stack))
 
--- A store to memory changes one word of its contents.
+-- A store instruction changes one word of the data range or the stack and no other.
 module _ (globals stack : List ℕ) (store : StoreState) (few_globals : length globals ≤ 1048576) (few_stack : length stack ≤ 1048576) where
   abbrev m : Memory
   m = memory globals stack store

@@ -1,4 +1,4 @@
--- The words of an instruction's operands: each is a constant, lies in memory, or is in the register of its slot.
+-- Each operand of an instruction is a constant, or its word is in memory or in the register of its slot.
 use Rattle.std.proofs.Common.{◌≡◌, ℕ, ◌*◌, ◌<◌, ◌≤◌, true, List, Option, Some, None, refl, subst}
 use Rattle.cyc_plain.specs.inside.Uses.{is_slot, reads}
 use Rattle.cyc_machine_model.specs.State.{globals_length, words_per_call}
@@ -47,7 +47,7 @@ module _ (program : Program) (well : IsWellFormed program) (frames : List Frame)
   abbrev pub Held : Operand → Type 0
   Held o = IsHeld globals_length (words_per_call * calls) frame (r FRAME) w r c.active.slots o
 
-  -- The instruction reads the operand's slot.
+  -- `Uses` says that an instruction reads the slot that an operand names, if the operand is a slot.
   abbrev pub Uses : Instruction → Operand → Type 0
   Uses i o = (slot : ℕ) → is_slot o slot ≡ true → reads (routine_at program c.active.function).results i slot ≡ true
 

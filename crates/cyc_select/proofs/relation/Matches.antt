@@ -1,4 +1,5 @@
--- The simulation relation between states of the labelled machine and of the plain machine.
+-- The simulation relation between states of the labelled machine (MIPS code with line numbers) and
+-- of the plain machine (three-address code).
 use Rattle.std.proofs.Common.{◌≡◌, ◌≢◌, ℕ, suc, ◌+◌, ◌-◌, ◌*◌, ◌<◌, ◌≤◌, Bool, true, false, List, [], ◌∷◌, length, Option, Some, refl, sym, ap, subst, ◌∙◌, arith, inl}
 use Rattle.std.specs.Prelude.{◌⊎◌, ◌==◌, slice_index, if◌then◌else◌}
 use Rattle.std.specs.List.{AllByRecursion}
@@ -39,16 +40,17 @@ use Rattle.cyc_select.proofs.relation.Waiting.{preserved_of, Finds, after_line}
 use Rattle.cyc_select.proofs.relation.Standing.{under_way, entering, stage_of, Standing, slot_address, standing_registers, standing_at, standing_slot, standing_unkept}
 use Rattle.cyc_select.proofs.relation.Values.{Caches, caches_past, made_caches}
 
--- The registers of a function's results.
+-- Returns the number of the register that holds the `k`-th word of a function's results.
 abbrev pub result_register : ℕ → ℕ
 result_register k = slice_index (2 ∷ 3 ∷ 5 ∷ []) k
 
--- The observable effect of a step of the plain machine has happened, but the lines of its place are not finished.
+-- `After` says that the observable effect of a step of the plain machine has happened, but not all lines of the
+-- instruction have been executed.
 abbrev pub After : (program : Program) (pages calls : ℕ) → Configuration → State → Type 0
 After program pages calls c t =
     (labelled.status_of t ≡ simulation.Running) × (next : states.State) × Step program pages calls (states.Running c) next × (labelled.seen_of t ≡ states.seen_of next)
 
--- An instruction that is always followed by the next one.
+-- Returns true if control passes from an instruction only to the next one.
 abbrev pub is_straight : Instruction → Bool
 is_straight (plain.Move destination source) = true
 is_straight (plain.Unary operator destination operand) = true
@@ -58,7 +60,8 @@ is_straight (plain.WriteByte source) = true
 is_straight (plain.StoreGlobal global source) = true
 is_straight i = false
 
--- After its first line an instruction has another, or it leads only to the next one.
+-- `HasMore` says that an instruction has another line after its first one, or passes control only
+-- to the next instruction.
 abbrev pub HasMore : Frame → Instruction → Type 0
 HasMore frame (plain.Branch comparison left right target) = 0 < test_count frame (test_of comparison left right)
 HasMore frame i = is_straight i ≡ true
@@ -67,7 +70,8 @@ module _ (program : Program) (well : IsWellFormed program) (frames : List Frame)
   abbrev pub At : ℕ → (out input : List ℕ) → (r : Words) (w : Contents) → labelled.Configuration → Type 0
   At line out input r w run = Now code formed addresses globals_length (words_per_call * calls) line out input r w run
 
-  -- The next line is the first of the instruction's own.
+  -- `Ready` relates a plain configuration to a machine state in which the first line of the next
+  -- instruction comes next.
   pub record Ready (c : Configuration) (t : State) : Type 0 where
     pub run : labelled.Configuration
     pub r : Words
@@ -79,8 +83,8 @@ module _ (program : Program) (well : IsWellFormed program) (frames : List Frame)
     pub standing : Standing program frames addresses pages calls c r w base back (stage_of frames c) c.active.slots
     pub caches : Caches program frames c.active.function c.active.next r c.active.slots
 
-  -- A function was just entered: the lines that save registers come before the instruction's own. The arguments of the entered function are
-  -- where callers put its parameters.
+  -- `Entered` relates states after a call: the lines that save registers come before those of the function's first instruction. The
+  -- arguments are where callers put them.
   pub record Entered (c : Configuration) (t : State) : Type 0 where
     pub run : labelled.Configuration
     pub r : Words
@@ -94,8 +98,8 @@ module _ (program : Program) (well : IsWellFormed program) (frames : List Frame)
     pub there : (slot : ℕ) → slot < (routine_at program c.active.function).parameters → is_kept (coming (frame_at frames c.active.function)) slot ≡ true
         → w.words (base + slot_offset (frame_at frames c.active.function) slot) ≡ c.active.slots slot
 
-  -- A call has just returned: the lines after it come before the next instruction's own. The results are in the result registers, and the
-  -- callee-saved registers are preserved.
+  -- `Back` relates states after a return: the lines that follow the call come before those of the next instruction. The results are in
+  -- the result registers, and the callee-saved registers are preserved.
   pub record Back (c : Configuration) (t : State) : Type 0 where
     pub run : labelled.Configuration
     pub r : Words
@@ -118,7 +122,8 @@ module _ (program : Program) (well : IsWellFormed program) (frames : List Frame)
     pub finds : Finds program frames c.active.function index callee arguments count result (preserved_of r) waiting
     pub slots : c.active.slots ≡ copied values first (routine_at program callee).results waiting result
 
-  -- An exception has just reached a handler of this call: the handler's lines for it come next, and its tag and value are in registers.
+  -- `Landed` relates states in which an exception has just reached a handler of this call. The handler's lines come next, and the
+  -- exception's tag and value are in registers.
   pub record Landed (c : Configuration) (t : State) : Type 0 where
     pub run : labelled.Configuration
     pub r : Words
@@ -135,8 +140,8 @@ module _ (program : Program) (well : IsWellFormed program) (frames : List Frame)
     pub standing : Standing program frames addresses pages calls (record c { active = record c.active { handlers = handlers } }) r w base (w.words (base + 4 * (frame_at frames c.active.function).return_address)) (under_way true) waiting
     pub slots : c.active.slots ≡ put (put waiting first (r 4)) (suc first) (r 5)
 
-  -- The first line of this instruction was already executed, as a copy before the branch to it. `before` is the configuration before that
-  -- line.
+  -- `Begun` relates states in which the first line of this instruction was already executed, as a copy hoisted before the branch to it.
+  -- `before` is the configuration before that line.
   pub record Begun (c : Configuration) (t : State) : Type 0 where
     pub run : labelled.Configuration
     pub before : labelled.Configuration
@@ -155,17 +160,19 @@ module _ (program : Program) (well : IsWellFormed program) (frames : List Frame)
   Matches (states.Ended ending out input) t = t ≡ Ended ending out input
   Matches (states.Stuck out input) t = ⊥
 
-  -- A step of the plain machine leads to a matching state.
+  -- `Reached` says that a step of the plain machine leads to a state that matches the state `t` of
+  -- the labelled machine.
   abbrev pub Reached : Configuration → State → Type 0
   Reached c t = (next : states.State) × Step program pages calls (states.Running c) next × Matches next t
 
-  -- The number of places of the function's code still ahead.
+  -- Returns the number of instructions of the current function from the next one on.
   abbrev pub weight : states.State → ℕ
   weight (states.Running c) = length (routine_at program c.active.function).code - c.active.next
   weight (states.Ended ending out input) = 0
   weight (states.Stuck out input) = 0
 
-  -- A step of the plain machine to the next place that the labelled machine matches without a step.
+  -- `Passed` says that the plain machine steps to the next instruction and its new state already
+  -- matches `t`, so the labelled machine need not step.
   abbrev pub Passed : Configuration → State → Type 0
   Passed c t =
       (next : states.State) × Step program pages calls (states.Running c) next × Matches next t × (weight next < weight (states.Running c))
@@ -173,7 +180,8 @@ module _ (program : Program) (well : IsWellFormed program) (frames : List Frame)
   pub within : (d : Configuration) → demand d.store ≤ pages → suc (length d.frames) ≤ calls → is_within pages calls (states.Running d) ≡ true
   within d paged deep = and_from _ _ (le-leb (demand d.store) pages paged) (le-leb (suc (length d.frames)) calls deep)
 
-  -- A step by an instruction that stays within the limits.
+  -- If an allowed choice of an instruction's effect stays within the limits, the plain machine
+  -- performs this step.
   pub steps_to : (c : Configuration) (choice : Choice) (i : Instruction) (next : states.State) → IsAllowed program (states.Running c) choice
       → instruction_at program (states.place_of (states.Running c)) ≡ Some i → performed program choice c i ≡ next → is_within pages (limit_of (Some i) calls) next ≡ true → Step program pages calls (states.Running c) next
   steps_to c choice i next allowed at does keeps =
@@ -188,13 +196,15 @@ module _ (program : Program) (well : IsWellFormed program) (frames : List Frame)
 
   module _ (c : Configuration) (i : Instruction) (at : instruction_at program (states.place_of (states.Running c)) ≡ Some i) (free : calls_nothing i ≡ true) (r : Words) (w : Contents) (base back : ℕ)
       (s : Standing program frames addresses pages calls c r w base back (stage_of frames c) c.active.slots) (caches : Caches program frames c.active.function c.active.next r c.active.slots) where
-    -- Writes the slot in memory, if its home includes memory.
+    -- A write to a slot, in memory only if the slot's home includes memory, keeps the relation
+    -- between the two machines.
     put_slot : (b : Bool) (slot word : ℕ) → slot < (routine_at program c.active.function).slots → is_kept (frame_at frames c.active.function) slot ≡ b
         → Standing program frames addresses pages calls c r (if b then written w (base + slot_offset (frame_at frames c.active.function) slot) word else w) base back (stage_of frames c) (put c.active.slots slot word)
     put_slot true slot word below kept = standing_slot program well frames fit addresses pages calls few c r w base back (stage_of frames c) c.active.slots s slot word below
     put_slot false slot word below unkept = standing_unkept program well frames fit addresses pages calls few c r w base back (stage_of frames c) c.active.slots s slot word unkept
 
-    -- A step that writes a slot, and may read input, leads to a matching state.
+    -- A step that writes a slot, and may read input, leads to a matching state of the labelled
+    -- machine.
     pub reached_gives : (destination word : ℕ) (input : List ℕ) (line : ℕ) (run : labelled.Configuration) (r' : Words) (w' : Contents)
         → destination < (routine_at program c.active.function).slots
         → ((slot : ℕ) → slot ≢ destination → writes program i slot ≡ false) → writes program i destination ≡ true → leads i c.active.next (c.active.next + 1) ≡ true
@@ -230,7 +240,7 @@ module _ (program : Program) (well : IsWellFormed program) (frames : List Frame)
           caches = made_caches program frames c.active.function (fit.homes c.active.function s.known) c.active.next destination word r r' c.active.slots i at unwritten gets led result others caches;
         }))
 
-    -- The state after an instruction that goes to a place of the same code and may print.
+    -- A step that stays in the function's code and may print leads to a state related by `Ready`.
     pub ready_by : (d : Configuration) (line : ℕ) (run : labelled.Configuration) (r' : Words) (w' : Contents)
         → d.active.function ≡ c.active.function → d.active.base ≡ c.active.base → d.active.handlers ≡ c.active.handlers → d.active.slots ≡ c.active.slots → d.frames ≡ c.frames → d.globals ≡ c.globals → d.store ≡ c.store → d.input ≡ c.input
         → line ≡ instruction_line program frames d.active.function d.active.next
@@ -256,7 +266,8 @@ module _ (program : Program) (well : IsWellFormed program) (frames : List Frame)
           caches = subst (λ (n : ℕ). Caches program frames n d.active.next r' d.active.slots) (sym function_same) cached;
         }
 
-    -- The step of an instruction that goes to a place of the same code and may print.
+    -- The plain machine performs a step of an instruction that stays in the function's code and may
+    -- print.
     pub steps_by : (d : Configuration) (u : State) → Ready d u → performed program zeros c i ≡ states.Running d → Step program pages calls (states.Running c) (states.Running d)
     steps_by d u ready does =
         steps_to c zeros i (states.Running d) (zeros_at program c i at free) at does
@@ -276,7 +287,7 @@ module _ (program : Program) (well : IsWellFormed program) (frames : List Frame)
         (λ slot k has. unwritten slot) (λ slot k has. ap (λ (x : Words). x slot) slots_same) values caches) now in
         (states.Running d, steps_by d (Running run) ready does, inl ready)
 
-  -- The step of a check of stack room that succeeds.
+  -- If the check for stack space succeeds, the plain machine's step leads to a matching state.
   pub reached_entering : (c : Configuration) (callee : ℕ) (choice : Choice) (run : labelled.Configuration) (r : Words) (w : Contents) (base back line : ℕ)
       → instruction_at program (states.place_of (states.Running c)) ≡ Some (plain.Enter callee) → IsAllowed program (states.Running c) choice
       → Standing program frames addresses pages calls c r w base back (stage_of frames c) c.active.slots → Caches program frames c.active.function c.active.next r c.active.slots

@@ -1,5 +1,5 @@
--- The words that loads and stores find, in the machine's memory: those of live blocks in its store, those of globals in its data range, and
--- those of slots in the frames of calls.
+-- The words that loads and stores of a plain program access are in the machine's memory: those of live blocks in its store, those of
+-- globals in its data range, and those of slots in the stack frames.
 use Rattle.std.proofs.Common.{◌≡◌, ◌≢◌, ℕ, suc, ◌+◌, ◌*◌, ◌%◌, ◌<◌, ◌≤◌, true, false, List, [], ◌∷◌, length, Option, Some, None, slice_get, refl, sym, ap, subst, ◌∙◌, arith, inl, inr}
 use Rattle.std.specs.Prelude.{nat_lt}
 use Rattle.std.proofs.lemmas.Bool.{cases_eq, ltb-true, or_cases}
@@ -45,18 +45,20 @@ pub data Sort : Type 0 where
   OfBlock : Sort
   OfCell : Sort
 
--- The word at an address: of a live block, or of the data range or the stack.
+-- `IsWordAt` says that `word` is at the address `a`, in a live block or in the data range or the
+-- stack.
 abbrev pub IsWordAt : Sort → (globals stack : ℕ) → Contents → (a word : ℕ) → Type 0
 IsWordAt OfBlock globals stack w a word = IsLive w.store a word × IsWord word
 IsWordAt OfCell globals stack w a word = IsCell globals stack a × (w.words a ≡ word)
 
--- The contents after the word at an address is replaced.
+-- Returns the contents of memory after the word at an address is replaced.
 abbrev pub placed : Sort → Contents → (a word : ℕ) → Contents
 placed OfBlock w a word = saved_in w a word
 placed OfCell w a word = written w a word
 
 module _ (code : Labelled) (formed : IsFormed code) (addresses : ℕ → ℕ) (globals stack : ℕ) where
-  -- The lines that load or store a word of the data range or the stack.
+  -- An instruction that loads a word of the data range or the stack, followed by a walk, is a walk
+  -- (stretch of a run).
   cell_read : {Late : State → Type 0} (width : Width) (n k lo hi : ℕ) (out input : List ℕ) (Goal : State → Type 0) (r : Words) (w : Contents) (c : labelled.Configuration) (target base : Register) (offset : ℕ)
       → Now code formed addresses globals stack k out input r w c → slice_get code.lines k ≡ Some (lines.Ordinary (Memory (load_op width) target base offset)) → lo ≤ k → IsWritable target.number → IsCell globals stack (word_place width (memory_address (r base.number) offset))
       → ((d : labelled.Configuration) → Now code formed addresses globals stack (k + 1) out input (put r target.number (loaded_part width (memory_address (r base.number) offset) (w.words (word_place width (memory_address (r base.number) offset))))) w d → Walk code formed addresses globals stack n (k + 1) hi out Late Goal (Running d))
@@ -75,7 +77,8 @@ module _ (code : Labelled) (formed : IsFormed code) (addresses : ℕ → ℕ) (g
   cell_written OneByte n k lo hi out input Goal r w c source base offset now stands from cell rest =
       walk_block code formed addresses globals stack (Memory StoreByte source base offset ∷ []) n k lo hi out input Goal r w c now (stands, tt) (cell, tt) from rest
 
-  -- A walk loads the word at an address into a register.
+  -- An instruction that loads the word at an address into a register, followed by a walk, is a walk
+  -- (stretch of a run).
   pub walk_read : {Late : State → Type 0} (width : Width) (sort : Sort) (n k lo hi : ℕ) (out input : List ℕ) (Goal : State → Type 0) (r : Words) (w : Contents) (c : labelled.Configuration) (target base : Register) (offset word : ℕ)
       → Now code formed addresses globals stack k out input r w c → slice_get code.lines k ≡ Some (lines.Ordinary (Memory (load_op width) target base offset)) → lo ≤ k → IsWritable target.number
       → IsWordAt sort globals stack w (word_place width (memory_address (r base.number) offset)) word
@@ -91,7 +94,7 @@ module _ (code : Labelled) (formed : IsFormed code) (addresses : ℕ → ℕ) (g
       (rest d (now_is code formed addresses globals stack (k + 1) out input (put r target.number (loaded_part width (memory_address (r base.number) offset) (w.words (word_place width (memory_address (r base.number) offset))))) w (put r target.number (loaded_part width (memory_address (r base.number) offset) word)) w d
       (ap (λ (v : ℕ). put r target.number (loaded_part width (memory_address (r base.number) offset) v)) is) refl later))))
 
-  -- A store instruction followed by a walk is a walk.
+  -- A store instruction followed by a walk is a walk (stretch of a run).
   pub walk_write : {Late : State → Type 0} (width : Width) (sort : Sort) (n k lo hi : ℕ) (out input : List ℕ) (Goal : State → Type 0) (r : Words) (w : Contents) (c : labelled.Configuration) (source base : Register) (offset old : ℕ)
       → Now code formed addresses globals stack k out input r w c → slice_get code.lines k ≡ Some (lines.Ordinary (Memory (store_op width) source base offset)) → lo ≤ k
       → IsWordAt sort globals stack w (word_place width (memory_address (r base.number) offset)) old
@@ -135,7 +138,7 @@ module _ (program : Program) (frames : List Frame) (function : ℕ) (right : Are
 -- ---- a store to a slot of a waiting call
 
 module _ (program : Program) (a word : ℕ) where
-  -- The calls keep their addresses.
+  -- If no frame of a waiting call changes, the addresses of the calls' slots are unchanged.
   based_waiting : (frames : List Frame) (base function place : ℕ) (waiting : List states.Frame) → AreBased frames base function place waiting → AreBased frames base function place (with_waiting program waiting a word)
   based_waiting frames base function place [] based = based
   based_waiting frames base function place (f ∷ waiting) (here, based) =
@@ -146,7 +149,7 @@ module _ (program : Program) (a word : ℕ) where
       go (Some number) others = (here, based)
       go None others = (here, others)
 
-  -- The records of the calls' handlers are unchanged.
+  -- The handler records of the calls are unchanged if the chain of records that they continue is.
   records_map : (frames : List Frame) (addresses : ℕ → ℕ) (base function : ℕ) (rest rest' : ℕ → Type 0) → ((n : ℕ) → rest n → rest' n) → (newest : ℕ) (handlers : List states.Handler)
       → AreRecords program frames addresses base function rest newest handlers → AreRecords program frames addresses base function rest' newest handlers
   records_map frames addresses base function rest rest' goes newest [] records = goes newest records
@@ -178,7 +181,8 @@ module _ (program : Program) (a word : ℕ) where
       (λ n others. beyond_waiting frames addresses base function waiting n others) newest handlers records
 
 module _ (program : Program) (well : IsWellFormed program) (frames : List Frame) (fit : AreFrames program frames) (addresses : ℕ → ℕ) where
-  -- The word of a waiting call's slot at an address, and the calls after it is written.
+  -- `IsAbove` says that `word` is the word of a waiting call's slot at the address `a`, and that
+  -- the chain of calls stays correct when it is written.
   record IsAbove (w : Contents) (base back : ℕ) (left : Words) (function : ℕ) (waiting : List states.Frame) (a word : ℕ) : Type 0 where
     low : base + frame_size ≤ a
     high : a < stack_end
@@ -207,13 +211,15 @@ module _ (program : Program) (well : IsWellFormed program) (frames : List Frame)
       frame : IsFrame (routine_at program f.caller.function) its
       frame = fit.each f.caller.function known
 
-      -- The registers that the call restores are unchanged.
+      -- If no saved register lies at the written address, the words that the call restores to
+      -- callee-saved registers are unchanged.
       left_there : (new : ℕ) → ((j : ℕ) → j < 7 → a ≢ above + 4 * (its.first_saved + j)) → (j : ℕ) → j < 7 → LeftBy its above left (written w a new) j ≡ LeftBy its above left w j
       left_there new apart =
           left_same its.first_saved its.saved above left left w (written w a new) (λ j past high. refl)
           (λ j below high. put-other w.words a (above + 4 * (its.first_saved + j)) new (λ e. apart j high (sym e)))
 
-      -- The address is that of the call's own slot.
+      -- If the address is that of a slot of the newest waiting call, the slot's word is found in
+      -- this call's frame.
       here_found : (slot : ℕ) → slot_at program f.caller a ≡ Some slot → f.caller.slots slot ≡ word → IsAbove w base back left function (f ∷ waiting) a word
       here_found slot is value =
           let (address, pinned) = numbered-from (is_pinned (routine_at program f.caller.function).code) f.caller.base a slot is in
@@ -288,13 +294,14 @@ module _ (program : Program) (well : IsWellFormed program) (frames : List Frame)
 
 module _ (program : Program) (well : IsWellFormed program) (frames : List Frame) (fit : AreFrames program frames) (addresses : ℕ → ℕ) (pages calls : ℕ) (few : calls ≤ 4096)
     (c : Configuration) (r : Words) (w : Contents) (base back : ℕ) (stage : Stage) (s : Standing program frames addresses pages calls c r w base back stage c.active.slots) (a word : ℕ) where
-  -- The word at an address is in the machine's memory and can be written there.
+  -- `IsFound` says that the word at an address of the plain program is in the machine's memory and
+  -- can be written there.
   pub record IsFound : Type 0 where
     pub sort : Sort
     pub at : IsWordAt sort globals_length (words_per_call * calls) w a word
     pub standing : (new : ℕ) → IsWord new
         → Standing program frames addresses pages calls (with_memory program c a new) r (placed sort w a new) base back stage (with_memory program c a new).active.slots
-    -- The word is not that of a slot with a register.
+    -- A write through the address does not change a slot that has a register.
     pub values : (new slot k : ℕ) → value_register (frame_at frames c.active.function) slot ≡ Some k → (with_memory program c a new).active.slots slot ≡ c.active.slots slot
 
   abbrev Stands : Configuration → Contents → Type 0
@@ -309,7 +316,7 @@ module _ (program : Program) (well : IsWellFormed program) (frames : List Frame)
   place_is : c.active.base ≡ base + 4 * (frame_at frames c.active.function).first_slot
   place_is = based_here frames base c.active.function c.active.base c.frames s.based
 
-  -- A load from a global's address finds the global's word.
+  -- A load from the address of a global reads the word of this global in the machine's data range.
   global_found : (number : ℕ) → range_of a ≡ OfGlobals → global_at program a ≡ Some number → c.globals number ≡ word → IsFound
   global_found number is at value =
       let (address, asked) = numbered-from (λ (n : ℕ). nat_lt n (length program.globals)) GLOBALS_BASE a number at in
@@ -329,7 +336,8 @@ module _ (program : Program) (well : IsWellFormed program) (frames : List Frame)
         values = λ new slot k has. ap (λ (d : Configuration). d.active.slots slot) (writes new);
       }
 
-  -- The word of a slot of the active call is found.
+  -- A load from the address of a slot of the active call reads this slot's word in the machine's
+  -- stack.
   slot_found : (slot : ℕ) → range_of a ≡ OfSlots → slot_at program c.active a ≡ Some slot → c.active.slots slot ≡ word → IsFound
   slot_found slot is at value =
       let its : Frame = frame_at frames c.active.function in
@@ -357,7 +365,7 @@ module _ (program : Program) (well : IsWellFormed program) (frames : List Frame)
             (λ same. unpinned program frames c.active.function (fit.homes c.active.function s.known) slot k pinned (ap (value_register (frame_at frames c.active.function)) (sym same) ∙ has));
       }
 
-  -- The word of a slot of a waiting call is found.
+  -- A load from the address of a waiting call's slot reads this slot's word in the machine's stack.
   waiting_found : range_of a ≡ OfSlots → slot_at program c.active a ≡ None → word_waiting program c.frames a ≡ Some word → IsFound
   waiting_found is none there =
       let its : Frame = frame_at frames c.active.function in

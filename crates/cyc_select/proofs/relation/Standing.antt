@@ -1,5 +1,5 @@
--- The calls of a plain program in the memory of the labelled machine. The frames of the calls lie one below another, from the end of the
--- stack on. Each frame contains the call's slots and, if the call waits, its return address.
+-- How the calls of a plain program are represented in the memory of the labelled machine. The frames of the calls lie one below another,
+-- from the end of the stack on. Each frame contains the call's slots and, if the call waits, its return address.
 use Rattle.std.proofs.Common.{◌≡◌, ◌≢◌, ℕ, suc, ◌+◌, ◌*◌, ◌%◌, ◌^◌, ◌<◌, ◌≤◌, Bool, true, false, List, length, refl, sym, ap, subst, ◌∙◌, arith, inl, inr}
 use Rattle.std.specs.List.{AllByRecursion}
 use Rattle.cyc_plain.specs.declared.limits.TheConstants.{MOST_FRAME_WORDS}
@@ -26,8 +26,8 @@ use Rattle.cyc_select.proofs.relation.Stores.{IsLaid, saved_laid, saved_regions}
 use Rattle.cyc_select.proofs.effects.Views.{Contents, written, saved_in}
 use Rattle.cyc_select.proofs.relation.Waiting.{frame_size, Holds, preserved_of, Left, LeftBy, left_same, Chain, chain_kept, Lies, chain_lies, IsNewest, AreBased, IsBack, back_in, back_by}
 
--- The stage of a call: its function was just entered and has saved nothing yet, or it has saved its registers and perhaps its return
--- address.
+-- `Stage` says how far a call is: its function was just entered and has saved nothing yet, or it has saved its registers and, if
+-- `in_frame` holds, its return address.
 pub data Stage : Type 0 where
   entering : Stage
   under_way : (in_frame : Bool) → Stage
@@ -36,16 +36,18 @@ abbrev pub in_frame_at : Stage → Bool
 in_frame_at entering = false
 in_frame_at (under_way in_frame) = in_frame
 
--- The number of registers saved so far.
+-- Returns the number of registers that a call has saved at a stage.
 abbrev pub saved_at : Stage → Frame → ℕ
 saved_at entering frame = 0
 saved_at (under_way in_frame) frame = frame.saved
 
--- The stage of an entered function, by whether it saves its return address.
+-- Returns the stage of a call after its entry code, which saves the return address only if the
+-- frame has a word for it.
 abbrev pub stage_of : List Frame → Configuration → Stage
 stage_of frames c = under_way (frame_at frames c.active.function).saves
 
--- An active call with these slots, in the machine's memory.
+-- `Standing` says that the active call, with these slots, and the waiting calls are in the
+-- machine's registers and memory.
 pub record Standing (program : Program) (frames : List Frame) (addresses : ℕ → ℕ) (pages calls : ℕ) (c : Configuration) (r : Words) (w : Contents) (base back : ℕ) (stage : Stage) (slots : Words) : Type 0 where
   pub known : c.active.function < length program.functions
   pub base_is : r FRAME ≡ base
@@ -53,7 +55,7 @@ pub record Standing (program : Program) (frames : List Frame) (addresses : ℕ �
   pub lowest : r LOWEST + frame_size * calls ≡ stack_end
   pub deep : suc (length c.frames) ≤ calls
   pub holds : Holds program frames c.active.function base w slots
-  -- The words that it leaves in the callee-saved registers when it returns.
+  -- `left` are the words that the active call leaves in the callee-saved registers when it returns.
   pub left : Words
   pub chain : Chain program frames addresses w base back left c.active.function c.frames
   pub leaves : (j : ℕ) → j < 7
@@ -89,7 +91,8 @@ module _ (program : Program) (well : IsWellFormed program) (frames : List Frame)
         go entering = omega arith
         go (under_way in_frame) = own_frame.most_saved
 
-    -- The words of the frame do not depend on other registers and other memory.
+    -- The words that a call leaves in the callee-saved registers depend only on the unsaved
+    -- registers and on the words saved in its frame.
     leaves_kept : (r' : Words) (w' : Contents) → ((j : ℕ) → saved_at stage (frame_at frames c.active.function) ≤ j → j < 7 → preserved_of r' j ≡ preserved_of r j)
         → ((j : ℕ) → j < 7 → w'.words (base + 4 * ((frame_at frames c.active.function).first_saved + j)) ≡ w.words (base + 4 * ((frame_at frames c.active.function).first_saved + j)))
         → (j : ℕ) → j < 7 → Left (frame_at frames c.active.function).first_saved (saved_at stage (frame_at frames c.active.function)) base (preserved_of r') w' j ≡ s.left j
@@ -97,7 +100,7 @@ module _ (program : Program) (well : IsWellFormed program) (frames : List Frame)
         left_same (frame_at frames c.active.function).first_saved (saved_at stage (frame_at frames c.active.function)) base (preserved_of r) (preserved_of r') w w' same (λ i below small. words i small) j high
         ∙ s.leaves j high
 
-    -- The slots of the function lie within its frame.
+    -- The slots of the active function lie within its frame.
     pub slot_inside : (slot : ℕ) → slot < (routine_at program c.active.function).slots → slot_word (frame_at frames c.active.function) slot < MOST_FRAME_WORDS
     slot_inside slot below = omega (arith, own_frame.inside slot below, own_frame.small)
 
@@ -107,7 +110,8 @@ module _ (program : Program) (well : IsWellFormed program) (frames : List Frame)
     pub return_inside : (frame_at frames c.active.function).return_address < MOST_FRAME_WORDS
     return_inside = omega (arith, own_frame.return_inside, own_frame.small)
 
-    -- The address of a word of the frame.
+    -- The address of word `word` of the active call's frame is the frame's base plus 4 times
+    -- `word`.
     pub word_address : (word : ℕ) → word < MOST_FRAME_WORDS → memory_address (r FRAME) (4 * word) ≡ base + 4 * word
     word_address word inside =
         ap (λ (x : ℕ). memory_address x (4 * word)) s.base_is
@@ -133,13 +137,14 @@ module _ (program : Program) (well : IsWellFormed program) (frames : List Frame)
     pub return_cell : IsCell data_words stack_words (memory_address (r FRAME) (4 * (frame_at frames c.active.function).return_address))
     return_cell = subst (IsCell data_words stack_words) (sym return_address) (word_cell (frame_at frames c.active.function).return_address return_inside)
 
-    -- The word of a global is in the data range.
+    -- The word of each global is at an address in the machine's data range.
     pub global_cell : (global : ℕ) → global < length program.globals → IsCell data_words stack_words (data_base + 4 * global)
     global_cell global below = inl ((omega arith), (omega arith), (omega (arith, well.globals)))
 
     -- ---- changes that keep the relation
 
-    -- The relation is kept under changes of other registers.
+    -- `Standing` is kept if registers change that do not hold the frame, the lowest frame, the
+    -- return address or an unsaved callee-saved word.
     pub standing_registers : (r' : Words) → r' 0 ≡ r 0 → r' FRAME ≡ r FRAME → r' LOWEST ≡ r LOWEST → (in_frame_at stage ≡ false → r' RETURN_ADDRESS ≡ r RETURN_ADDRESS) → lasting r' ≡ lasting r
         → ((j : ℕ) → saved_at stage (frame_at frames c.active.function) ≤ j → j < 7 → preserved_of r' j ≡ preserved_of r j) → Standing program frames addresses pages calls c r' w base back stage slots
     standing_registers r' zero_same base_same lowest_same back_same lasts_same preserved_same = record {
@@ -163,7 +168,7 @@ module _ (program : Program) (well : IsWellFormed program) (frames : List Frame)
       middle = middle_lasts r' r lasts_same ∙ s.middle;
     }
 
-    -- The relation is kept at another place of the call.
+    -- `Standing` is kept if the active call moves to another position of its code.
     pub standing_at : (d : Configuration) → d.active.function ≡ c.active.function → d.active.base ≡ c.active.base → d.active.handlers ≡ c.active.handlers → d.frames ≡ c.frames → d.globals ≡ c.globals → d.store ≡ c.store → AllByRecursion IsWord d.input
         → Standing program frames addresses pages calls d r w base back stage slots
     standing_at d function_same place_same handlers_same frames_same globals_same store_same input = record {
@@ -195,7 +200,8 @@ module _ (program : Program) (well : IsWellFormed program) (frames : List Frame)
       middle = s.middle;
     }
 
-    -- The relation is kept under changes of handlers and of other registers.
+    -- `Standing` is kept if the active call's handlers and registers that it does not concern
+    -- change.
     pub standing_handlers : (handlers : List states.Handler) (r' : Words) → r' 0 ≡ r 0 → r' FRAME ≡ r FRAME → r' LOWEST ≡ r LOWEST → r' RETURN_ADDRESS ≡ r RETURN_ADDRESS → r' REGIONS ≡ r REGIONS → r' GLOBALS ≡ r GLOBALS
         → ((j : ℕ) → saved_at stage (frame_at frames c.active.function) ≤ j → j < 7 → preserved_of r' j ≡ preserved_of r j)
         → IsNewest program frames addresses (r' HANDLERS) base c.active.function handlers c.frames
@@ -221,7 +227,7 @@ module _ (program : Program) (well : IsWellFormed program) (frames : List Frame)
       middle = middle_same ∙ s.middle;
     }
 
-    -- Words of the frame and of the data range are disjoint.
+    -- No word of a stack frame has the address of a global in the data range.
     above_data : (word global : ℕ) → word < MOST_FRAME_WORDS → global < length program.globals → data_base + 4 * global ≢ base + 4 * word
     above_data word global inside below same =
         absurd (omega (arith, same, below, well.globals, lies.above_low, s.deep))
@@ -240,7 +246,7 @@ module _ (program : Program) (well : IsWellFormed program) (frames : List Frame)
     abbrev global_at : ℕ → ℕ
     global_at global = data_base + 4 * global
 
-    -- The relation is kept by a write to a slot.
+    -- `Standing` is kept if a slot's word is written to its place in the frame.
     pub standing_slot : (slot word : ℕ) → slot < (routine_at program c.active.function).slots
         → Standing program frames addresses pages calls c r (written w (base + slot_offset (frame_at frames c.active.function) slot) word) base back stage (put slots slot word)
     standing_slot slot word below = record {
@@ -276,7 +282,7 @@ module _ (program : Program) (well : IsWellFormed program) (frames : List Frame)
       middle = s.middle;
     }
 
-    -- The relation is kept if slots that are in registers only change.
+    -- `Standing` is kept if only slots change whose home is a register alone.
     pub standing_unkept_words : (slots' : Words) → ((slot : ℕ) → is_kept (frame_at frames c.active.function) slot ≡ true → slots' slot ≡ slots slot)
         → Standing program frames addresses pages calls c r w base back stage slots'
     standing_unkept_words slots' same = record {
@@ -300,7 +306,7 @@ module _ (program : Program) (well : IsWellFormed program) (frames : List Frame)
       middle = s.middle;
     }
 
-    -- The relation is kept if one slot that is in a register only changes.
+    -- `Standing` is kept if one slot changes whose home is a register alone.
     pub standing_unkept : (slot word : ℕ) → is_kept (frame_at frames c.active.function) slot ≡ false
         → Standing program frames addresses pages calls c r w base back stage (put slots slot word)
     standing_unkept slot word unkept = standing_unkept_words (put slots slot word) (λ other other_kept. elim (cases_eq other slot) [
@@ -308,7 +314,7 @@ module _ (program : Program) (well : IsWellFormed program) (frames : List Frame)
       | inr apart ↦ put-other slots slot other word apart
     ])
 
-    -- The relation is established by the saves at a function's entry.
+    -- `Standing` holds for a function after the saves at its entry.
     pub standing_begun : (w' : Contents) (in_frame : Bool)
         → ((a : ℕ) → a ≢ return_at → ((j : ℕ) → j < 7 → a ≢ base + 4 * ((frame_at frames c.active.function).first_saved + j)) → w'.words a ≡ w.words a) → w'.store ≡ w.store
         → IsBack in_frame (frame_at frames c.active.function) r w' base back
@@ -345,7 +351,8 @@ module _ (program : Program) (well : IsWellFormed program) (frames : List Frame)
       middle = s.middle;
     }
 
-    -- The relation is kept by a change of the store, if the register for the number of lexical regions is updated.
+    -- `Standing` is kept if the store (the heap of regions) changes and the register with the number of open
+    -- lexical regions is updated.
     pub standing_store : (store : StoreState) (r' : Words) → r' 0 ≡ r 0 → r' FRAME ≡ r FRAME → r' LOWEST ≡ r LOWEST → r' RETURN_ADDRESS ≡ r RETURN_ADDRESS → r' HANDLERS ≡ r HANDLERS
         → r' REGIONS ≡ lexical_count store.regions % 2 ^ 32 → r' GLOBALS ≡ r GLOBALS → IsLaid pages store
         → ((j : ℕ) → saved_at stage (frame_at frames c.active.function) ≤ j → j < 7 → preserved_of r' j ≡ preserved_of r j)
@@ -371,7 +378,7 @@ module _ (program : Program) (well : IsWellFormed program) (frames : List Frame)
       middle = middle_same ∙ s.middle;
     }
 
-    -- The relation is kept by a write to a word of a live block.
+    -- `Standing` is kept by a write to a word of a live block.
     pub standing_saved : (address word : ℕ) → IsWord word
         → Standing program frames addresses pages calls (record c { store = saved c.store address word }) r (saved_in w address word) base back stage slots
     standing_saved address word is_word = record {
@@ -395,7 +402,7 @@ module _ (program : Program) (well : IsWellFormed program) (frames : List Frame)
       middle = s.middle;
     }
 
-    -- The relation is kept by a write to a global.
+    -- `Standing` is kept by a write to a global.
     pub standing_global : (global word : ℕ) → global < length program.globals
         → Standing program frames addresses pages calls (record c { globals = put c.globals global word }) r (written w (data_base + 4 * global) word) base back stage slots
     standing_global global word below = record {

@@ -1,4 +1,5 @@
--- The conditions on the store of a run, and how its calls keep them.
+-- The conditions on the store (the heap of regions) of a run, and the proof that the store's calls
+-- keep them.
 use Rattle.std.proofs.Common.{◌≡◌, ℕ, zero, suc, ◌+◌, ◌*◌, ◌%◌, ◌^◌, ◌<◌, ◌≤◌, Bool, true, false, List, [], ◌∷◌, ◌++◌, length, Option, None, Some, refl, sym, ap, subst, ◌∙◌, arith, inl, inr}
 use Rattle.std.specs.Prelude.{◌==◌, nat_le, nat_lt, if◌then◌else◌}
 use Rattle.std.specs.List.{AllByRecursion}
@@ -26,7 +27,7 @@ use Rattle.cyc_select.proofs.relation.Cells.{IsLive}
 
 -- ---- blocks within the pages
 
--- All blocks of these regions lie within the pages.
+-- `ArePlaced` says that all blocks of these regions lie within the store's pages.
 abbrev pub ArePlaced : (pages : ℕ) → List Home → Type 0
 ArePlaced pages rs = AllByRecursion (λ (r : Home). AllByRecursion (IsPlaced pages) r.blocks) rs
 
@@ -57,7 +58,8 @@ made_placed pages s h b placed all = go (h == UNIQUE)
           (λ r each. all_append (IsPlaced pages) r.blocks (b ∷ []) each (placed, tt)) all.1,
     )
 
--- An allocated block lies within the pages, and no other block appears.
+-- If the store (the heap of regions) serves a call, a newly allocated block lies within the pages,
+-- and no other block appears.
 served_placed : (pages : ℕ) (s : StoreState) (call : Call) (choice : services.Choice) → s.pages ≡ pages → MayChoose s call choice → ArePlaced pages (homes s)
     → ArePlaced pages (homes (served s call choice))
 served_placed pages s OpenLexical choice has may all =
@@ -73,7 +75,7 @@ served_placed pages s (Allocate handle words) choice has may all =
 served_placed pages s (Free address) choice has may all =
     (all_part (IsPlaced pages) (IsPart-without address_of s.unique address) all.0, all.1)
 
--- A block that contains an address lies within the pages.
+-- If a block of the store contains an address, the block lies within the store's pages.
 record IsInside (pages address : ℕ) (h : Holder) : Type 0 where
   pub placed : IsPlaced pages h.block
   pub inside : covers h.block address ≡ true
@@ -124,7 +126,7 @@ lexical_few (r ∷ rs) classes =
     either true n pages rest some more = omega (arith, some, more)
     either false n pages rest some more = omega (arith, some, more)
 
--- The number of open lexical regions after a call.
+-- Opening a lexical region increases the number of open lexical regions by 1.
 
 pub lexical_opened : (rs : List Home) (handle : ℕ) → lexical_count (rs ++ empty_home handle Lexical ∷ []) ≡ lexical_count rs + 1
 lexical_opened [] handle = refl
@@ -195,7 +197,8 @@ marks_few s mark free = leb-true mark (lexical_count s.regions) (then-none (nat_
 
 -- ---- the store
 
--- A sound store with a number of pages: its blocks lie in the pages, its contents are words, and its demand is at most the number of pages.
+-- `IsLaid` says that a store of `pages` pages is sound: its blocks lie in the pages, its contents are words, and it uses at most `pages`
+-- pages.
 pub record IsLaid (pages : ℕ) (store : StoreState) : Type 0 where
   pub has : store.pages ≡ pages
   pub few : pages ≤ MOST_PAGES
@@ -203,16 +206,16 @@ pub record IsLaid (pages : ℕ) (store : StoreState) : Type 0 where
   pub paged : demand store ≤ pages
   pub sound : IsSound store
 
--- A new store has fewer open regions than pages, as `IsLaid` states.
+-- A new store (the heap of regions) satisfies `IsLaid`.
 pub new_laid : (pages : ℕ) (store : StoreState) → IsNew pages store → 1 ≤ pages → pages ≤ MOST_PAGES → IsLaid pages store
 new_laid pages store (memory, words, is) some few =
     subst (IsLaid pages) (sym is) (record { has = refl; few = few; placed = (tt, (tt, tt)); paged = some; sound = start-sound pages memory words some })
 
--- A new store has no open lexical region.
+-- A new store (the heap of regions) has no open lexical region.
 pub new_counted : (pages : ℕ) (store : StoreState) → IsNew pages store → lexical_count store.regions % 2 ^ 32 ≡ 0
 new_counted pages store (memory, words, is) = ap (λ (s : StoreState). lexical_count s.regions % 2 ^ 32) is
 
--- A write to a word of a live block opens and closes no region.
+-- A write to a word of a live block neither opens nor closes a region.
 pub saved_regions : (store : StoreState) (address word : ℕ) → (saved store address word).regions ≡ store.regions
 saved_regions store address word = go (word_at store address)
   where
@@ -227,7 +230,7 @@ saved_laid pages store address word is_word laid = go (word_at store address) (s
     go None sound = laid
     go (Some old) sound = record { has = laid.has; few = laid.few; placed = laid.placed; paged = laid.paged; sound = sound }
 
--- Each served call of the store keeps `IsLaid`.
+-- If the store (the heap of regions) satisfies `IsLaid`, it still does after it has served a call.
 pub served_laid : (pages : ℕ) (store : StoreState) (call : Call) (choice : services.Choice) → refusal store call ≡ None → services.IsAllowed store call choice → IsLaid pages store
     → IsLaid pages (served store call choice)
 served_laid pages store call choice free allowed laid =
@@ -243,7 +246,7 @@ served_laid pages store call choice free allowed laid =
       sound = sound;
     }
 
--- The result of a served call consists of words.
+-- If the store (the heap of regions) serves a call, the result consists of machine words.
 pub served_words : (pages : ℕ) (store : StoreState) (call : Call) (choice : services.Choice) → services.IsAllowed store call choice → IsLaid pages store → HasAnswerWords (answer store call choice)
 served_words pages store OpenLexical choice allowed laid =
     (allowed.may.1, omega (arith, lexical_few store.regions store.classes, laid.paged, laid.few))
@@ -256,7 +259,8 @@ served_words pages store (Allocate handle words) choice allowed laid =
     omega (arith, high, laid.has, laid.few)
 served_words pages store (Free address) choice allowed laid = tt
 
--- A word that is found is that of a live block in the store's pages.
+-- If the store (the heap of regions) has a word at an address, this word belongs to a live block in
+-- the store's pages.
 pub laid_live : (pages : ℕ) (store : StoreState) (a word : ℕ) → IsLaid pages store → word_at store a ≡ Some word → IsLive store a word × IsWord word
 laid_live pages store a word laid found = go (a % 4 == 0) refl (holder (homes store) a) refl found
   where

@@ -1,4 +1,4 @@
--- Values in registers: a register holds its slot's word wherever the slot is live.
+-- Each register that a frame assigns to a slot holds the slot's word wherever the slot is live.
 use Rattle.std.proofs.Common.{◌≡◌, ◌≢◌, ℕ, zero, suc, ◌+◌, ◌-◌, ◌%◌, ◌<◌, ◌≤◌, Bool, true, false, List, [], ◌∷◌, length, Option, Some, None, refl, sym, ap, subst, ◌∙◌, arith, inl, inr}
 use Rattle.std.specs.Prelude.{◌⊎◌, nat_le, nat_lt, sum_by}
 use Rattle.std.proofs.lemmas.Bool.{cases_eq, cases_lt, cases_Bool, ne_eqb, le-leb, lt-ltb, leb-true, leb-false, ltb-true, ltb-false, and_parts, and_from, and_cases, false≢true}
@@ -37,7 +37,7 @@ home_kept homes.Memory none = refl
 home_kept (homes.Both k) none = absurd (let e : Some k ≡ None = none in cc)
 home_kept (homes.Register k) none = absurd (let e : Some k ≡ None = none in cc)
 
--- A slot without a register has its home in memory.
+-- If a slot has no register, its home is memory.
 pub memory_kept : (frame : Frame) (slot : ℕ) → value_register frame slot ≡ None → is_kept frame slot ≡ true
 memory_kept frame slot none = home_kept (homing.home_of frame.homes slot) none
 
@@ -49,7 +49,8 @@ both_of homes.Memory k is kept = absurd (let e : None ≡ Some k = is in cc)
 both_of (homes.Both j) k is kept = let e : Some j ≡ Some k = is in cc
 both_of (homes.Register j) k is kept = absurd (let e : false ≡ true = kept in cc)
 
--- The slot is one of `count` slots from `first` on.
+-- A slot number at least `first` and less than `first + count` is among the `count` slots from
+-- `first` on.
 pub among : (first count slot : ℕ) → first ≤ slot → slot < first + count → is_among first count slot ≡ true
 among first count slot from below = and_from _ _ (le-leb first slot from) (lt-ltb slot (first + count) below)
 
@@ -73,7 +74,7 @@ outside_among first count slot outside = go (is_among first count slot) refl
 
 -- ---- live slots
 
--- Registers hold the words of their slots, if those are live.
+-- `Caches` says that each register assigned to a slot holds the slot's word if the slot is live.
 abbrev pub Caches : Program → List Frame → (function index : ℕ) → (r slots : Words) → Type 0
 Caches program frames function index r slots =
     (slot k : ℕ) → value_register (frame_at frames function) slot ≡ Some k → IsLiveAt program (routine_at program function) slot index → r k ≡ slots slot
@@ -85,12 +86,14 @@ module _ (program : Program) (frames : List Frame) (function : ℕ) (right : Are
   abbrev IsAt : (index : ℕ) → Instruction → Type 0
   IsAt index i = instruction_at program (record { function = function; index = index }) ≡ Some i
 
-  -- A slot that is live after an instruction that does not write it is live before it.
+  -- If a slot is live after an instruction that does not write it, the slot is live before this
+  -- instruction.
   pub live_earlier : (index next slot : ℕ) (i : Instruction) → IsAt index i → leads i index next ≡ true → writes program i slot ≡ false
       → IsLiveAt program (routine_at program function) slot next → IsLiveAt program (routine_at program function) slot index
   live_earlier index next slot i at led unwritten (steps, wanted) = (suc steps, (i, at, unwritten, next, led, wanted))
 
-  -- `Caches` is kept by an instruction that changes no slot with a register.
+  -- If an instruction changes no slot that has a register, registers still hold the words of their
+  -- live slots after it.
   pub caches_past : (index next : ℕ) (r r' slots slots' : Words) (i : Instruction) → IsAt index i → leads i index next ≡ true
       → ((slot k : ℕ) → value_register (frame_at frames function) slot ≡ Some k → writes program i slot ≡ false)
       → ((slot k : ℕ) → value_register (frame_at frames function) slot ≡ Some k → slots' slot ≡ slots slot)
@@ -99,7 +102,8 @@ module _ (program : Program) (frames : List Frame) (function : ℕ) (right : Are
       values k (right.low slot k has) (right.high slot k has)
       ∙ (caches slot k has (live_earlier index next slot i at led (unwritten slot k has) wanted) ∙ sym (same slot k has))
 
-  -- `Caches` is kept by an instruction that writes a slot.
+  -- If an instruction writes a slot and its register, registers still hold the words of their live
+  -- slots after it.
   pub made_caches : (index destination word : ℕ) (r r' slots : Words) (i : Instruction) → IsAt index i
       → ((slot : ℕ) → slot ≢ destination → writes program i slot ≡ false) → writes program i destination ≡ true → leads i index (index + 1) ≡ true
       → ((k : ℕ) → value_register (frame_at frames function) destination ≡ Some k → r' k ≡ word)
@@ -113,7 +117,8 @@ module _ (program : Program) (frames : List Frame) (function : ℕ) (right : Are
         ∙ (caches slot k has (live_earlier index (index + 1) slot i at led (unwritten slot other) wanted) ∙ sym (put-other slots destination slot word other))
   ]
 
-  -- `Caches` is kept by a move of several words, one by one.
+  -- If a move copies several words one by one, registers still hold the words of their live slots
+  -- after it.
   pub moved_caches : (index destination source count : ℕ) (r r' slots : Words) → IsAt index (plain.MoveWords destination source count)
       → ((i k : ℕ) → i < count → value_register (frame_at frames function) (destination + i) ≡ Some k
       → ((j : ℕ) → j < count → value_register (frame_at frames function) (destination + j) ≡ Some k → i ≡ j) → r' k ≡ slots (source + i))
@@ -121,7 +126,7 @@ module _ (program : Program) (frames : List Frame) (function : ℕ) (right : Are
       → Caches program frames function index r slots → Caches program frames function (index + 1) r' (copied slots source count slots destination)
   moved_caches index destination source count r r' slots at given others caches slot k has wanted = go (is_among destination count slot) refl
     where
-      -- No other written slot has the register of this one.
+      -- No other slot that the move writes has the register of this slot.
       only : (j : ℕ) → j < count → value_register (frame_at frames function) (destination + j) ≡ Some k → slot ≡ destination + j
       only j below there =
           right.made index (index + 1) slot (destination + j) k (plain.MoveWords destination source count) at
@@ -145,7 +150,7 @@ module _ (program : Program) (frames : List Frame) (function : ℕ) (right : Are
             | inr above ↦ copied-above slots slots source count destination slot above
           ]))
 
-  -- A slot with a register is not excluded by the instruction.
+  -- An instruction bars no slot that has a register from having one.
   pub unbarred : (index slot k : ℕ) (i : Instruction) → IsAt index i → value_register (frame_at frames function) slot ≡ Some k → bars i slot ≡ false
   unbarred index slot k i at has = go (bars i slot) refl
     where
@@ -180,7 +185,7 @@ module _ (globals stack : ℕ) (frame : Frame) (base : ℕ) (w : Contents) where
   abbrev word_there : ℕ → ℕ
   word_there slot = w.words (memory_address base (slot_offset frame slot))
 
-  -- The effect of the reloads on registers.
+  -- `AreReloaded` describes the effect of the lines that reload registers from memory.
   pub record AreReloaded (slot : ℕ) (hs : List Home) (q : Words) : Type 0 where
     pub safe : AreSafe globals stack (reloads_from frame slot hs) q w
     pub memory : after_w (reloads_from frame slot hs) q w ≡ w
@@ -263,12 +268,13 @@ module _ (globals stack : ℕ) (frame : Frame) (base : ℕ) (w : Contents) where
           ∙ ap (λ (n : ℕ). w.words (memory_address base (slot_offset frame n))) (let e : slot ≡ slot + 0 = omega arith in e))))
       in_rest rest (suc j) k both = rest.result j k both ∙ there_after slot j
 
--- If every live slot is in memory or in a register only, registers hold all live slots after the reloads. No other register is written.
+-- `Reloaded` says that after the reloads, registers hold all live slots, if each live slot was in memory or in a register only. No
+-- other register is written.
 pub record Reloaded (globals stack : ℕ) (program : Program) (frames : List Frame) (function index : ℕ) (q : Words) (w : Contents) (slots : Words) : Type 0 where
   pub safe : AreSafe globals stack (reloads (frame_at frames function)) q w
   pub memory : after_w (reloads (frame_at frames function)) q w ≡ w
   pub others : (n : ℕ) → n < 6 ⊎ 24 ≤ n → after_r (reloads (frame_at frames function)) q w n ≡ q n
-  -- A register of no slot is unchanged by the reloads.
+  -- The reloads leave a register unchanged that no slot has.
   pub aside : (n : ℕ) → ((slot : ℕ) → value_register (frame_at frames function) slot ≡ Some n → ⊥) → after_r (reloads (frame_at frames function)) q w n ≡ q n
   pub caches : Caches program frames function index (after_r (reloads (frame_at frames function)) q w) slots
 
@@ -298,7 +304,7 @@ reloaded globals stack program frames function right index q w slots cells holds
       ];
     }
   where
-    -- A register that is a slot's only home is not reloaded.
+    -- A register that is the only home of a slot is not reloaded.
     no_both : (slot k : ℕ) → value_register (frame_at frames function) slot ≡ Some k → is_kept (frame_at frames function) slot ≡ false
         → (j : ℕ) → homing.home_of (frame_at frames function).homes j ≡ homes.Both k → ⊥
     no_both slot k has unkept j both =

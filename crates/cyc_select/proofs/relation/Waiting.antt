@@ -1,4 +1,4 @@
--- The state of the labelled machine for the waiting calls: callee-saved registers, handler records, and the addresses of frames and slots.
+-- How the labelled machine represents the waiting calls: callee-saved registers, handler records, and the addresses of frames and slots.
 use Rattle.std.proofs.Common.{◌≡◌, ℕ, zero, suc, ◌+◌, ◌*◌, ◌%◌, ◌<◌, ◌≤◌, Bool, true, false, List, [], ◌∷◌, length, Some, None, slice_get, refl, sym, ap, subst, ◌∙◌, arith, inl, inr}
 use Rattle.std.specs.Prelude.{nat_lt, if◌then◌else◌}
 use Rattle.cyc_plain.specs.declared.limits.TheConstants.{MOST_FRAME_WORDS}
@@ -21,17 +21,18 @@ use Rattle.cyc_select.specs.inside.Slots.{value_register, is_kept}
 use Rattle.cyc_select.specs.inside.Counts.{instruction_line, body_count}
 use Rattle.cyc_select.proofs.effects.Views.{Contents}
 
--- The size of a frame in bytes.
+-- Returns the size of a stack frame in bytes, the same for all functions.
 abbrev pub frame_size : ℕ
 frame_size = 4 * MOST_FRAME_WORDS
 
--- The frame of a function's call at this address holds those slots whose home includes memory.
+-- `Holds` says that the frame at this address, of a call of this function, contains the words of
+-- all slots whose home includes memory.
 abbrev pub Holds : Program → List Frame → (function base : ℕ) → (w : Contents) (slots : Words) → Type 0
 Holds program frames function base w slots =
     (slot : ℕ) → slot < (routine_at program function).slots → is_kept (frame_at frames function) slot ≡ true
     → w.words (base + slot_offset (frame_at frames function) slot) ≡ slots slot
 
--- The line after a call.
+-- Returns the number of the line at which a call returns.
 abbrev pub after_line : Program → List Frame → (function index callee arguments count result : ℕ) → ℕ
 after_line program frames function index callee arguments count result =
     instruction_line program frames function index + body_count program frames function (plain.Call callee arguments count result)
@@ -41,16 +42,18 @@ after_line program frames function index callee arguments count result =
 abbrev pub preserved_of : Words → Words
 preserved_of r j = r (17 + j)
 
--- The callee-saved registers when a call returns. The registers saved by the call are restored from its frame, and the other callee-saved
--- ones are as the call's own calls leave them.
+-- `Left` gives the callee-saved registers when a call returns: those that it saved are restored from its frame, and the others are as the
+-- calls that it made left them.
 abbrev pub Left : (first saved base : ℕ) (inner : Words) (w : Contents) → Words
 Left first saved base inner w j = if nat_lt j saved then w.words (base + 4 * (first + j)) else inner j
 
--- The callee-saved registers left by a function that has saved all that it uses.
+-- `LeftBy` gives the callee-saved registers that a function leaves when it returns, once it has
+-- saved all those that it uses.
 abbrev pub LeftBy : Frame → (base : ℕ) (inner : Words) (w : Contents) → Words
 LeftBy frame base inner w = Left frame.first_saved frame.saved base inner w
 
--- A caller finds its slots in the callee-saved registers, if they are live after the call and not among its results.
+-- `Finds` says that a caller finds its slots in the callee-saved registers after a call, if they are live then and
+-- are not results of the call.
 abbrev pub Finds : Program → List Frame → (function index callee arguments count result : ℕ) → (left slots : Words) → Type 0
 Finds program frames function index callee arguments count result left slots =
     (slot j : ℕ) → j < 7 → value_register (frame_at frames function) slot ≡ Some (17 + j)
@@ -63,7 +66,8 @@ left_past first saved base inner w j past = cond-false (nat_lt j saved) (w.words
 pub left_inside : (first saved base : ℕ) (inner : Words) (w : Contents) (j : ℕ) → j < saved → Left first saved base inner w j ≡ w.words (base + 4 * (first + j))
 left_inside first saved base inner w j below = cond-true (nat_lt j saved) (w.words (base + 4 * (first + j))) (inner j) (lt-ltb j saved below)
 
--- The registers left are unchanged if the saved words and the unsaved registers are.
+-- The words left in the callee-saved registers are unchanged if the saved words and the unsaved
+-- registers are unchanged.
 pub left_same : (first saved base : ℕ) (inner inner' : Words) (w w' : Contents) → ((j : ℕ) → saved ≤ j → j < 7 → inner' j ≡ inner j)
     → ((j : ℕ) → j < saved → j < 7 → w'.words (base + 4 * (first + j)) ≡ w.words (base + 4 * (first + j))) → (j : ℕ) → j < 7 → Left first saved base inner' w' j ≡ Left first saved base inner w j
 left_same first saved base inner inner' w w' same words j high = elim (cases_lt j saved) [
@@ -73,8 +77,8 @@ left_same first saved base inner inner' w w' same words j high = elim (cases_lt 
 
 -- ---- the waiting calls
 
--- The chain of waiting calls above a call whose frame is at this address, which returns to this address and leaves these words in the
--- callee-saved registers.
+-- `Chain` describes the waiting calls above a call whose frame is at `base`, which returns to the address `back` and leaves the words
+-- `left` in the callee-saved registers.
 abbrev pub Chain : Program → List Frame → (addresses : ℕ → ℕ) → (w : Contents) → (base back : ℕ) → (left : Words) → (function : ℕ) → List states.Frame → Type 0
 Chain program frames addresses w base back left function [] =
     (base + frame_size ≡ stack_end) × (back ≡ 0) × (function ≡ program.main)
@@ -89,7 +93,7 @@ Chain program frames addresses w base back left function (f ∷ waiting) =
     (w.words (base + frame_size + 4 * (frame_at frames f.caller.function).return_address))
     (LeftBy (frame_at frames f.caller.function) (base + frame_size) left w) f.caller.function waiting
 
--- The slots of a function lie within its frame.
+-- All slots of a function lie within the function's stack frame.
 pub slots_fit : (r : Routine) (frame : Frame) → IsFrame r frame → frame.first_slot + r.slots ≤ MOST_FRAME_WORDS
 slots_fit r frame is = go r.slots is.inside
   where
@@ -98,7 +102,8 @@ slots_fit r frame is = go r.slots is.inside
     go (suc n) inside = omega (arith, inside n (omega arith), is.small)
 
 module _ (program : Program) (frames : List Frame) (fit : AreFrames program frames) (addresses : ℕ → ℕ) where
-  -- The chain does not depend on memory below it, and depends on the left words register by register.
+  -- The chain of waiting calls is kept if the memory from its first frame on and each word left in a
+  -- callee-saved register are unchanged.
   pub chain_kept : (w w' : Contents) (base back : ℕ) (left left' : Words) (function : ℕ) (waiting : List states.Frame) → ((a : ℕ) → base + frame_size ≤ a → w'.words a ≡ w.words a)
       → ((j : ℕ) → j < 7 → left' j ≡ left j) → Chain program frames addresses w base back left function waiting → Chain program frames addresses w' base back left' function waiting
   chain_kept w w' base back left left' function [] same alike chain = chain
@@ -120,7 +125,7 @@ module _ (program : Program) (frames : List Frame) (fit : AreFrames program fram
             (left_same its.first_saved its.saved above left left' w w' (λ j past high. alike j high) (λ j below high. same (above + 4 * (its.first_saved + j)) (omega arith))) chain),
       )
 
-  -- The address of the frame of a call at this depth.
+  -- `Lies` says that `base` is the address of the frame of a call at this depth.
   pub record Lies (base depth : ℕ) : Type 0 where
     pub below_end : base + frame_size ≤ stack_end
     pub above_low : base + frame_size * depth ≡ stack_end
@@ -136,7 +141,8 @@ module _ (program : Program) (frames : List Frame) (fit : AreFrames program fram
 
 -- ---- handler records
 
--- The record of a handler, word by word: the previous handler, the frame, and the line at which an exception arrives.
+-- `IsRecord` describes the record of an exception handler, word by word: the previous handler, the frame, and the
+-- line at which an exception arrives.
 pub record IsRecord (program : Program) (frames : List Frame) (addresses : ℕ → ℕ) (newest base function index first : ℕ) (contents : Words) : Type 0 where
   pub at : newest ≡ base + slot_offset (frame_at frames function) first
   pub handler : ℕ
@@ -144,7 +150,8 @@ pub record IsRecord (program : Program) (frames : List Frame) (addresses : ℕ �
   pub frame : contents 1 ≡ base
   pub line : contents 2 ≡ addresses (instruction_line program frames function index + 3)
 
--- The handler records of a call form a list from the newest to the one of its caller.
+-- `AreRecords` says that the handler records of a call form a linked list from the newest record to
+-- the newest one of its caller.
 abbrev pub AreRecords : Program → List Frame → (addresses : ℕ → ℕ) → (base function : ℕ) → (rest : ℕ → Type 0) → (newest : ℕ) → List states.Handler → Type 0
 AreRecords program frames addresses base function rest newest [] = rest newest
 AreRecords program frames addresses base function rest newest (states.Caught ∷ handlers) = ⊥
@@ -165,7 +172,8 @@ IsNewest program frames addresses newest base function handlers waiting =
 
 -- ---- addresses of slots
 
--- The slots of a call have their words in its frame, and so have those of the waiting calls.
+-- `AreBased` says that the slots of the active call and of each waiting call have their addresses
+-- in the frame of this call.
 abbrev pub AreBased : List Frame → (base function place : ℕ) → List states.Frame → Type 0
 AreBased frames base function place [] = place ≡ base + 4 * (frame_at frames function).first_slot
 AreBased frames base function place (f ∷ waiting) =
@@ -176,12 +184,14 @@ pub based_here : (frames : List Frame) (base function place : ℕ) (waiting : Li
 based_here frames base function place [] based = based
 based_here frames base function place (f ∷ waiting) (here, based) = here
 
--- The return address of a call is in its frame or in the return address register.
+-- `IsBack` says that the return address of a call is in its frame or in the return address
+-- register.
 abbrev pub IsBack : (in_frame : Bool) (frame : Frame) (r : Words) (w : Contents) (base back : ℕ) → Type 0
 IsBack true frame r w base back = w.words (base + 4 * frame.return_address) ≡ back
 IsBack false frame r w base back = r RETURN_ADDRESS ≡ back
 
--- The return address is unchanged in other memory and with other registers.
+-- The return address is unchanged if its word in the frame and the return address register are
+-- unchanged.
 pub back_in : (in_frame : Bool) (frame : Frame) (r : Words) (w w' : Contents) (base back : ℕ) → w'.words (base + 4 * frame.return_address) ≡ w.words (base + 4 * frame.return_address)
     → IsBack in_frame frame r w base back → IsBack in_frame frame r w' base back
 back_in true frame r w w' base back same is = same ∙ is
@@ -192,13 +202,13 @@ pub back_by : (in_frame : Bool) (frame : Frame) (r r' : Words) (w : Contents) (b
 back_by true frame r r' w base back same is = is
 back_by false frame r r' w base back same is = same refl ∙ is
 
--- Code that contains a call or opens a handler overwrites the return address register.
+-- If code contains a call or opens a handler, it overwrites the return address register.
 loses_at : (code : List Instruction) (index : ℕ) (i : Instruction) → slice_get code index ≡ Some i → loses i ≡ true → loses_any code ≡ true
 loses_at [] index i at is = absurd (let e : None ≡ Some i = at in cc)
 loses_at (x ∷ code) zero i at is = let same : x ≡ i = (let e : Some x ≡ Some i = at in cc) in or_left (loses x) (loses_any code) (ap loses same ∙ is)
 loses_at (x ∷ code) (suc index) i at is = or_right (loses x) (loses_any code) (loses_at code index i at is)
 
--- Code with a `Try` opens handlers.
+-- If code contains a `Try` instruction, it opens handlers.
 pub opens_at : (code : List Instruction) (index first handler : ℕ) → slice_get code index ≡ Some (plain.Try first handler) → opens_any code ≡ true
 opens_at [] index first handler at = absurd (let e : None ≡ Some (plain.Try first handler) = at in cc)
 opens_at (x ∷ code) zero first handler at =

@@ -1,4 +1,5 @@
--- The labelled machine matches each step of the plain machine by the lines of the current place.
+-- The labelled machine matches each step of the plain machine by executing the lines of the current
+-- instruction.
 use Rattle.std.proofs.Common.{◌≡◌, ◌≢◌, ℕ, suc, ◌+◌, ◌-◌, ◌*◌, ◌^◌, ◌<◌, ◌≤◌, Bool, true, false, not, List, [], ◌∷◌, ◌++◌, length, Option, Some, None, slice_get, refl, sym, ap, subst, ◌∙◌, arith, inl, inr}
 use Rattle.std.specs.Prelude.{if◌then◌else◌}
 use Rattle.std.proofs.lemmas.Bool.{cases_lt, eq-eqb, ne_eqb, false≢true}
@@ -85,7 +86,7 @@ module _ (program : Program) (well : IsWellFormed program) (words : HasWords pro
     → Stands code (instruction_line program frames function index) (place_lines program frames function index (instruction_line program frames function index) i ++ following program frames function i))
     (stand_saving : (function : ℕ) → function < length program.functions → Stands code (function_line program frames function) (ordinary (saving_code (frame_at frames function))))
     (long : (function line : ℕ) (i : Instruction) → length (body program frames function line i) ≡ body_count program frames function i) where
-  -- The lines after a call stand at its return address.
+  -- The lines that follow a call stand at the line at which the call returns.
   following_stands : (function index callee arguments count result : ℕ) → instruction_at program (record { function = function; index = index }) ≡ Some (plain.Call callee arguments count result)
       → Stands code (after_line program frames function index callee arguments count result) (following program frames function (plain.Call callee arguments count result))
   following_stands function index callee arguments count result at =
@@ -94,7 +95,8 @@ module _ (program : Program) (well : IsWellFormed program) (words : HasWords pro
       subst (λ (n : ℕ). Stands code (instruction_line program frames function index + n) (following program frames function (plain.Call callee arguments count result))) (long function line i)
       (stands_back code line (body program frames function line i) (following program frames function i) (stand function index i at))
 
-  -- A call is followed by its lines, or by those of the next instruction.
+  -- The line after a call exists: it belongs to the call's following lines or to the next
+  -- instruction.
   after_inside : (function index callee arguments count result : ℕ) → instruction_at program (record { function = function; index = index }) ≡ Some (plain.Call callee arguments count result)
       → after_line program frames function index callee arguments count result < length code.lines
   after_inside function index callee arguments count result at =
@@ -135,7 +137,8 @@ module _ (program : Program) (well : IsWellFormed program) (words : HasWords pro
   range_of : (function index first handler : ℕ) → instruction_at program (record { function = function; index = index }) ≡ Some (plain.Try first handler) → IsTryInRange (routine_at program function) first handler
   range_of function index first handler at = in_range_of function index (plain.Try first handler) at
 
-  -- The lines at which an exception arrives at a handler.
+  -- The lines at which an exception arrives stand 3 lines after the first line of the `Try` that
+  -- opened its handler.
   caught_stands : (function index first handler : ℕ) → instruction_at program (record { function = function; index = index }) ≡ Some (plain.Try first handler)
       → Stands code (instruction_line program frames function index + 3) (ordinary (caught_code (frame_at frames function) first) ++ lines.Jump (instruction_line program frames function handler) ∷ [])
   caught_stands function index first handler at =
@@ -211,7 +214,7 @@ module _ (program : Program) (well : IsWellFormed program) (words : HasWords pro
     abbrev StandsHere : Instruction → Type 0
     StandsHere i = Stands code here (body program frames c.active.function here i)
 
-    -- A division that does not get stuck is matched.
+    -- The labelled machine matches a division whose result is defined.
     quotient_goes : (operator : BinaryOperator) (which : MoveFromOp) (destination : ℕ) (left right : Operand) → IsAt (plain.Binary operator destination left right) → destination < slots → IsThere left → IsThere right
         → ((b : ℕ) → b ≡ 0 → has_no_result operator b ≡ true) → ((b : ℕ) → b ≢ 0 → has_no_result operator b ≡ false)
         → ((a b : ℕ) → binary_result operator a b ≡ multiply_divide_result Divide which a b) → ((a : ℕ) → IsWord a → multiply_divide_result Multiply which (if_low which a 0) (if_low which (2 ^ 32 - 1) 0) ≡ multiply_divide_result Divide which a (2 ^ 32 - 1))
@@ -237,7 +240,7 @@ module _ (program : Program) (well : IsWellFormed program) (words : HasWords pro
     not_true true is = refl
     not_true false is = absurd (let e : true ≡ false = is in cc)
 
-    -- A division by a plain divisor has a result.
+    -- A division by a divisor that needs no test has a result.
     has_result : (operator : BinaryOperator) (right : Operand) → is_tested operator right ≡ false → has_no_result operator (operand_word c.active.slots right) ≡ false
     has_result binary.Divide right fine = ne_eqb (operand_word c.active.slots right) 0 (divisor_is c.active.slots right (not_true (is_plain_divisor right) fine)).0
     has_result binary.Remainder right fine = ne_eqb (operand_word c.active.slots right) 0 (divisor_is c.active.slots right (not_true (is_plain_divisor right) fine)).0
@@ -265,7 +268,7 @@ module _ (program : Program) (well : IsWellFormed program) (words : HasWords pro
     stops_not : (i : Instruction) → IsAt i → IsAllowed program (states.Running c) zeros → performed program zeros c i ≡ states.Stuck c.output c.input → ⊥
     stops_not i at allowed stops = stuck_not c never allowed (ap (executed program zeros c) at ∙ stops)
 
-    -- A function that opens handlers does not return by `Return`.
+    -- A function that opens exception handlers returns by `Finish`, not by `Return`.
     none_open : {value : ℕ} → IsAt (plain.Return value) → c.active.handlers ≡ []
     none_open {value} at = go c.active.handlers refl s.newest
       where
@@ -284,7 +287,8 @@ module _ (program : Program) (well : IsWellFormed program) (words : HasWords pro
     finish_goes value at in_range stands (h ∷ handlers) some =
         absurd (stops_not (plain.Finish value) at (zeros_at program c (plain.Finish value) at refl) (ap (finishes c value (routine_at program c.active.function).results) some))
 
-    -- A branch is matched by a walk through all its lines.
+    -- The labelled machine matches a branch by a walk (stretch of a run) through all lines of the
+    -- branch.
     branch_walks : (comparison : Comparison) (left right : Operand) (target : ℕ) → IsAt (plain.Branch comparison left right target) → is_idle (frame_at frames c.active.function) c.active.next (plain.Branch comparison left right target) ≡ false
         → IsInRange program (routine_at program c.active.function) (plain.Branch comparison left right target) → HasWord (plain.Branch comparison left right target) → StandsHere (plain.Branch comparison left right target)
         → Walk code formed addresses globals_length (words_per_call * calls) (body_count program frames c.active.function (plain.Branch comparison left right target)) here (here + body_count program frames c.active.function (plain.Branch comparison left right target)) c.output (After program pages calls c) (Reached program well frames fit code formed addresses pages calls few c) (Running run)
@@ -368,11 +372,11 @@ module _ (program : Program) (well : IsWellFormed program) (words : HasWords pro
     endings = endings_same;
   }
 
-  -- The number of the line after the instruction's own lines.
+  -- Returns the number of the line after an instruction's own lines.
   abbrev end_of : Configuration → Instruction → ℕ
   end_of c i = instruction_line program frames c.active.function c.active.next + place_count program frames c.active.function c.active.next i
 
-  -- The least number of lines of a place: 0 if it is idle, else 1.
+  -- Returns the least number of lines executed for an instruction: 0 if it is idle, otherwise 1.
   abbrev least_of : (idle : Bool) → ℕ
   least_of true = 0
   least_of false = 1
@@ -385,7 +389,8 @@ module _ (program : Program) (well : IsWellFormed program) (words : HasWords pro
   made true c places u enough (next, goes, matches, lighter) = record { next = next; step = goes; matches = matches; lighter = λ none. lighter }
   made false c places u enough (next, goes, matches) = record { next = next; step = goes; matches = matches; lighter = λ none. absurd (omega (arith, none, enough)) }
 
-  -- During a walk the step is visible or not yet.
+  -- In each state of a walk (stretch of a run), the effect of the source step is visible, or output
+  -- and input are still unchanged.
   on_the_way : (c : Configuration) (run : labelled.Configuration) (u : State) → run.input ≡ c.input → Quiet code formed addresses globals_length (words_per_call * calls) c.output run.input (After program pages calls c) u
       → IsOnTheWay above below_machine (states.Running c) u
   on_the_way c run u unread (inl (running, output, left)) =
@@ -393,7 +398,8 @@ module _ (program : Program) (well : IsWellFormed program) (words : HasWords pro
   on_the_way c run u unread (inr (running, next, made, seen)) =
       way_after above below_machine matching (states.Running c) next u made ((lawful program pages calls).grows (states.Running c) next made) running seen
 
-  -- A walk through a place's own lines matches a step.
+  -- A walk (stretch of a run) through an instruction's own lines matches a step of the plain
+  -- machine.
   stepped : (idle : Bool) (c : Configuration) (t : State) (run : labelled.Configuration) (lo : ℕ) (i : Instruction) → run.input ≡ c.input → instruction_at program (states.place_of (states.Running c)) ≡ Some i
       → instruction_line program frames c.active.function c.active.next - previous_count program frames c.active.function (routine_at program c.active.function).code c.active.next ≤ lo → t ≡ Running run
       → Walk code formed addresses globals_length (words_per_call * calls) (least_of idle) lo (end_of c i) c.output (After program pages calls c) (Comes_to idle c) (Running run)
@@ -420,7 +426,8 @@ module _ (program : Program) (well : IsWellFormed program) (words : HasWords pro
             walk.comes;
       })
 
-  -- A step is matched from the first line of its place, or from the next line if the place has none.
+  -- The labelled machine matches a step from the first line of its instruction, or from the next
+  -- line if the instruction has no line.
   ready_goes : (idle : Bool) (c : Configuration) (t : State) → Never c → (ready : Ready program well frames fit code formed addresses pages calls few c t) (i : Instruction) → instruction_at program (states.place_of (states.Running c)) ≡ Some i
       → is_idle (frame_at frames c.active.function) c.active.next i ≡ idle
       → Walk code formed addresses globals_length (words_per_call * calls) (least_of idle) (instruction_line program frames c.active.function c.active.next) (end_of c i) c.output (After program pages calls c) (Comes_to idle c) (Running ready.run)
@@ -434,7 +441,7 @@ module _ (program : Program) (well : IsWellFormed program) (words : HasWords pro
       (in_range_of c.active.function c.active.next i at) (word_of_it c.active.function c.active.next i at)
       (stands_front code line (body program frames c.active.function line i) (following program frames c.active.function i) (body_stands program well frames fit code stand long c.active.function c.active.next i at busy)))
 
-  -- The line at which the lines after the previous call begin.
+  -- The lines of an instruction begin no later than those that follow the previous call.
   before_it : (function index callee arguments count result next : ℕ) → next ≡ index + 1 → instruction_at program (record { function = function; index = index }) ≡ Some (plain.Call callee arguments count result)
       → instruction_line program frames function next - previous_count program frames function (routine_at program function).code next ≤ after_line program frames function index callee arguments count result
   before_it function index callee arguments count result next is at =
@@ -443,7 +450,7 @@ module _ (program : Program) (well : IsWellFormed program) (words : HasWords pro
       let previous : previous_count program frames function (routine_at program function).code next ≡ (routine_at program callee).results + reload_count (frame_at frames function) = ap (previous_count program frames function (routine_at program function).code) one ∙ ap (after_of program frames function) at in
       omega (arith, previous, e, ap (instruction_line program frames function) is)
 
-  -- The line at which the saves of the function begin.
+  -- The lines of a function's first instruction begin no later than the lines that save registers.
   entry_before : (function next : ℕ) → next ≡ 0
       → instruction_line program frames function next - previous_count program frames function (routine_at program function).code next ≤ function_line program frames function
   entry_before function next is =
@@ -456,7 +463,7 @@ module _ (program : Program) (well : IsWellFormed program) (words : HasWords pro
   abbrev IsLighter : Configuration → states.State → Type 0
   IsLighter c u = weight program well frames fit code formed addresses pages calls few u < length (routine_at program c.active.function).code - c.active.next
 
-  -- A straight-line instruction brings the run nearer to the end of the code.
+  -- A step of a straight-line instruction decreases the number of instructions still ahead.
   straight_lighter : (c : Configuration) (i : Instruction) → instruction_at program (states.place_of (states.Running c)) ≡ Some i → is_straight i ≡ true → (next : states.State) → Step program pages calls (states.Running c) next
       → weight program well frames fit code formed addresses pages calls few next < weight program well frames fit code formed addresses pages calls few (states.Running c)
   straight_lighter c i at straight next (choice, allowed, is) =
@@ -482,7 +489,7 @@ module _ (program : Program) (well : IsWellFormed program) (words : HasWords pro
       performed_lighter (plain.StoreGlobal global source) is_one = omega (arith, some)
       performed_lighter j is_one = absurd (false≢true is_one)
 
-  -- A step is matched from after its first line, which was executed before a branch.
+  -- The labelled machine matches a step whose first line was already executed before a branch.
   begun_goes : (c : Configuration) (t : State) → Begun program well frames fit code formed addresses pages calls few c t → Never c → IsStepped above below_machine matching (states.Running c) t
   begun_goes c t begun never = go begun.i begun.at begun.busy begun.more
     where
@@ -495,7 +502,8 @@ module _ (program : Program) (well : IsWellFormed program) (words : HasWords pro
       unread : begun.run.input ≡ begun.before.input
       unread = begun.input ∙ sym (ap (λ (d : labelled.Configuration). d.input) same ∙ begun.ready.now.input)
 
-      -- The walk through all lines without its first step.
+      -- A walk (stretch of a run) through all lines of an instruction, without its first step, is a
+      -- walk through the remaining lines.
       rest : (n : ℕ) (i : Instruction) → Walk code formed addresses globals_length (words_per_call * calls) (suc n) (instruction_line program frames c.active.function c.active.next) (end_of c i) c.output (After program pages calls c) (Comes_to false c) (Running begun.ready.run)
           → Walk code formed addresses globals_length (words_per_call * calls) n (suc begun.before.line) (end_of c i) c.output (After program pages calls c) (Comes_to false c) (Running begun.run)
       rest n i whole =
@@ -503,7 +511,8 @@ module _ (program : Program) (well : IsWellFormed program) (words : HasWords pro
           (subst (λ (d : labelled.Configuration). Walk code formed addresses globals_length (words_per_call * calls) (suc n) (instruction_line program frames c.active.function c.active.next) (end_of c i) c.output (After program pages calls c) (Comes_to false c) (Running d)) (sym same) whole)
           begun.goes
 
-      -- If no further line remains, the run comes nearer to the end of the code.
+      -- If a straight-line instruction has no line after its first, its step decreases the number
+      -- of instructions still ahead.
       straight : (i : Instruction) → instruction_at program (states.place_of (states.Running c)) ≡ Some i → is_idle (frame_at frames c.active.function) c.active.next i ≡ false → is_straight i ≡ true → IsStepped above below_machine matching (states.Running c) t
       straight i at busy is_one =
           stepped true c t begun.run (suc begun.before.line) i begun.input at (omega (arith, before_line)) begun.is
@@ -534,7 +543,7 @@ module _ (program : Program) (well : IsWellFormed program) (words : HasWords pro
       → IsStepped above below_machine matching (states.Running c) t
   known_goes c t matches never i at = go (is_idle (frame_at frames c.active.function) c.active.next i) refl matches
     where
-      -- A step is matched if the instruction's own lines are next.
+      -- The labelled machine matches a step if the instruction's own lines come next.
       then_goes : (idle : Bool) → is_idle (frame_at frames c.active.function) c.active.next i ≡ idle → (u : State) → Ready program well frames fit code formed addresses pages calls few c u
           → Walk code formed addresses globals_length (words_per_call * calls) (least_of idle) (instruction_line program frames c.active.function c.active.next) (end_of c i) c.output (After program pages calls c) (Comes_to idle c) u
       then_goes idle is u ready =

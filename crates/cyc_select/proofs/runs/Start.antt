@@ -1,4 +1,4 @@
--- From its start the code calls `main`, so each whole run of it follows a run of the program.
+-- The start code calls `main`, so each run of the whole code follows a run of the plain program.
 use Rattle.std.proofs.Common.{◌≡◌, ℕ, zero, suc, ◌+◌, ◌-◌, ◌*◌, ◌%◌, ◌^◌, ◌<◌, ◌≤◌, Bool, true, false, List, [], ◌∷◌, ◌++◌, length, replicate, Some, refl, sym, ap, subst, ◌∙◌, arith, inl, inr, length-append}
 use Rattle.std.specs.Prelude.{All, slice_index, slice_set, slice_index_or, unwrap_or, Option, None, ◌==◌, if◌then◌else◌}
 use Rattle.std.specs.List.{AllByRecursion, range_with_len}
@@ -88,7 +88,7 @@ all_words xs all n = elim (cases_lt n (length xs)) [
   | inr past ↦ subst IsWord (sym (get_or_past xs n 0 past)) (let e : 0 < 2 ^ 32 = omega arith in e)
 ]
 
--- A word read from a store of words is a word.
+-- If all words in the store are machine words, each word read from it is a machine word.
 live_word : (s : StoreState) → stores.AreWords s.memory → (a : ℕ) → IsWord (unwrap_or (word_at s a) 0)
 live_word s words a = found (a % 4 == 0) (holder (homes s) a)
   where
@@ -112,7 +112,7 @@ globals_of_long globals few =
     length-append globals (replicate (globals_length - length globals) 0)
     ∙ (ap (λ (n : ℕ). length globals + n) (length-replicate (globals_length - length globals) 0) ∙ (let e : length globals + (globals_length - length globals) ≡ globals_length = omega (arith, few) in e))
 
--- The address of the slots of `main`.
+-- Returns the address of the slots of `main`.
 abbrev pub main_place : Program → List Frame → ℕ
 main_place program frames = stack_end - frame_size + 4 * (frame_at frames program.main).first_slot
 
@@ -215,7 +215,8 @@ module _ (program : Program) (well : IsWellFormed program) (words : HasWords pro
   now : Now code formed addresses globals_length (words_per_call * calls) 0 [] input r w run
   now = record { view = view; r_words = words_r; w_words = words_w; at_line = refl; output = refl; input = refl }
 
-  -- Initially the stack holds zeros, and the data range the globals.
+  -- Initially each word of the stack is zero, and the data range holds the initial words of the
+  -- globals.
   stack_zero : (a : ℕ) → a % 4 ≡ 0 → stack_end - 4 * (words_per_call * calls) ≤ a → a < stack_end → w.words a ≡ 0
   stack_zero a aligned from below =
       ap (loaded (memory_of run)) (place_of-stack (globals_of code.globals) (replicate (words_per_call * calls) 0) store a (omega (arith, long_globals)) (omega (arith, long_stack, few)) (aligned, (omega (arith, from, long_stack)), below))

@@ -1,4 +1,5 @@
--- The instructions that move several words, and those that load and store words of memory.
+-- The simulation of instructions that move several words, and of those that load and store words of
+-- memory.
 use Rattle.std.proofs.Common.{◌≡◌, ◌≢◌, ℕ, zero, suc, ◌+◌, ◌*◌, ◌%◌, ◌^◌, ◌<◌, ◌≤◌, Bool, true, false, List, [], ◌∷◌, ◌++◌, length, Option, None, Some, refl, sym, ap, subst, ◌∙◌, arith, inl, inr}
 use Rattle.std.specs.Prelude.{◌||◌, ◌&&◌, if◌then◌else◌}
 use Rattle.std.proofs.lemmas.Bool.{and_from, eqb-true, or_left, or_right, or_parts}
@@ -61,7 +62,7 @@ use Rattle.cyc_select.proofs.effects.Walks.{Walk, now_at, now_is, walk_end, walk
 module _ (globals stack : ℕ) (frame : Frame) (r : Words) (w : Contents) (slots : Words) (source number : ℕ)
     (cell : (slot : ℕ) → slot < number → IsCell globals stack (memory_address (r FRAME) (slot_offset frame slot)))
     (kept : ℕ → Type 0) (word_is : (slot : ℕ) → slot < number → kept slot → w.words (memory_address (r FRAME) (slot_offset frame slot)) ≡ slots slot) where
-  -- The words of the slots are in the result registers.
+  -- `AreTaken` says that after the loads, the result registers hold the words of the slots.
   record AreTaken (count : ℕ) : Type 0 where
     pub keeps : Keeps globals stack (load_words frame source (result_registers count)) r w FIRST
     pub taken : (k : ℕ) → k < count → after_r (load_words frame source (result_registers count)) r w (result_register k) ≡ slots (source + k)
@@ -131,12 +132,13 @@ module _ (globals stack : ℕ) (frame : Frame) (r : Words) (w : Contents) (slots
 -- ---- addresses
 
 module _ (globals stack : ℕ) (frame : Frame) (base : ℕ) (w : Contents) (r slots : Words) (q : Words) (m : Contents) (zero_is : q ZERO ≡ 0) (same : q FRAME ≡ base) (memory : m ≡ w) (values : ValuesSame q r) where
-  -- The address of a word of memory is the sum of a register and the instruction's immediate.
+  -- `IsAddressed` says that after the instructions `is`, a register plus an immediate is the
+  -- accessed address.
   record IsAddressed (is : List Instr) (register half address : ℕ) : Type 0 where
     pub keeps : Keeps globals stack is q m FIRST
     pub comes : memory_address (after_r is q m (register % 32)) half ≡ address
 
-  -- The address is not in the register of the stored operand.
+  -- The register that holds the address is not the register that holds the word to be stored.
   not_in_second : (address : Operand) (offset : ℕ) → IsHeld globals stack frame base w r slots address → address_register frame address offset % 32 ≢ SECOND
   not_in_second address offset held = go (fits_signed offset)
     where
@@ -216,7 +218,7 @@ module _ (program : Program) (well : IsWellFormed program) (frames : List Frame)
 
   -- ---- several words
 
-  -- No slot with a register is a destination, if the words are moved all at once.
+  -- If a move loads all its words before it stores them, no destination slot has a register.
   moved_apart : (destination source count : ℕ) → IsAt (plain.MoveWords destination source count) → is_crossing destination source count ≡ true → (slot k : ℕ) → value_register frame slot ≡ Some k
       → (is_among destination count slot ≡ false) × (copied c.active.slots source count c.active.slots destination slot ≡ c.active.slots slot)
   moved_apart destination source count at_i crossing slot k has =
@@ -231,7 +233,8 @@ module _ (program : Program) (well : IsWellFormed program) (frames : List Frame)
         ],
       )
 
-  -- All lines of the instruction are emitted.
+  -- `IsCounted` says that the number of lines emitted for an instruction is the length of its full
+  -- code.
   abbrev pub IsCounted : Instruction → Type 0
   IsCounted i = count_of program frames c.active.function c.active.next i ≡ body_count program frames c.active.function i
 
@@ -287,7 +290,7 @@ module _ (program : Program) (well : IsWellFormed program) (frames : List Frame)
             (λ slot k has. (moved_apart destination source count at_i crossing slot k has).0) (λ slot k has. (moved_apart destination source count at_i crossing slot k has).1) (all_same q r take.keeps.values) caches;
       }))))))
 
-  -- A move of several words is matched if the words are moved one by one.
+  -- The labelled machine matches a move of several words if the words are moved one by one.
   each_goes : (destination source count : ℕ) → IsAt (plain.MoveWords destination source count) → IsMoveInRange (routine_at program c.active.function) destination source count
       → is_crossing destination source count ≡ false → IsCounted (plain.MoveWords destination source count)
       → Stands code here (ordinary (moves frame destination source count)) → Goes 1 here (here + moves_count frame destination source count) (Running run)
@@ -348,7 +351,7 @@ module _ (program : Program) (well : IsWellFormed program) (frames : List Frame)
 
   -- ---- a load
 
-  -- An instruction that loads a word or a byte.
+  -- `IsLoad` describes an instruction that loads a word or a byte.
   record IsLoad (width : Width) (i : Instruction) (destination : ℕ) (address : Operand) (offset : ℕ) : Type 0 where
     pub at : IsAt i
     pub free : calls_nothing i ≡ true
@@ -357,7 +360,7 @@ module _ (program : Program) (well : IsWellFormed program) (frames : List Frame)
     pub does : (word : ℕ) → memory_at program c (word_place width (add_of (word_in address) offset)) ≡ Some word → performed program zeros c i ≡ gives c destination (loaded_part width (add_of (word_in address) offset) word)
     pub count : count_of program frames c.active.function c.active.next i ≡ address_count frame address offset + 1 + keep_count frame destination
 
-  -- A load of an existing word is matched.
+  -- The labelled machine matches a load from an address at which the plain program has a word.
   loaded_goes : (width : Width) (i : Instruction) (destination : ℕ) (address : Operand) (offset word : ℕ) → IsLoad width i destination address offset → destination < slots → IsThere address → IsWord offset
       → memory_at program c (word_place width (add_of (word_in address) offset)) ≡ Some word
       → Stands code here (load_at frame (load_op width) destination address offset) → Goes 1 here (here + (address_count frame address offset + 1 + keep_count frame destination)) (Running run)
@@ -445,7 +448,7 @@ module _ (program : Program) (well : IsWellFormed program) (frames : List Frame)
 
   -- ---- a store
 
-  -- An instruction that stores a word or a byte.
+  -- `IsStore` describes an instruction that stores a word or a byte.
   record IsStore (width : Width) (i : Instruction) (address : Operand) (offset : ℕ) (source : Operand) : Type 0 where
     pub at : IsAt i
     pub free : calls_nothing i ≡ true
@@ -456,7 +459,7 @@ module _ (program : Program) (well : IsWellFormed program) (frames : List Frame)
         → performed program zeros c i ≡ states.Running (advanced (with_memory program c (word_place width (add_of (word_in address) offset)) (stored_word width (add_of (word_in address) offset) old (word_in source))))
     pub count : count_of program frames c.active.function c.active.next i ≡ address_count frame address offset + operand_count frame source + 1
 
-  -- The contents of memory are words.
+  -- Each word that memory contains at an address fits a machine word.
   word_at_is : (sort : Sort) (a word : ℕ) → IsWordAt sort globals_length (words_per_call * calls) w a word → IsWord word
   word_at_is OfBlock a word (live, is) = is
   word_at_is OfCell a word (cell, is) = subst IsWord is (now.w_words a)

@@ -1,4 +1,5 @@
--- Words in registers are written to consecutive slots: the store's result, or a function's results.
+-- Registers that hold the results of a store's service or of a function call are written to
+-- consecutive slots.
 use Rattle.std.proofs.Common.{◌≡◌, ◌≢◌, ℕ, zero, suc, ◌+◌, ◌*◌, ◌%◌, ◌<◌, ◌≤◌, Bool, true, false, List, [], ◌∷◌, ◌++◌, length, Option, Some, None, refl, sym, ap, subst, ◌∙◌, arith, inl, inr}
 use Rattle.std.specs.Prelude.{◌⊎◌, ◌&&◌, if◌then◌else◌}
 use Rattle.std.proofs.lemmas.Bool.{cases_eq, cases_lt, ne_eqb, false≢true}
@@ -24,12 +25,14 @@ use Rattle.cyc_select.proofs.relation.Values.{made_in_is}
 use Rattle.cyc_machine_model.specs.declared.constants.TheConstants.{RETURN_ADDRESS}
 use Rattle.cyc_registers.specs.inside.Liveness.{IsLiveAt}
 
--- The slots from `slot` on after the registers' words are written to these slots.
+-- Returns the slots after the words of these registers are written to the consecutive slots from
+-- `slot` on.
 abbrev pub put_all : (slot : ℕ) → List ℕ → (q slots : Words) → Words
 put_all slot [] q slots = slots
 put_all slot (source ∷ sources) q slots = put_all (suc slot) sources q (put slots slot (q (source % 32)))
 
--- All registers in the list are ones that no slot has.
+-- `AreLow` says that all registers in the list have a number below 6, so that no slot has any of
+-- them.
 abbrev pub AreLow : List ℕ → Type 0
 AreLow [] = Unit {0}
 AreLow (source ∷ sources) = (source % 32 < 6) × AreLow sources
@@ -41,8 +44,8 @@ results_low (suc (suc zero)) few = ((omega arith), ((omega arith), tt))
 results_low (suc (suc (suc zero))) few = ((omega arith), ((omega arith), ((omega arith), tt)))
 results_low (suc (suc (suc (suc count)))) few = absurd (omega (arith, few))
 
--- The registers hold the words to be written to the slots from one up to another. No slot that is live at the next place shares a register
--- with one of these.
+-- The module assumes registers that hold the words to be written to the slots `from` to `past`. No slot that is live at the next
+-- instruction shares a register with one of these slots.
 module _ (program : Program) (well : IsWellFormed program) (frames : List Frame) (fit : AreFrames program frames) (addresses : ℕ → ℕ) (pages calls : ℕ) (few : calls ≤ 4096)
     (again : Bool) (c : Configuration) (base back : ℕ) (in_frame : Bool) (next from past : ℕ) (p : Words) (words : (n : ℕ) → n < 6 → IsWord (p n)) (inside : past ≤ (routine_at program c.active.function).slots)
     (shares : (d slot k : ℕ) → from ≤ d → d < past → value_register (frame_at frames c.active.function) d ≡ Some k → value_register (frame_at frames c.active.function) slot ≡ Some k
@@ -53,7 +56,7 @@ module _ (program : Program) (well : IsWellFormed program) (frames : List Frame)
   abbrev StandsWith : (q : Words) (m : Contents) (slots : Words) → Type 0
   StandsWith q m slots = Standing program frames addresses pages calls c q m base back (under_way in_frame) slots
 
-  -- The lines for this slot reload no register of it afterwards.
+  -- `IsLast` says that no register of this slot is reloaded after its word is written.
   abbrev IsLast : (slot : ℕ) → Type 0
   IsLast slot = (again && is_kept (frame_at frames c.active.function) slot) ≡ false
 
@@ -69,7 +72,8 @@ module _ (program : Program) (well : IsWellFormed program) (frames : List Frame)
     pub result : (k : ℕ) → value_register (frame_at frames c.active.function) slot ≡ Some k → IsLast slot → after_r is q m k ≡ word
     pub others : (n : ℕ) → 6 ≤ n → n < 24 → (value_register (frame_at frames c.active.function) slot ≡ Some n → ⊥) → after_r is q m n ≡ q n
 
-  -- A register's word is stored in memory.
+  -- Storing a register's word in the frame writes the slot and keeps the relation between the two
+  -- machines.
   stored_there : (q : Words) (m : Contents) (slots : Words) (register slot word : ℕ) → StandsWith q m slots → slot < (routine_at program c.active.function).slots → q (register % 32) ≡ word
       → StandsWith q (written m (memory_address (q FRAME) (slot_offset (frame_at frames c.active.function) slot)) (q (register % 32))) (put slots slot word)
   stored_there q m slots register slot word s below is =
@@ -78,7 +82,7 @@ module _ (program : Program) (well : IsWellFormed program) (frames : List Frame)
       (subst (λ (x : ℕ). StandsWith q (written m (base + slot_offset (frame_at frames c.active.function) slot) x) (put slots slot word)) (sym is)
       (standing_slot program well frames fit addresses pages calls few c q m base back (under_way in_frame) slots s slot word below))
 
-  -- The word is stored in memory only.
+  -- A result word is brought to its slot by one store, if no register of the slot must be written.
   stored_one : (q : Words) (m : Contents) (slots : Words) (source slot : ℕ) → StandsWith q m slots → slot < (routine_at program c.active.function).slots → q (source % 32) ≡ p (source % 32)
       → ((k : ℕ) → value_register (frame_at frames c.active.function) slot ≡ Some k → IsLast slot → ⊥)
       → IsBrought (store_slot (frame_at frames c.active.function) source slot ∷ []) q m slot slots (p (source % 32))
@@ -90,7 +94,8 @@ module _ (program : Program) (well : IsWellFormed program) (frames : List Frame)
     others = λ n low high other. refl;
   }
 
-  -- The word is copied to the slot's register, and also stored if the home includes memory.
+  -- A result word is copied to the slot's register, and also stored in memory if the slot's home
+  -- includes memory.
   copied_one : (q : Words) (m : Contents) (slots : Words) (source slot k : ℕ) → StandsWith q m slots → slot < (routine_at program c.active.function).slots → source % 32 < 6 → q (source % 32) ≡ p (source % 32)
       → value_register (frame_at frames c.active.function) slot ≡ Some k → (kept : Bool) → is_kept (frame_at frames c.active.function) slot ≡ kept
       → IsBrought (copy k source ∷ (if kept then store_slot (frame_at frames c.active.function) (made_in (frame_at frames c.active.function) slot) slot ∷ [] else [])) q m slot slots (p (source % 32))
@@ -181,7 +186,8 @@ module _ (program : Program) (well : IsWellFormed program) (frames : List Frame)
 
   -- ---- all words
 
-  -- Registers that are not reloaded hold their slots' words, if those are live next, except for `count` slots.
+  -- `CachesBut` says that registers that are not reloaded hold the words of their slots live at the next
+  -- instruction, except for `count` slots from `slot` on.
   abbrev pub CachesBut : (slot count : ℕ) (q slots : Words) → Type 0
   CachesBut slot count q slots =
       (a k : ℕ) → value_register (frame_at frames c.active.function) a ≡ Some k → IsLiveAt program (routine_at program c.active.function) a next → IsLast a → a < slot ⊎ slot + count ≤ a → q k ≡ slots a

@@ -1,4 +1,5 @@
--- Calls: a new frame below the caller's, or the end of a run without room for one.
+-- The simulation of calls: the callee's frame lies below the caller's, or the run ends if the stack
+-- has no space for it.
 use Rattle.std.proofs.Common.{◌≡◌, ◌≢◌, ℕ, suc, ◌+◌, ◌-◌, ◌*◌, ◌%◌, ◌<◌, ◌≤◌, Bool, true, false, not, List, [], ◌∷◌, ◌++◌, length, Option, Some, None, slice_get, refl, sym, ap, subst, ◌∙◌, arith, inl, inr}
 use Rattle.std.specs.Prelude.{◌==◌, if◌then◌else◌, nat_le}
 use Rattle.std.proofs.lemmas.Bool.{cases_eq, cases_lt, eq-eqb, ne_eqb, and_right, lt-leb}
@@ -53,7 +54,7 @@ pub length_ordinary : (is : List Instr) → length (ordinary is) ≡ length is
 length_ordinary [] = refl
 length_ordinary (i ∷ is) = ap suc (length_ordinary is)
 
--- The last line of a call.
+-- The last line of a call's code is the jump to the callee.
 pub call_last : (code : Labelled) (caller callee : Frame) (here label arguments count : ℕ) → Stands code here (calling_code caller callee here label arguments count)
     → slice_get code.lines (here + 4 + copies_count caller callee arguments 0 count) ≡ Some (lines.Call label)
 call_last code caller callee here label arguments count stands =
@@ -81,7 +82,7 @@ module _ (program : Program) (well : IsWellFormed program) (frames : List Frame)
   abbrev mine : Frame
   mine = frame_at frames c.active.function
 
-  -- The layout of the callee's frame that the caller relies on.
+  -- Returns the callee's frame as callers see it, with the homes in which arguments arrive.
   abbrev its : Frame
   its = coming (frame_at frames callee)
 
@@ -100,7 +101,7 @@ module _ (program : Program) (well : IsWellFormed program) (frames : List Frame)
   abbrev call_line : List Line
   call_line = lines.Call (function_line program frames callee) ∷ []
 
-  -- The lines at which the parts of a call begin.
+  -- The lines that end a run on a full stack stand at the line after the first line of a call.
   at_full : Stands code (here + 1) (ordinary (small 2 11 ∷ syscall ∷ []))
   at_full =
       stands_front code (here + 1) (ordinary (small 2 11 ∷ syscall ∷ [])) (ordinary entry ++ (ordinary passed ++ call_line))
@@ -117,7 +118,7 @@ module _ (program : Program) (well : IsWellFormed program) (frames : List Frame)
       subst (λ (n : ℕ). slice_get code.lines (here + 3 + 1 + n) ≡ Some (lines.Call (function_line program frames callee))) (length_ordinary passed)
       (stands_back code (here + 3 + 1) (ordinary passed) call_line at_passed).0
 
-  -- The homes of the callee's slots are correct.
+  -- The frame of the callee assigns correct homes to the callee's slots.
   its_right : AreHomes program (routine_at program callee) (frame_at frames callee).saved (frame_at frames callee).homes
   its_right = fit.homes callee in_range.function_in_range
 
@@ -131,7 +132,7 @@ module _ (program : Program) (well : IsWellFormed program) (frames : List Frame)
       let l = lies program well frames fit addresses pages calls few c r w base back (stage_of frames c) c.active.slots s in
       (l.below_end, l.above_low, l.aligned)
 
-  -- Below the caller's frame there is room for the slots of any function.
+  -- Below the caller's frame, the stack has space for the slots of the callee.
   room_below : IsBelow program callee (c.active.base - 4 * (routine_at program callee).slots) c.active.base
   room_below =
       let fits = slots_fit (routine_at program callee) (frame_at frames callee) (fit.each callee in_range.function_in_range) in
@@ -184,7 +185,8 @@ module _ (program : Program) (well : IsWellFormed program) (frames : List Frame)
         ap (λ (x : ℕ). add_of x (sign_extended (minus frame_size))) s.base_is
         ∙ take_small base frame_size (omega (arith, here_lies.0)) (omega arith) (omega arith) (omega (arith, low_is))
 
-    -- The arguments are in memory and in registers as before.
+    -- Each argument that is not passed from a register is still in the caller's frame when it is
+    -- passed.
     argument_there : (slot : ℕ) → slot < count → passed_from mine its (arguments + slot) (0 + slot) ≡ None → w.words (base + slot_offset mine (arguments + slot)) ≡ c.active.slots (arguments + slot)
     argument_there slot below none = there slot below (ap (passed_from mine its (arguments + slot)) (let e : slot ≡ 0 + slot = omega arith in e) ∙ none)
 
@@ -220,7 +222,8 @@ module _ (program : Program) (well : IsWellFormed program) (frames : List Frame)
     abbrev r3 : Words
     r3 = put r2 RETURN_ADDRESS (addresses (here + 3 + 1 + length passed + 1))
 
-    -- The initial contents of the callee's slots.
+    -- Returns the choice of the initial contents of the callee's slots: the words that its frame
+    -- contains.
     abbrev choice : Choice
     choice = record { contents = λ (slot : ℕ). w2.words (low + slot_offset its slot); base = low + 4 * its.first_slot; serving = zeros.serving }
 
@@ -236,7 +239,8 @@ module _ (program : Program) (well : IsWellFormed program) (frames : List Frame)
     above_kept : (a : ℕ) → base ≤ a → w2.words a ≡ w.words a
     above_kept a over = copied_now.outside a (inr over)
 
-    -- The callee-saved registers are as in the caller, since no argument arrives in one.
+    -- After the arguments are passed, the callee-saved registers are as in the caller, since no
+    -- argument arrives in one.
     preserved_same : (j : ℕ) → j < 7 → r3 (17 + j) ≡ r (17 + j)
     preserved_same j high =
         put-other r2 RETURN_ADDRESS (17 + j) (addresses (here + 3 + 1 + length passed + 1)) (λ e. absurd (omega (arith, e, high)))
@@ -246,7 +250,8 @@ module _ (program : Program) (well : IsWellFormed program) (frames : List Frame)
         unpassed : (i j : ℕ) → i < count → value_register its (0 + i) ≡ Some (17 + j) → ⊥
         unpassed i j below has = (let low = (came_in (frame_at frames callee) (0 + i) (17 + j) has).1 in omega (arith, low))
 
-    -- The caller leaves equal words, given the words that the callee leaves.
+    -- The words that the caller leaves in callee-saved registers are unchanged if the callee leaves
+    -- these registers as they were.
     own_left_is : (j : ℕ) → j < 7 → LeftBy mine base (preserved_of r3) w2 j ≡ s.left j
     own_left_is j high =
         left_same mine.first_saved mine.saved base (preserved_of r) (preserved_of r3) w w2 (λ i past small. preserved_same i small)
@@ -256,7 +261,7 @@ module _ (program : Program) (well : IsWellFormed program) (frames : List Frame)
     own_chain : Chain program frames addresses w2 base back (LeftBy mine base (preserved_of r3) w2) c.active.function c.frames
     own_chain = chain_kept program frames fit addresses w w2 base back s.left (LeftBy mine base (preserved_of r3) w2) c.active.function c.frames (λ a over. above_kept a (omega (arith, over))) own_left_is s.chain
 
-    -- The caller's return address is in its frame.
+    -- The return address of the caller is in the caller's frame.
     saved_is : w2.words (base + 4 * mine.return_address) ≡ back
     saved_is =
         let saved = saves_at program frames fit c.active.function c.active.next (plain.Call callee arguments count result) s.known at_i refl in
@@ -318,7 +323,7 @@ module _ (program : Program) (well : IsWellFormed program) (frames : List Frame)
       middle = copied_now.kept GLOBALS (inr (omega arith)) ∙ s.middle;
     }
 
-    -- The live parameters are in the registers in which they arrive.
+    -- After a call, each live parameter is in the register in which it arrives.
     entered_caches : (slot k : ℕ) → value_register its slot ≡ Some k → IsLiveAt program (routine_at program callee) slot 0 → r3 k ≡ copied c.active.slots arguments count choice.contents 0 slot
     entered_caches slot k comes wanted =
         let has = (came_in (frame_at frames callee) slot k comes).0 in
@@ -330,7 +335,7 @@ module _ (program : Program) (well : IsWellFormed program) (frames : List Frame)
         its_right.parameters slot i k has (came_in (frame_at frames callee) i k (ap (value_register its) (let e : i ≡ 0 + i = omega arith in e) ∙ there)).0 (let takes = in_range.takes in omega (arith, takes, i_below)) wanted)
         ∙ sym (ap (copied c.active.slots arguments count choice.contents 0) zero_slot ∙ copied-inside c.active.slots choice.contents arguments count 0 slot below))
 
-    -- The parameters that are passed in memory are in memory after the call.
+    -- After a call, each parameter that is passed in memory is in the callee's frame.
     entered_there : (slot : ℕ) → slot < (routine_at program callee).parameters → is_kept its slot ≡ true → w2.words (low + slot_offset its slot) ≡ copied c.active.slots arguments count choice.contents 0 slot
     entered_there slot below kept =
         let argument : slot < count = (let takes = in_range.takes in omega (arith, takes, below)) in
@@ -339,7 +344,7 @@ module _ (program : Program) (well : IsWellFormed program) (frames : List Frame)
         ∙ (copied_now.inside slot argument (ap (is_kept its) (sym zero_slot) ∙ kept)
         ∙ sym (ap (copied c.active.slots arguments count choice.contents 0) zero_slot ∙ copied-inside c.active.slots choice.contents arguments count 0 slot argument))
 
-    -- The slots of the callee lie below the caller's.
+    -- The slots of the callee lie below the slots of the caller.
     new_below : IsBelow program callee (low + 4 * its.first_slot) c.active.base
     new_below =
         let fits = slots_fit (routine_at program callee) (frame_at frames callee) (fit.each callee in_range.function_in_range) in

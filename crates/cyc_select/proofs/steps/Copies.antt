@@ -1,4 +1,5 @@
--- Arguments passed from a caller, through registers or from its frame, to the slots of the frame below.
+-- Arguments are passed from a caller, in registers or from its frame, to the slots of the callee's
+-- frame below.
 use Rattle.std.proofs.Common.{◌≡◌, ◌≢◌, ℕ, zero, suc, ◌+◌, ◌%◌, ◌^◌, ◌<◌, ◌≤◌, Bool, true, false, List, [], ◌∷◌, ◌++◌, Option, Some, None, refl, sym, ap, subst, ◌∙◌, arith, inl, inr}
 use Rattle.std.specs.Prelude.{◌⊎◌, ◌==◌, if◌then◌else◌}
 use Rattle.std.proofs.lemmas.Bool.{cases_eq, eqb-false, eqb-true, ne_eqb, false≢true, or_parts}
@@ -39,7 +40,7 @@ is_free (Some register) callee slot k from = go (is_taken callee slot register) 
     go true taken there = absurd (let e : None ≡ Some k = there in cc)
     go false free there = (there, ap (is_taken callee slot) (let e : k ≡ register = (let f : Some register ≡ Some k = there in cc) in e) ∙ free)
 
--- The effect of the copies on registers and memory, for arguments with these values.
+-- `Copied` describes the effect of passing arguments with the values `v` on registers and memory.
 pub record Copied (globals stack : ℕ) (caller callee : Frame) (low base : ℕ) (v : ℕ → ℕ) (source slot count : ℕ) (q : Words) (m : Contents) : Type 0 where
   pub safe : AreSafe globals stack (copies caller callee source slot count) q m
   pub kept : (n : ℕ) → n < 6 ⊎ 24 < n → after_r (copies caller callee source slot count) q m n ≡ q n
@@ -47,12 +48,13 @@ pub record Copied (globals stack : ℕ) (caller callee : Frame) (low base : ℕ)
   pub before : (j : ℕ) → j < slot → (after_w (copies caller callee source slot count) q m).words (low + slot_offset callee j) ≡ m.words (low + slot_offset callee j)
   pub inside : (j : ℕ) → j < count → is_kept callee (slot + j) ≡ true → (after_w (copies caller callee source slot count) q m).words (low + slot_offset callee (slot + j)) ≡ v (source + j)
   pub store : (after_w (copies caller callee source slot count) q m).store ≡ m.store
-  -- A register that exactly one copied slot has contains that slot's word; a register that no copied slot has is unchanged.
+  -- After the arguments are copied, a register of exactly one callee slot contains that slot's argument; a register of no
+  -- copied slot is unchanged.
   pub values : (j k : ℕ) → j < count → value_register callee (slot + j) ≡ Some k → ((i : ℕ) → i < count → value_register callee (slot + i) ≡ Some k → j ≡ i)
       → after_r (copies caller callee source slot count) q m k ≡ v (source + j)
   pub spares : (k : ℕ) → 6 ≤ k → k < 24 → ((i : ℕ) → i < count → value_register callee (slot + i) ≡ Some k → ⊥) → after_r (copies caller callee source slot count) q m k ≡ q k
 
--- The frames of a caller and its callee, adjacent in the stack.
+-- The module assumes the frames of a caller and its callee, adjacent in the stack.
 module _ (globals stack : ℕ) (caller callee : Frame) (caller_slots callee_slots : ℕ) (low base : ℕ) (above : low + frame_size ≡ base) (word : base + frame_size < 2 ^ 32)
     (caller_inside : (slot : ℕ) → slot < caller_slots → slot_word caller slot < MOST_FRAME_WORDS)
     (callee_inside : (slot : ℕ) → slot < callee_slots → slot_word callee slot < MOST_FRAME_WORDS)
@@ -60,7 +62,7 @@ module _ (globals stack : ℕ) (caller callee : Frame) (caller_slots callee_slot
     (caller_cell : (slot : ℕ) → slot < caller_slots → IsCell globals stack (base + slot_offset caller slot))
     (callee_cell : (slot : ℕ) → slot < callee_slots → IsCell globals stack (low + slot_offset callee slot))
     (from_low : (slot k : ℕ) → value_register callee slot ≡ Some k → 6 ≤ k) (below_high : (slot k : ℕ) → value_register callee slot ≡ Some k → k < 24) where
-  -- Each argument passes through its slot's register or the first temporary.
+  -- Each argument passes through the register of its slot or through the first temporary register.
   made_range : (slot : ℕ) → (6 ≤ made_in callee slot % 32) × (made_in callee slot % 32 ≤ 24)
   made_range slot = go (value_register callee slot) refl
     where
@@ -129,7 +131,8 @@ module _ (globals stack : ℕ) (caller callee : Frame) (caller_slots callee_slot
     pub inside : is_kept callee slot ≡ true → (after_w is q m).words (low + slot_offset callee slot) ≡ value
     pub store : (after_w is q m).store ≡ m.store
 
-  -- An instruction that leaves the word in the register of the callee's slot.
+  -- An instruction that puts the argument into the register of the callee's slot, followed by the
+  -- line that keeps it, passes the argument.
   through : (i : Instr) (slot : ℕ) (q : Words) (m : Contents) (value got : ℕ) → q FRAME ≡ low → slot < callee_slots → AreSafe globals stack (i ∷ []) q m
       → after_r (i ∷ []) q m ≡ put q (made_in callee slot % 32) got → after_w (i ∷ []) q m ≡ m → got ≡ value → Passes (i ∷ keep_code callee slot) slot q m value
   through i slot q m value got is_low below safe_here registers memory is =
@@ -159,7 +162,7 @@ module _ (globals stack : ℕ) (caller callee : Frame) (caller_slots callee_slot
       sum_is : (n : ℕ) → IsWord n → add_of n 0 ≡ n
       sum_is n fits = let e : add_of n 0 ≡ n = omega (arith, fits) in e
 
-      -- The argument is passed from a register.
+      -- An argument that is in a register of the caller is passed from this register.
       given : (o : Option ℕ) (k : ℕ) → value_register callee slot ≡ o → (k < 24) × (q k ≡ value) × IsWord value → Passes (give_to o callee k slot) slot q m value
       given None k none (high, is, fits) =
           let whole : k % 32 ≡ k = omega (arith, high) in
@@ -181,7 +184,7 @@ module _ (globals stack : ℕ) (caller callee : Frame) (caller_slots callee_slot
           (ap (λ (n : ℕ). put q (n % 32) (add_of (q (k % 32)) (q 0))) (sym made)) refl
           (ap (add_of (q (k % 32))) zero_is ∙ (ap (λ (x : ℕ). add_of x 0) (ap q whole ∙ is) ∙ sum_is value fits))
 
-      -- The argument is in its own register already.
+      -- If `is_own` holds, the argument is already in the register of its slot.
       is_there : (o : Option ℕ) (k : ℕ) → is_own o k ≡ true → o ≡ Some k
       is_there None k own = absurd (false≢true own)
       is_there (Some register) k own = ap Some (eqb-true register k own)
@@ -268,7 +271,8 @@ module _ (globals stack : ℕ) (caller callee : Frame) (caller_slots callee_slot
       out_of slot fits a (inl below) same = omega (arith, below, same)
       out_of slot fits a (inr over) same = omega (arith, over, same, above, fits)
 
-      -- The register that an argument at this position is passed from.
+      -- The register from which an argument is passed depends only on the argument's position in
+      -- the call.
       from_at : (source slot j : ℕ) (s t : ℕ) → s ≡ source + j → t ≡ slot + j → passed_from caller callee (source + j) (slot + j) ≡ passed_from caller callee s t
       from_at source slot j s t is_s is_t = ap (λ (n : ℕ). passed_from caller callee n (slot + j)) (sym is_s) ∙ ap (passed_from caller callee s) (sym is_t)
 
@@ -291,7 +295,7 @@ module _ (globals stack : ℕ) (caller callee : Frame) (caller_slots callee_slot
           ap (λ (n : ℕ). m.words (base + slot_offset caller n)) (sym next)
           ∙ (there (suc j) (omega (arith, below)) (from_at source slot (suc j) (suc source + j) (suc slot + j) (omega arith) (omega arith) ∙ none) ∙ ap v next)
 
-      -- The registers of the remaining arguments are unchanged.
+      -- Passing one argument leaves the registers that hold the remaining arguments unchanged.
       next_held : (v : ℕ → ℕ) (source slot count : ℕ) (q : Words) → AreHeld v source slot (suc count) q → (q1 : Words) → ((n : ℕ) → n < 24 → (value_register callee slot ≡ Some n → ⊥) → q1 n ≡ q n)
           → (j k : ℕ) → j < count → passed_from caller callee (suc source + j) (suc slot + j) ≡ Some k → (6 ≤ k) × (k < 24) × (q1 k ≡ v (suc source + j)) × IsWord (v (suc source + j))
       next_held v source slot count q held q1 others j k below some =

@@ -1,4 +1,4 @@
--- Divisions by a divisor that may be -1.
+-- The simulation of divisions whose divisor may be -1.
 use Rattle.std.proofs.Common.{◌≡◌, ◌≢◌, ℕ, suc, ◌+◌, ◌-◌, ◌*◌, ◌%◌, ◌^◌, ◌<◌, ◌≤◌, Bool, not, List, [], ◌∷◌, ◌++◌, length, Some, refl, sym, ap, subst, ◌∙◌, arith, inl, inr}
 use Rattle.std.specs.Prelude.{◌==◌, if◌then◌else◌}
 use Rattle.std.proofs.lemmas.Bool.{cases_eq, eq-eqb, ne_eqb}
@@ -79,16 +79,17 @@ module _ (program : Program) (well : IsWellFormed program) (frames : List Frame)
   abbrev Held : Operand → Type 0
   Held o = IsHeld globals_length (words_per_call * calls) frame (r FRAME) w r c.active.slots o
 
-  -- The quotient or the remainder of a division.
+  -- Returns the quotient or the remainder of a division.
   abbrev result_of : MoveFromOp → ℕ → ℕ → ℕ
   result_of which a b = multiply_divide_result Divide which a b
 
-  -- The register that the result is read from.
+  -- Returns the number of the register with the result of a division: HI or LO.
   abbrev part : MoveFromOp → ℕ
   part High = 32
   part Low = 33
 
-  -- The destination register receives the result.
+  -- The instruction that moves the result of a division from HI or LO to the destination's
+  -- register.
   abbrev reads_part : MoveFromOp → (destination : ℕ) → List Instr
   reads_part which destination = move_from_of which (made_in frame destination) ∷ []
 
@@ -106,7 +107,7 @@ module _ (program : Program) (well : IsWellFormed program) (frames : List Frame)
     others = λ n below other. put-other q (made_in frame destination % 32) n (q 33) other;
   }
 
-  -- A division or a product writes only HI and LO.
+  -- A multiplication or division writes only the registers HI and LO.
   parts_agree : (op : MultiplyDivideOp) (a b : ℕ) (q : Words) → Agrees program well frames fit code formed addresses pages calls few c run r w base back now s caches FIRST q → Agrees program well frames fit code formed addresses pages calls few c run r w base back now s caches FIRST (after_r (multiply_divide_of op a b ∷ []) q w)
   parts_agree op a b q agrees = record {
     zero_same = agrees.zero_same;
@@ -125,11 +126,11 @@ module _ (program : Program) (well : IsWellFormed program) (frames : List Frame)
       (does : performed program zeros c (plain.Binary operator destination left right) ≡ gives c destination (result_of which (word_of left) (word_of right)))
       (nonzero : word_of right ≢ 0) (counted : count_of program frames c.active.function c.active.next (plain.Binary operator destination left right) ≡ divide_count frame destination left right)
       (by_minus : (a : ℕ) → IsWord a → multiply_divide_result Multiply which (if_low which a 0) (if_low which (2 ^ 32 - 1) 0) ≡ result_of which a (2 ^ 32 - 1)) where
-    -- The number of lines that load the operands.
+    -- Returns the number of lines that load the two operands of a division.
     abbrev loads : ℕ
     loads = operand_count frame left + operand_count frame right
 
-    -- The registers of the operands.
+    -- Returns the register of the first operand of a division.
     abbrev first : ℕ
     first = operand_register frame FIRST left
 
@@ -145,7 +146,8 @@ module _ (program : Program) (well : IsWellFormed program) (frames : List Frame)
     abbrev hi : ℕ
     hi = here + divide_count frame destination left right
 
-    -- After the division, the result is moved from HI or LO to the destination.
+    -- After the division instruction, the lines that move its result from HI or LO to the
+    -- destination match the step.
     finished : (q : Words) (d : labelled.Configuration) → At program well frames fit code formed addresses pages calls few (here + loads + 5) c.output c.input q w d → Stands code (here + loads + 5) (ordinary (reads_part which destination ++ keep_code frame destination))
         → Agrees program well frames fit code formed addresses pages calls few c run r w base back now s caches FIRST q → q (part which) ≡ result_of which (word_of left) (word_of right)
         → Goes 0 (here + loads + 5) (here + divide_count frame destination left right) (Running d)
@@ -166,7 +168,8 @@ module _ (program : Program) (well : IsWellFormed program) (frames : List Frame)
         ∷ lines.Jump (here + loads + 5)
         ∷ ordinary (quotient_code frame which destination (operand_register frame FIRST left) (operand_register frame SECOND right))
 
-    -- The remaining lines, after the operands are loaded into these registers.
+    -- The module concerns the lines of a division that follow after the operands are loaded into
+    -- their registers.
     module _ (q : Words) (d : labelled.Configuration) (later : At program well frames fit code formed addresses pages calls few (here + loads + 1) c.output c.input q w d)
         (stands : Stands code (here + loads + 1) (lines.Branch (conditions.Registers branch.NotEqual (register_of (operand_register frame SECOND right)) (register_of THIRD)) (here + loads + 4) ∷ last))
         (agrees : Agrees program well frames fit code formed addresses pages calls few c run r w base back now s caches FIRST q)
@@ -186,7 +189,7 @@ module _ (program : Program) (well : IsWellFormed program) (frames : List Frame)
       part_stands : Stands code (here + loads + 5) (ordinary (reads_part which destination ++ keep_code frame destination))
       part_stands = subst (λ (n : ℕ). Stands code n (ordinary (reads_part which destination ++ keep_code frame destination))) five quotient_stands.1
 
-      -- For the divisor -1, the product equals the result of the division.
+      -- If the divisor is -1, the product computes the same quotient and remainder as the division.
       multiplied : word_of right ≡ 2 ^ 32 - 1 → (from : MoveFromOp) → ((a : ℕ) → IsWord a → multiply_divide_result Multiply from (if_low from a 0) (if_low from (2 ^ 32 - 1) 0) ≡ result_of from a (2 ^ 32 - 1))
           → after_r (product_code from (operand_register frame FIRST left) ∷ []) q w (part from) ≡ result_of from (word_of left) (word_of right)
       multiplied same High law =

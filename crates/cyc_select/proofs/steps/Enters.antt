@@ -1,4 +1,4 @@
--- Checks of stack room: the run continues if room is left, and ends otherwise.
+-- The simulation of checks for stack space: the run continues if enough is left, otherwise it ends.
 use Rattle.std.proofs.Common.{◌≡◌, ◌≢◌, ℕ, suc, ◌+◌, ◌-◌, ◌*◌, ◌%◌, ◌<◌, ◌≤◌, Bool, false, not, List, [], ◌∷◌, length, Option, Some, refl, sym, ap, ◌∙◌, arith, inl, inr}
 use Rattle.std.specs.Prelude.{◌==◌, if◌then◌else◌, nat_le}
 use Rattle.std.proofs.lemmas.Bool.{cases_eq, eq-eqb, ne_eqb, and_right, lt-leb}
@@ -65,7 +65,7 @@ module _ (program : Program) (well : IsWellFormed program) (frames : List Frame)
       let l = lies program well frames fit addresses pages calls few c r w base back (stage_of frames c) c.active.slots s in
       (l.below_end, l.above_low, l.aligned)
 
-  -- Below the caller's frame there is room for the slots of any function.
+  -- Below the caller's frame, the stack has space for the slots of the callee.
   room_below : IsBelow program callee (c.active.base - 4 * (routine_at program callee).slots) c.active.base
   room_below =
       let fits = slots_fit (routine_at program callee) (frame_at frames callee) (fit.each callee known) in

@@ -1,4 +1,5 @@
--- A function's entry: the lines that save the return address and registers, and those that load parameters from memory.
+-- The simulation of a function's entry: the lines that save the return address and registers, and those that load
+-- parameters from memory.
 use Rattle.std.proofs.Common.{◌≡◌, ◌≢◌, ℕ, suc, ◌+◌, ◌*◌, ◌<◌, ◌≤◌, Bool, true, false, List, [], ◌∷◌, ◌++◌, length, length-append, sym, ap, refl, subst, ◌∙◌, arith, inl, inr}
 use Rattle.std.specs.Prelude.{if◌then◌else◌}
 use Rattle.cyc_isa.specs.Effect.{memory_address}
@@ -64,7 +65,7 @@ module _ (program : Program) (well : IsWellFormed program) (frames : List Frame)
   abbrev Goes : ℕ → State → Type 0
   Goes line t = Walk code formed addresses globals_length (words_per_call * calls) n line hi c.output (After program pages calls c) Goal t
 
-  -- The line that saves the return address, and memory after it.
+  -- The line that saves the return address, and the contents of memory after it.
   abbrev way : List Instr
   way = way_code frame
 
@@ -90,7 +91,8 @@ module _ (program : Program) (well : IsWellFormed program) (frames : List Frame)
   saved : AreSaved globals_length (words_per_call * calls) e.base frame.first_saved (omega (arith, here_lies.below_end)) room saved_cell 0 frame.saved e.r kept
   saved = are_saved globals_length (words_per_call * calls) e.base frame.first_saved (omega (arith, here_lies.below_end)) room saved_cell 0 frame.saved e.r kept e.standing.base_is (omega (arith, own.most_saved))
 
-  -- The line that saves the return address.
+  -- `IsKeptBy` describes the effect of the line that saves the return address, if the function has
+  -- one.
   record IsKeptBy (b : Bool) : Type 0 where
     pub safe : AreSafe globals_length (words_per_call * calls) (if b then store RETURN_ADDRESS (4 * frame.return_address) ∷ [] else []) e.r e.w
     pub registers : after_r (if b then store RETURN_ADDRESS (4 * frame.return_address) ∷ [] else []) e.r e.w ≡ e.r
@@ -113,7 +115,7 @@ module _ (program : Program) (well : IsWellFormed program) (frames : List Frame)
   way_kept : IsKeptBy frame.saves
   way_kept = kept_by frame.saves
 
-  -- The words of saved registers are disjoint from all other words of the frame.
+  -- The frame's words for saved registers are disjoint from all of the frame's other words.
   beside : (a : ℕ) → ((j : ℕ) → j < 7 → a ≢ e.base + 4 * (frame.first_saved + j)) → final.words a ≡ kept.words a
   beside a apart = saved.untouched a (λ j below. apart j (omega (arith, below, own.most_saved)))
 
@@ -130,7 +132,7 @@ module _ (program : Program) (well : IsWellFormed program) (frames : List Frame)
   right : AreHomes program (routine_at program c.active.function) (frame_at frames c.active.function).saved (frame_at frames c.active.function).homes
   right = fit.homes c.active.function e.standing.known
 
-  -- No slot's word is overwritten by a save.
+  -- The saves of registers at a function's entry overwrite no slot's word.
   still : (slot : ℕ) → slot < (routine_at program c.active.function).slots → final.words (e.base + slot_offset frame slot) ≡ e.w.words (e.base + slot_offset frame slot)
   still slot below =
       beside (e.base + slot_offset frame slot) (λ j high same. own.saved_beside slot j below high (omega (arith, same)))
@@ -153,7 +155,7 @@ module _ (program : Program) (well : IsWellFormed program) (frames : List Frame)
   abbrev last : Words
   last = after_r (arrivals frame) e.r final
 
-  -- The effect of all lines of a function's entry.
+  -- The saves and loads of parameters at a function's entry leave exactly the registers `last`.
   registers_same : after_r (saving_code frame) e.r e.w ≡ last
   registers_same =
       after_r-append (way_code frame) (saves frame ++ arrivals frame) e.r e.w

@@ -1,4 +1,5 @@
--- Globals, the number of open lexical regions, and addresses of slots.
+-- The simulation of instructions on globals, the number of open lexical regions, and addresses of
+-- slots.
 use Rattle.std.proofs.Common.{◌≡◌, ℕ, length-append, ◌+◌, ◌-◌, ◌*◌, ◌%◌, ◌^◌, ◌<◌, ◌≤◌, List, [], ◌∷◌, ◌++◌, length, Some, refl, sym, ap, subst, ◌∙◌, arith, inl}
 use Rattle.cyc_words.specs.Word.{add_of, sign_extended}
 use Rattle.cyc_words.proofs.Numbers.{eqb_next}
@@ -73,7 +74,7 @@ module _ (program : Program) (well : IsWellFormed program) (frames : List Frame)
 
   -- ---- globals
 
-  -- The word of a global is at the computed address.
+  -- The address computed for a global is that of an aligned word in the data range.
   global_there : (global address : ℕ) → address ≡ data_base + 4 * global → global < length program.globals → IsCell globals_length (words_per_call * calls) address
   global_there global address is below =
       subst (IsCell globals_length (words_per_call * calls)) (sym is)

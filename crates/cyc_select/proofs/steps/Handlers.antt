@@ -1,4 +1,5 @@
--- The instructions that open and close handlers, and the lines at which an exception arrives.
+-- The simulation of the instructions that open and close exception handlers, and of the lines at
+-- which an exception arrives.
 use Rattle.std.proofs.Common.{◌≡◌, ℕ, suc, ◌+◌, ◌*◌, ◌<◌, ◌≤◌, Bool, true, false, List, [], ◌∷◌, ◌++◌, length, Some, slice_get, refl, sym, ap, subst, ◌∙◌, arith, inl, inr}
 use Rattle.std.specs.Prelude.{◌==◌, if◌then◌else◌}
 use Rattle.std.proofs.lemmas.Bool.{or_left, false≢true}
@@ -150,7 +151,8 @@ module _ (program : Program) (well : IsWellFormed program) (frames : List Frame)
 
     -- ---- a handler is closed
 
-    -- The innermost handler is the one with this record.
+    -- `IsClosed` says that the innermost handler is the one whose record begins at the slot
+    -- `first`.
     record IsClosed (first : ℕ) (handlers : List Handler) : Type 0 where
       pub contents : Words
       pub rest : List Handler
@@ -231,14 +233,15 @@ module _ (program : Program) (well : IsWellFormed program) (frames : List Frame)
       stored : stage_of frames c ≡ under_way true
       stored = ap under_way (saves_at program frames fit c.active.function c.active.next (plain.Try first handler) s.known at_i refl)
 
-      -- The frame contains the return address.
+      -- The frame of the active call contains its return address.
       s0 : Standing program frames addresses pages calls c r w base back (under_way true) c.active.slots
       s0 = subst (λ (x : Stage). Standing program frames addresses pages calls c r w base back x c.active.slots) stored s
 
       in_record : first + 4 ≤ slots
       in_record = in_range.record_in_range
 
-      -- A slot is written from a register, at its word in the frame.
+      -- Storing a register's word at a slot's place in the frame writes this slot and keeps
+      -- `Standing`.
       put_slot : (q : Words) (m : Contents) (there : Words) (slot word : ℕ) → slot < slots → Standing program frames addresses pages calls c q m base back (under_way true) there
           → Standing program frames addresses pages calls c q (written m (memory_address (q FRAME) (slot_offset frame slot)) word) base back (under_way true) (put there slot word)
       put_slot q m there slot word below stands =
@@ -266,7 +269,7 @@ module _ (program : Program) (well : IsWellFormed program) (frames : List Frame)
           put_slot r w1 (put c.active.slots first (r HANDLERS)) (first + 1) (r FRAME) (omega (arith, in_record))
           (put_slot r w c.active.slots first (r HANDLERS) (omega (arith, in_record)) s0)
 
-      -- The line at which an exception arrives.
+      -- Returns the address of the line at which an exception arrives.
       abbrev landing : ℕ
       landing = addresses (here + 2 + 1)
 
@@ -306,7 +309,7 @@ module _ (program : Program) (well : IsWellFormed program) (frames : List Frame)
       abbrev contents : Words
       contents = record_words (r HANDLERS) (r FRAME) (addresses (here + 2 + 1)) (c.active.slots (first + 3))
 
-      -- The last word of the handler's record is not written.
+      -- The last word of the handler's record is the unchanged word of its slot.
       last_word : IsWord (c.active.slots (first + 3))
       last_word =
           subst IsWord
@@ -379,7 +382,7 @@ module _ (program : Program) (well : IsWellFormed program) (frames : List Frame)
           subst (λ (n : ℕ). Stands code n (ordinary after)) (let e : here + 2 + 1 + length (ordinary (caught_code frame first)) + 1 ≡ here + 6 + reload_count frame = omega (arith, length_caught) in e)
           (stands_back code (here + 2 + 1) (ordinary (caught_code frame first)) (lines.Jump (instruction_line program frames c.active.function handler) ∷ ordinary after) call_stands.1).1
 
-      -- No slot with a register belongs to the record.
+      -- Writing the handler's record leaves the slots outside the record unchanged.
       record_apart : (slot : ℕ) → is_among first 4 slot ≡ false → copied contents 0 4 c.active.slots first slot ≡ c.active.slots slot
       record_apart slot apart = elim (not_among first 4 slot apart) [
         | inl below ↦ copied-below contents c.active.slots 0 4 first slot below

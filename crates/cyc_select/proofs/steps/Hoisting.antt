@@ -1,4 +1,4 @@
--- The line hoisted before a branch: the first line of the target, which has the same effect before the branch as at its place.
+-- A line can be hoisted before a branch: it is a copy of the first line of the branch target and has the same effect there.
 use Rattle.std.proofs.Common.{◌≡◌, ◌≢◌, ℕ, ◌+◌, ◌%◌, ◌^◌, ◌<◌, ◌≤◌, Bool, true, false, not, List, [], ◌∷◌, ◌++◌, Option, Some, None, slice_get, length, append_assoc, append-nil, refl, sym, ap, subst, ◌∙◌, arith, inl, inr}
 use Rattle.std.specs.Prelude.{◌⊎◌, ◌==◌, ◌&&◌, ◌||◌, nat_lt, nat_le, if◌then◌else◌}
 use Rattle.std.proofs.lemmas.Bool.{and_parts, or_cases, or_parts, eqb-true, eqb-false, ltb-true, leb-true, ne_eqb, false≢true, not-true}
@@ -95,7 +95,8 @@ pure_performs (ShiftVariable op destination source by) k c is = (Ran, after (mac
 pure_performs (Arithmetic op destination left right) k c is = (Ran, after (machine_of c) (Arithmetic op destination left right), (refl, refl), refl)
 pure_performs x k c is = absurd (none-some k is)
 
--- A condition that does not test the line's register is unaffected.
+-- If a branch condition does not test the register that the hoisted line writes, the line does not
+-- change the condition.
 pub holds_beside : (condition : Condition) (k : ℕ) (q p : Words) → tests_register condition k ≡ false → ((n : ℕ) → n ≢ k → q n ≡ p n) → holds_of q condition ≡ holds_of p condition
 holds_beside (conditions.Registers op left right) k q p untested others =
     let parts = or_parts (left.number == k) (right.number == k) untested in
@@ -105,7 +106,7 @@ holds_beside (conditions.Sign op source) k q p untested others = ap (branch_zero
 
 -- ---- the effect of a hoisted line is equal at either place
 
--- The configuration of a running state.
+-- Returns the configuration of a running state, otherwise the default configuration `d`.
 abbrev running_or : Configuration → State → Configuration
 running_or d (Running c) = c
 running_or d s = d
@@ -123,7 +124,7 @@ performs_there : (i : Instr) (c d : Configuration) (label : ℕ) → Performs c 
 performs_there i c d label (event, after, acts, is) =
     (event, after, acts, settled_there (reported (world_of c) event after) (c.line + 1) (label + 1) _ d is)
 
--- Executed before the branch, the line is a step from the branch target.
+-- A hoisted line executed before the branch has the effect of a step from the branch target.
 pub copy_steps : (code : Labelled) (addresses : ℕ → ℕ) (x : Instr) (k : ℕ) (c : Configuration) (label : ℕ) → target_of x ≡ Some k → slice_get code.lines label ≡ Some (lines.Ordinary x)
     → Step code addresses (Running (at c label)) (Running (at (moved c x) (label + 1)))
 copy_steps code addresses x k c label is stands =
@@ -132,7 +133,7 @@ copy_steps code addresses x k c label is stands =
 
 -- ---- the first line of an instruction
 
--- The instructions begin with `x`.
+-- `Starts` says that the instructions `is` begin with `x`.
 abbrev pub Starts : List Instr → Instr → Type 0
 Starts is x = (rest : List Instr) × (is ≡ x ∷ rest)
 
@@ -174,7 +175,8 @@ module _ (frame : Frame) where
       go true rest = following_is rest
       go false same = word_code_starts register word x js same
 
-  -- Appending no instructions does not change the first one.
+  -- If a list of instructions with an empty list appended begins with `x`, then the list itself
+  -- begins with `x`.
   starts_plain : (is : List Instr) (x : Instr) → Starts (is ++ []) x → Starts is x
   starts_plain is x starts = subst (λ (l : List Instr). Starts l x) (append-nil is) starts
 
@@ -225,12 +227,13 @@ module _ (frame : Frame) where
   move_starts None destination o x is = operand_starts FIRST o None _ x is (λ none. absurd (no_line x none))
   move_starts (Some register) destination o x is = load_starts register o (keep_code frame destination) x is
 
--- The lines of a branch begin with the first line of its test, even if a line is hoisted.
+-- The lines of a branch begin with the first line of its test, even if the first line of the branch
+-- target is hoisted into them.
 starts_hoisted : (is : List Instr) (first : Option Instr) (x : Instr) → Starts is x → Starts (with_hoisted is first) x
 starts_hoisted is None x starts = starts
 starts_hoisted is (Some y) x starts = starts_append is (y ∷ []) x starts
 
--- The lines of an instruction begin with its first line.
+-- `Begins` says that the lines of an instruction begin with the line `x`.
 abbrev pub Begins : Program → List Frame → (function : ℕ) → Instruction → Instr → Type 0
 Begins program frames function i x = (line : ℕ) → (rest : List Line) × (body program frames function line i ≡ lines.Ordinary x ∷ rest)
 
@@ -270,7 +273,7 @@ first_begins program frames function i x is line = absurd (no_line x is)
 
 -- ---- the lines after the first one
 
--- Instructions that begin with `x` are not empty.
+-- A list of instructions that begins with `x` is not empty.
 starts_some : (is : List Instr) (x : Instr) → Starts is x → 0 < length is
 starts_some is x (rest, same) = omega (arith, ap (λ (l : List Instr). length l) same)
 
@@ -307,7 +310,8 @@ gives_own program frames function target i n is = go (fills_at (frame_at frames 
     go true fills given = of i fills given
     go false not_there given = absurd (none-some n given)
 
--- The properties of a line that is hoisted before a branch with this condition to this place.
+-- `Hoists` states the properties of a line `x` that is hoisted before a branch with this condition
+-- to the instruction at `target`.
 pub record Hoists (program : Program) (frames : List Frame) (function target : ℕ) (condition : Condition) (x : Instr) : Type 0 where
   pub i : Instruction
   pub at : slice_get (routine_at program function).code target ≡ Some i
@@ -320,7 +324,7 @@ pub record Hoists (program : Program) (frames : List Frame) (function target : �
   pub computes : target_of x ≡ Some register
   pub may : may_write condition own (Some register) ≡ true
 
--- The hoisted line satisfies the check of the branch.
+-- `Passes` says that the hoisted line writes a register that may be written before the branch.
 abbrev Passes : Condition → (own : Option ℕ) → Instr → Type 0
 Passes condition own x = (register : ℕ) × (target_of x ≡ Some register) × (may_write condition own (Some register) ≡ true)
 
@@ -367,7 +371,7 @@ pub hoists : (program : Program) (frames : List Frame) (function target : ℕ) (
 hoists program frames function target test x is =
     of_place program frames function target (condition_of (frame_at frames function) test) x (slice_get (routine_at program function).code target) refl is
 
--- The first line of a piece of code is at the piece's line number.
+-- If a piece of code stands at a line number, its first line is the line with this number.
 pub stands_at_head : (code : Labelled) (k : ℕ) (ls rest : List Line) (l : Line) → ls ≡ l ∷ rest → Stands code k ls → slice_get code.lines k ≡ Some l
 stands_at_head code k ls rest l same stands = (subst (Stands code k) same stands).0
 
@@ -398,7 +402,8 @@ module _ (condition : Condition) (own : Option ℕ) (register : ℕ) (may : may_
     | inr is ↦ inr (own_is own is)
   ]
 
-  -- If a slot can have the register, it is the register of the slot that the instruction computes.
+  -- If the hoisted line writes a register that slots can have, this register belongs to the slot
+  -- that the target instruction computes.
   pub of_value : (n : ℕ) → 6 ≤ n → n < 24 → n ≡ register → own ≡ Some n
   of_value n low high same = elim which [
     | inl (inl first) ↦ absurd (omega (arith, first, same, high))

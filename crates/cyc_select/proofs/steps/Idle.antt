@@ -1,4 +1,5 @@
--- An idle instruction: the labelled machine stays at its state, which matches the plain state after the instruction.
+-- An idle instruction has no lines: the labelled machine does not step, and its state already matches the plain
+-- state after the instruction.
 use Rattle.std.proofs.Common.{◌≡◌, ◌≢◌, ℕ, zero, suc, ◌+◌, ◌-◌, ◌*◌, ◌<◌, ◌≤◌, Bool, true, false, List, length, Some, refl, sym, ap, subst, ◌∙◌, arith, inl, inr}
 use Rattle.std.specs.Prelude.{◌⊎◌, ◌==◌, if◌then◌else◌}
 use Rattle.std.proofs.lemmas.Bool.{cases_Bool, cases_eq, cond-false, eq-eqb, false≢true, or_left}
@@ -53,14 +54,15 @@ module _ (program : Program) (well : IsWellFormed program) (frames : List Frame)
   right : AreHomes program (routine_at program c.active.function) (frame_at frames c.active.function).saved (frame_at frames c.active.function).homes
   right = fit.homes c.active.function ready.standing.known
 
-  -- An idle place has no line of its own.
+  -- An idle instruction has no line of its own, so the next instruction has the same line number.
   no_line : (index : ℕ) (i : Instruction) → instruction_at program (record { function = c.active.function; index = index }) ≡ Some i → is_idle (frame_at frames c.active.function) index i ≡ true
       → after_count program frames c.active.function i ≡ 0 → instruction_line program frames c.active.function index ≡ instruction_line program frames c.active.function (index + 1)
   no_line index i at_i idle none =
       let counted = ap (λ (b : Bool). (if b then 0 else body_count program frames c.active.function i) + after_count program frames c.active.function i) idle in
       omega (arith, line_next program frames c.active.function index i at_i, counted, none)
 
-  -- The configuration with its call at a later instruction, with the given slots.
+  -- Returns the plain configuration in which the active call is at instruction `to` and has the
+  -- slots `slots'`.
   abbrev after_it : (to : ℕ) → Words → Configuration
   after_it to slots' = at (with_slots c slots') to
 
@@ -97,7 +99,8 @@ module _ (program : Program) (well : IsWellFormed program) (frames : List Frame)
       → Passes
   passes_with i at_i free idle none = passes_to (c.active.next + 1) (omega arith) i at_i free (no_line c.active.next i at_i idle none)
 
-  -- The match is kept if a dead slot is written.
+  -- If an instruction writes only a slot that is not live, the machine's state also matches the
+  -- plain state after it.
   passes_unused : (i : Instruction) → IsAt i → calls_nothing i ≡ true → is_idle (frame_at frames c.active.function) c.active.next i ≡ true → after_count program frames c.active.function i ≡ 0
       → (destination word : ℕ) → IsUnused program (routine_at program c.active.function) (frame_at frames c.active.function).homes c.active.next destination
       → ((slot : ℕ) → slot ≢ destination → writes program i slot ≡ false) → leads i c.active.next (c.active.next + 1) ≡ true
@@ -115,7 +118,8 @@ module _ (program : Program) (well : IsWellFormed program) (frames : List Frame)
             ∙ sym (put-other c.active.slots destination slot word other)
       ])
 
-  -- The match is kept if dead slots are written by a move of several words.
+  -- If a move of several words writes only slots that are not live, the machine's state also
+  -- matches the plain state after it.
   passes_unused_words : (destination source count : ℕ) → IsAt (plain.MoveWords destination source count) → is_idle (frame_at frames c.active.function) c.active.next (plain.MoveWords destination source count) ≡ true
       → ((slot : ℕ) → is_among destination count slot ≡ true → IsUnused program (routine_at program c.active.function) (frame_at frames c.active.function).homes c.active.next slot)
       → Passes
@@ -141,7 +145,7 @@ module _ (program : Program) (well : IsWellFormed program) (frames : List Frame)
       unmoved slot other =
           cond-false (is_among destination count slot) (c.active.slots (source + (slot - destination))) (c.active.slots slot) other
 
-  -- The match is kept if no slot changes.
+  -- If an instruction changes no slot, the machine's state also matches the plain state after it.
   passes_same : (i : Instruction) → IsAt i → calls_nothing i ≡ true → is_idle (frame_at frames c.active.function) c.active.next i ≡ true → after_count program frames c.active.function i ≡ 0
       → ((slot : ℕ) → writes program i slot ≡ false) → leads i c.active.next (c.active.next + 1) ≡ true
       → performed program zeros c i ≡ states.Running (at c (c.active.next + 1))
@@ -151,7 +155,7 @@ module _ (program : Program) (well : IsWellFormed program) (frames : List Frame)
       (caches_past program frames c.active.function right c.active.next (c.active.next + 1) ready.r ready.r c.active.slots c.active.slots i at_i led
       (λ slot k has. unwritten slot) (λ slot k has. refl) (λ n low high. refl) ready.caches)
 
-  -- A write of a slot's own word changes nothing.
+  -- Writing to a slot the word that it already contains changes no slot.
   own_word : (destination slot : ℕ) → put c.active.slots destination (c.active.slots destination) slot ≡ c.active.slots slot
   own_word destination slot = elim (cases_eq slot destination) [
     | inl same ↦ ap (put c.active.slots destination (c.active.slots destination)) same ∙ (put-same c.active.slots destination (c.active.slots destination) ∙ ap c.active.slots (sym same))
@@ -172,7 +176,8 @@ module _ (program : Program) (well : IsWellFormed program) (frames : List Frame)
             (live_earlier program frames c.active.function right c.active.next (c.active.next + 1) slot (plain.Move destination (operands.Slot destination)) at_i (eqb_next c.active.next) (eqb_other destination slot other) wanted)
       ])
 
-  -- The match is kept if a slot receives a word that its register already holds.
+  -- If a move copies a word to a slot whose register already holds this word, the machine's state
+  -- also matches the plain state after the move.
   passes_there : (destination number register : ℕ) → IsAt (plain.Move destination (operands.Slot number)) → is_idle (frame_at frames c.active.function) c.active.next (plain.Move destination (operands.Slot number)) ≡ true
       → homing.home_of (frame_at frames c.active.function).homes destination ≡ homes.Register register → value_register (frame_at frames c.active.function) number ≡ Some register → Passes
   passes_there destination number register at_i idle home has =
@@ -199,7 +204,8 @@ module _ (program : Program) (well : IsWellFormed program) (frames : List Frame)
   never_holds comparison (operands.Slot left) other never = absurd never
   never_holds comparison (operands.Word left) (operands.Slot other) never = absurd never
 
-  -- An idle place has an instruction that writes only unused slots, or jumps over idle places.
+  -- An instruction marked idle writes only slots that are not live, or jumps over instructions
+  -- marked idle.
   idle_kind : (index : ℕ) (i : Instruction) → instruction_at program (record { function = c.active.function; index = index }) ≡ Some i → idle_at (frame_at frames c.active.function).idle index ≡ true
       → (is_idle (frame_at frames c.active.function) index i ≡ true) × (after_count program frames c.active.function i ≡ 0)
   idle_kind index i at_i is = go i (fit.idle c.active.function ready.standing.known index i at_i is)
@@ -214,7 +220,8 @@ module _ (program : Program) (well : IsWellFormed program) (frames : List Frame)
       go (plain.Branch comparison left right_operand target) idle = (is, refl)
       go j idle = absurd idle
 
-  -- Idle places have no lines.
+  -- Consecutive idle instructions have no lines, so the instruction after them has the same line
+  -- number as the first.
   no_lines : (first count : ℕ) → first + count ≤ length (routine_at program c.active.function).code → AreIdleFrom (frame_at frames c.active.function).idle first (first + count)
       → instruction_line program frames c.active.function first ≡ instruction_line program frames c.active.function (first + count)
   no_lines first zero inside idle = let e : first ≡ first + 0 = omega arith in ap (instruction_line program frames c.active.function) e

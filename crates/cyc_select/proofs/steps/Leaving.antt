@@ -1,4 +1,5 @@
--- A return: the return address is restored from the frame first, if the function saved it.
+-- The simulation of returns: the return address is first restored from the frame, if the function
+-- saved it.
 use Rattle.std.proofs.Common.{◌≡◌, ℕ, ◌+◌, ◌*◌, ◌<◌, ◌≤◌, Bool, true, false, List, [], ◌∷◌, ◌++◌, Some, refl, sym, ap, subst, ◌∙◌, arith, Option, None}
 use Rattle.std.specs.Prelude.{◌==◌, if◌then◌else◌}
 use Rattle.std.proofs.lemmas.Bool.{false≢true}
@@ -38,7 +39,7 @@ use Rattle.cyc_select.proofs.relation.Standing.{stage_of, Standing, return_cell,
 use Rattle.cyc_select.proofs.relation.Matches.{After, At, Reached}
 use Rattle.cyc_select.proofs.steps.Returns.{loaded, returning_goes}
 
--- A word is held as before if another register changes.
+-- Loading the return address register leaves each slot's word where it is held.
 held_aside : (globals stack : ℕ) (frame : Frame) (r : Words) (w : Contents) (slots : Words) (slot word : ℕ) (o : Option ℕ) → HeldIn globals stack o frame (r FRAME) w r slots slot
     → HeldIn globals stack o frame (put r RETURN_ADDRESS word FRAME) w (put r RETURN_ADDRESS word) slots slot
 held_aside globals stack frame r w slots slot word None held = held
@@ -71,13 +72,14 @@ module _ (program : Program) (well : IsWellFormed program) (frames : List Frame)
   abbrev Goes : (least lo hi : ℕ) → State → Type 0
   Goes least lo hi t = Walk code formed addresses globals_length (words_per_call * calls) least lo hi c.output (After program pages calls c) (Reached program well frames fit code formed addresses pages calls few c) t
 
-  -- The returned slots are live at the return.
+  -- The slots that a function returns are live at the return, so their words are held in registers
+  -- or memory.
   returned_held : (slot : ℕ) → value ≤ slot → slot < value + results → HeldIn globals_length (words_per_call * calls) (value_register frame slot) frame (r FRAME) w r c.active.slots slot
   returned_held slot from below =
       slot_held program well frames fit code formed addresses pages calls few c run r w base back now s caches (value_register frame slot) slot refl (omega (arith, below, in_range))
       (0, (i, at_i, needs slot (among value results slot from below)))
 
-  -- The lines after the one that restores the return address.
+  -- Returns the lines of a return after the one that restores the return address.
   abbrev rest : ℕ → List Line
   rest line = ending_code (c.active.function == program.main) frame line value ++ ordinary (loaded frame value results) ++ lines.Return ∷ []
 

@@ -1,4 +1,4 @@
--- Words moved from slots to slots one by one.
+-- The effect of moving words from slots to slots one by one.
 use Rattle.std.proofs.Common.{◌≡◌, ◌≢◌, ℕ, zero, suc, ◌+◌, ◌-◌, ◌*◌, ◌%◌, ◌<◌, ◌≤◌, Bool, true, false, List, [], ◌∷◌, ◌++◌, Option, Some, None, refl, sym, ap, subst, ◌∙◌, arith, inl, inr}
 use Rattle.std.specs.Prelude.{if◌then◌else◌, nat_lt}
 use Rattle.std.proofs.lemmas.Bool.{cases_lt, ne_eqb, and_cases, ltb-false}
@@ -30,12 +30,12 @@ use Rattle.cyc_select.proofs.effects.Sequences.{after_r, after_w, after_r-append
 
 -- ---- slots
 
--- The slots after the moves.
+-- Returns the slots after `count` words are moved one by one.
 abbrev pub moved : Words → (destination source count : ℕ) → Words
 moved x destination source zero = x
 moved x destination source (suc count) = moved (put x destination (x source)) (suc destination) (suc source) count
 
--- No move overwrites a source that is still to be moved.
+-- `IsAhead` says that no move of a word overwrites a source slot that is still to be moved.
 abbrev pub IsAhead : (destination source count : ℕ) → Type 0
 IsAhead destination source count = (i j : ℕ) → i < j → j < count → source + j ≢ destination + i
 
@@ -82,7 +82,8 @@ moved_inside x destination source (suc count) (suc k) ahead below =
     ∙ (moved_inside (put x destination (x source)) (suc destination) (suc source) count k (ahead_after destination source count ahead) (omega (arith, below))
     ∙ next_same x destination source count ahead k (omega (arith, below)))
 
--- Moving the words one by one equals copying them at once.
+-- If no move overwrites a source still to be moved, moving the words one by one has the same result
+-- as copying them all at once.
 pub moved_copied : (x : Words) (destination source count : ℕ) → IsAhead destination source count → (number : ℕ)
     → moved x destination source count number ≡ copied x source count x destination number
 moved_copied x destination source count ahead number = elim (cases_lt number destination) [
@@ -115,7 +116,7 @@ module _ (program : Program) (well : IsWellFormed program) (frames : List Frame)
   abbrev pub StandsWith : (q : Words) (m : Contents) (x : Words) → Type 0
   StandsWith q m x = Standing program frames addresses pages calls c q m base back (under_way in_frame) x
 
-  -- The effect of a block that writes a slot.
+  -- `HasGiven` describes the effect of a block of instructions that writes a word to a slot.
   record HasGiven (is : List Instr) (destination word : ℕ) (q : Words) (m : Contents) (x : Words) : Type 0 where
     pub safe : AreSafe globals_length (words_per_call * calls) is q m
     pub standing : StandsWith (after_r is q m) (after_w is q m) (put x destination word)
@@ -124,7 +125,7 @@ module _ (program : Program) (well : IsWellFormed program) (frames : List Frame)
     pub given : (k : ℕ) → value_register (frame_at frames c.active.function) destination ≡ Some k → after_r is q m k ≡ word
     pub others : (n : ℕ) → 6 ≤ n → n < 24 → (value_register (frame_at frames c.active.function) destination ≡ Some n → ⊥) → after_r is q m n ≡ q n
 
-  -- Stores a register in the slot's word, if its home includes memory.
+  -- Stores a register in the slot's word of the frame, if the slot's home includes memory.
   abbrev stored : Bool → (register destination : ℕ) → List Instr
   stored b register destination = if b then store_slot (frame_at frames c.active.function) register destination ∷ [] else []
 
@@ -148,7 +149,8 @@ module _ (program : Program) (well : IsWellFormed program) (frames : List Frame)
         (standing_slot program well frames fit addresses pages calls few c q m base back (under_way in_frame) x s destination word below)
     stored_stands false register word kept result = standing_unkept program well frames fit addresses pages calls few c q m base back (under_way in_frame) x s destination word kept
 
-  -- A block that computes a word in a register, followed by the store of it.
+  -- A block that computes a word in a register, followed by the store of this register if needed,
+  -- writes the word to the slot.
   block_gives : (q : Words) (m : Contents) (x : Words) → StandsWith q m x → (destination : ℕ) → destination < (routine_at program c.active.function).slots
       → (is : List Instr) (register but word : ℕ) → Keeps globals_length (words_per_call * calls) is q m but → after_r is q m (register % 32) ≡ word
       → (b : Bool) → is_kept (frame_at frames c.active.function) destination ≡ b
@@ -185,7 +187,7 @@ module _ (program : Program) (well : IsWellFormed program) (frames : List Frame)
       → (value_register (frame_at frames c.active.function) destination ≡ Some n → ⊥) → n ≢ made_in (frame_at frames c.active.function) destination % 32
   made_aside destination k n has other e = other (has ∙ ap Some (let f : k ≡ n = omega (arith, e, made_here destination k has) in f))
 
-  -- The code that moves one word is correct.
+  -- The code that moves one word writes the source's word to the destination slot.
   one_moved : (q : Words) (m : Contents) (x : Words) → StandsWith q m x → (destination source : ℕ) → destination < (routine_at program c.active.function).slots → source < (routine_at program c.active.function).slots
       → ((k : ℕ) → value_register (frame_at frames c.active.function) source ≡ Some k → q k ≡ x source) → IsWord (x source)
       → HasGiven (move_to (value_register (frame_at frames c.active.function) destination) (frame_at frames c.active.function) destination (operands.Slot source)) destination (x source) q m x
@@ -224,25 +226,26 @@ module _ (program : Program) (well : IsWellFormed program) (frames : List Frame)
           (is_kept (frame_at frames c.active.function) destination) refl
           (λ j there. ap (after_r is q m) (made_here destination j there) ∙ puts.result) (λ n n_low n_high other. made_aside destination k n has other)
 
-  -- The code that moves several words is correct.
+  -- `AreMoved` describes the effect of the code that moves several words.
   pub record AreMoved (destination source count : ℕ) (q : Words) (m : Contents) (x : Words) : Type 0 where
     pub safe : AreSafe globals_length (words_per_call * calls) (moves (frame_at frames c.active.function) destination source count) q m
     pub standing : StandsWith (after_r (moves (frame_at frames c.active.function) destination source count) q m) (after_w (moves (frame_at frames c.active.function) destination source count) q m) (moved x destination source count)
     pub back_same : after_r (moves (frame_at frames c.active.function) destination source count) q m RETURN_ADDRESS ≡ q RETURN_ADDRESS
-    -- A register that exactly one destination has contains that destination's word; a register that none has is unchanged.
+    -- After the moves, a register of exactly one destination slot contains that slot's word; a register of no destination
+    -- slot is unchanged.
     pub given : (i k : ℕ) → i < count → value_register (frame_at frames c.active.function) (destination + i) ≡ Some k
         → ((j : ℕ) → j < count → value_register (frame_at frames c.active.function) (destination + j) ≡ Some k → i ≡ j)
         → after_r (moves (frame_at frames c.active.function) destination source count) q m k ≡ x (source + i)
     pub others : (n : ℕ) → 6 ≤ n → n < 24 → ((i : ℕ) → i < count → value_register (frame_at frames c.active.function) (destination + i) ≡ Some n → ⊥)
         → after_r (moves (frame_at frames c.active.function) destination source count) q m n ≡ q n
 
-  -- No written register holds a word that is still to be moved.
+  -- `AreApart` says that no move writes a register that holds a word still to be moved.
   abbrev pub AreApart : (destination source count : ℕ) → Type 0
   AreApart destination source count =
       (i j k : ℕ) → i < j → j < count → value_register (frame_at frames c.active.function) (destination + i) ≡ Some k
       → value_register (frame_at frames c.active.function) (source + j) ≡ Some k → ⊥
 
-  -- The registers hold the words to be moved.
+  -- `AreCached` says that each register of a source slot holds the word to be moved from this slot.
   abbrev pub AreCached : (source count : ℕ) (q x : Words) → Type 0
   AreCached source count q x =
       (j k : ℕ) → j < count → value_register (frame_at frames c.active.function) (source + j) ≡ Some k → q k ≡ x (source + j)

@@ -1,4 +1,5 @@
--- Calls from their first line on: slots passed from memory are stored there first.
+-- The simulation of calls from their first line on: arguments that are passed from memory are
+-- stored there first.
 use Rattle.std.proofs.Common.{◌≡◌, ℕ, zero, suc, ◌+◌, ◌*◌, ◌%◌, ◌<◌, ◌≤◌, Bool, true, false, List, [], ◌∷◌, ◌++◌, length, Option, Some, None, refl, sym, ap, subst, ◌∙◌, arith, inl, inr}
 use Rattle.std.specs.Prelude.{if◌then◌else◌}
 use Rattle.std.proofs.lemmas.Bool.{eq-eqb, cases_eq}
@@ -49,11 +50,11 @@ module _ (program : Program) (well : IsWellFormed program) (frames : List Frame)
   abbrev StandsIn : (m : Contents) → Type 0
   StandsIn m = Standing program frames addresses pages calls c r m base back stage c.active.slots
 
-  -- The slot's word in the frame is its value.
+  -- `IsThere` says that the slot's word in the frame is the slot's value.
   abbrev IsThere : (m : Contents) (slot : ℕ) → Type 0
   IsThere m slot = m.words (base + slot_offset (frame_at frames c.active.function) slot) ≡ c.active.slots slot
 
-  -- The register from which an argument is passed, if any.
+  -- Returns the register from which an argument is passed, or `None` if it is passed from memory.
   abbrev from : (source slot : ℕ) → Option ℕ
   from source slot = passed_from (frame_at frames c.active.function) (coming (frame_at frames callee)) source slot
 
@@ -64,7 +65,7 @@ module _ (program : Program) (well : IsWellFormed program) (frames : List Frame)
     pub stay : (a : ℕ) → a < (routine_at program c.active.function).slots → IsThere m a → IsThere (after_w is r m) a
     pub there : (k : ℕ) → k < count → from (source + k) (slot + k) ≡ None → IsThere (after_w is r m) (source + k)
 
-  -- The register of a slot without a word in memory holds its value.
+  -- `HasCached` says that the register of a slot, if it has one, holds the slot's value.
   abbrev HasCached : (slot : ℕ) → Type 0
   HasCached slot = (k : ℕ) → value_register (frame_at frames c.active.function) slot ≡ Some k → r k ≡ c.active.slots slot
 
@@ -80,7 +81,8 @@ module _ (program : Program) (well : IsWellFormed program) (frames : List Frame)
           ap r (let e : made_in (frame_at frames c.active.function) slot % 32 ≡ k = omega (arith, made_in_is (frame_at frames c.active.function) slot k has, right.high slot k has) in e)
           ∙ cached k has
 
-  -- The slot's word is stored in memory, if it is not there.
+  -- `IsSpilled` describes the effect of storing a slot's word in memory, if memory does not contain
+  -- it yet.
   record IsSpilled (is : List Instr) (m : Contents) (slot : ℕ) : Type 0 where
     pub safe : AreSafe globals_length (words_per_call * calls) is r m
     pub same : after_r is r m ≡ r
@@ -131,7 +133,7 @@ module _ (program : Program) (well : IsWellFormed program) (frames : List Frame)
             ∙ is
       ]
 
-  -- Only slots passed from memory are stored.
+  -- A slot is stored in memory before a call only if the argument is passed from memory.
   spilled_from : (m : Contents) (source slot : ℕ) → source < (routine_at program c.active.function).slots → StandsIn m → HasCached source
       → (o : Option ℕ) → from source slot ≡ o → AreSpilled (spill_from o (frame_at frames c.active.function) source) m source slot 1
   spilled_from m source slot below s cached None none =
@@ -214,7 +216,7 @@ module _ (program : Program) (well : IsWellFormed program) (frames : List Frame)
   at_slot : (slot : ℕ) → passed_from mine (coming (frame_at frames callee)) (arguments + slot) (0 + slot) ≡ passed_from mine (coming (frame_at frames callee)) (arguments + slot) slot
   at_slot slot = ap (passed_from mine (coming (frame_at frames callee)) (arguments + slot)) (let e : 0 + slot ≡ slot = omega arith in e)
 
-  -- A slot passed from a register is live at the call.
+  -- If an argument is passed from a register, this register holds the word of the argument's slot.
   held_there : (slot k : ℕ) → slot < count → passed_from mine (coming (frame_at frames callee)) (arguments + slot) slot ≡ Some k
       → (6 ≤ k) × (k < 24) × (r k ≡ c.active.slots (arguments + slot)) × IsWord (c.active.slots (arguments + slot))
   held_there slot k below some =
@@ -223,7 +225,8 @@ module _ (program : Program) (well : IsWellFormed program) (frames : List Frame)
       let is = caches (arguments + slot) k has (0, (plain.Call callee arguments count result, at_i, among arguments count (arguments + slot) (omega arith) (omega (arith, below)))) in
       (right.low (arguments + slot) k has, right.high (arguments + slot) k has, is, subst IsWord is (now.r_words k))
 
-  -- A slot that is live after the call, and not a result of the call, is live before it.
+  -- A callee-saved register holds the word of its slot before a call if the slot is live after the
+  -- call and is not a result.
   finds_there : Finds program frames c.active.function c.active.next callee arguments count result (preserved_of r) c.active.slots
   finds_there slot j high has unwritten (steps, live) =
       caches slot (17 + j) has (suc steps, (plain.Call callee arguments count result, at_i, unwritten, suc c.active.next, eq-eqb (suc c.active.next) (suc c.active.next) refl, live))

@@ -1,4 +1,4 @@
--- The lines that save and restore callee-saved registers.
+-- The effect of the lines that save and restore callee-saved registers.
 use Rattle.std.proofs.Common.{◌≡◌, ◌≢◌, ℕ, zero, suc, ◌+◌, ◌*◌, ◌%◌, ◌^◌, ◌<◌, ◌≤◌, length, refl, sym, ap, subst, ◌∙◌, arith, inl, inr}
 use Rattle.std.specs.Prelude.{◌⊎◌}
 use Rattle.std.proofs.lemmas.Bool.{cases_lt, ne_eqb}
@@ -40,7 +40,7 @@ module _ (globals stack base first : ℕ) (top : base + frame_size < 2 ^ 32) (ro
   beside j count n (inl below) same = omega (arith, below, same)
   beside j count n (inr above) same = omega (arith, above, same)
 
-  -- The registers after the first restore.
+  -- Returns the registers after one callee-saved register is restored from the frame.
   abbrev loaded : (j : ℕ) (q : Words) (w : Contents) → Words
   loaded j q w = put q ((17 + j) % 32) (w.words (memory_address (q FRAME) (4 * (first + j))))
 
@@ -127,7 +127,8 @@ module _ (globals stack base first : ℕ) (top : base + frame_size < 2 ^ 32) (ro
         store_same = rest.store_same;
       }
 
-  -- After the saves at the entry, the words left to the caller are those in the registers.
+  -- After the saves at a function's entry, the words that the function leaves to its caller are
+  -- those in the callee-saved registers.
   pub entered_left : (saved : ℕ) (q : Words) (m : Contents) → q FRAME ≡ base → saved ≤ 7
       → (j : ℕ) → Left first saved base (preserved_of q) (after_w (saves_from first 0 saved) q m) j ≡ preserved_of q j
   entered_left saved q m is few j = elim (cases_lt j saved) [
@@ -138,7 +139,8 @@ module _ (globals stack base first : ℕ) (top : base + frame_size < 2 ^ 32) (ro
     | inr past ↦ left_past first saved base (preserved_of q) (after_w (saves_from first 0 saved) q m) j past
   ]
 
-  -- After the restores at the return, the registers hold the words left to the caller.
+  -- After the restores at a function's return, the callee-saved registers hold the words left to
+  -- the caller.
   pub returned_left : (saved : ℕ) (q : Words) (w : Contents) → q FRAME ≡ base → saved ≤ 7
       → (j : ℕ) → preserved_of (after_r (restores_from first 0 saved) q w) j ≡ Left first saved base (preserved_of q) w j
   returned_left saved q w is few j = elim (cases_lt j saved) [

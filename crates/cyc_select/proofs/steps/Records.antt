@@ -1,4 +1,4 @@
--- Handler records, word by word.
+-- The slots of an exception handler's record, word by word.
 use Rattle.std.proofs.Common.{◌≡◌, ◌≢◌, ℕ, ◌+◌, ◌≤◌, Bool, true, ◌&&◌, sym, ap, ◌∙◌, arith, inl, inr}
 use Rattle.std.specs.Prelude.{◌==◌, if◌then◌else◌}
 use Rattle.std.proofs.lemmas.Bool.{cases_eq, cases_lt, eqb-true}
@@ -7,11 +7,12 @@ use Rattle.cyc_plain.specs.inside.State.{Words, put, copied}
 use Rattle.cyc_plain.specs.inside.Step.{is_intact}
 use Rattle.cyc_plain.proofs.SlotLaws.{put-same, put-other, copied-inside, copied-below, copied-above}
 
--- The words of a new record, of which the last is unchanged.
+-- Returns the four words of a new handler record: the previous handler, the frame, the line, and
+-- the unchanged last word.
 abbrev pub record_words : (previous frame line last : ℕ) → Words
 record_words previous frame line last = λ (k : ℕ). if k == 0 then previous else (if k == 1 then frame else (if k == 2 then line else last))
 
--- The slots that hold the record.
+-- Returns the slots after the first three words of a handler record are written to them.
 abbrev pub recorded : (slots : Words) (first previous frame line : ℕ) → Words
 recorded slots first previous frame line = put (put (put slots first previous) (first + 1) frame) (first + 2) line
 
@@ -49,7 +50,7 @@ recorded_is slots first previous frame line n = elim (cases_eq n (first + 2)) [
     past : first ≤ n → n ≢ first → n ≢ first + 1 → n ≢ first + 2 → n ≢ first + 3 → first + 4 ≤ n
     past from zeroth one two three = omega (arith, from, zeroth, one, two, three)
 
--- The contents of an intact record.
+-- `Holds4` says that the four slots from `first` on hold the given contents of a handler record.
 pub record Holds4 (slots : Words) (first : ℕ) (contents : Words) : Type 0 where
   pub zeroth : slots first ≡ contents 0
   pub one : slots (first + 1) ≡ contents 1

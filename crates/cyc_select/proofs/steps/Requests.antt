@@ -1,4 +1,4 @@
--- The instruction that makes a request to the store.
+-- The simulation of the instruction that makes a request to the store (the heap of regions).
 use Rattle.std.proofs.Common.{◌≡◌, ◌≢◌, ℕ, suc, ◌+◌, ◌*◌, ◌%◌, ◌^◌, ◌<◌, ◌≤◌, true, false, List, [], ◌∷◌, ◌++◌, length, length-append, Option, None, Some, refl, sym, ap, subst, ◌∙◌, arith, inl}
 use Rattle.std.specs.Prelude.{◌⊎◌}
 use Rattle.std.proofs.lemmas.Bool.{eq-eqb, ne_eqb, or_left, or_right}
@@ -59,7 +59,8 @@ use Rattle.cyc_registers.specs.inside.Liveness.{IsLiveAt}
 
 -- ---- the request and its result
 
--- The call that the registers describe is that of the request.
+-- If the argument registers hold the operands of a request, they describe the call of the store
+-- that the request makes.
 is_call : (request : Request) (slots q : Words) → ((operand : Operand) → first_operand request ≡ Some operand → q 4 ≡ operand_word slots operand)
     → ((operand : Operand) → second_operand request ≡ Some operand → q 5 ≡ operand_word slots operand) → call_by request (q 4) (q 5) ≡ call_in slots request
 is_call (requests.OpenLexical destination) slots q first second = refl
@@ -70,7 +71,8 @@ is_call (requests.Allocate destination handle words) slots q first second =
     ap (λ (x : ℕ). services.Allocate x (q 5)) (first handle refl) ∙ ap (services.Allocate (operand_word slots handle)) (second words refl)
 is_call (requests.Free address) slots q first second = ap services.Free (first address refl)
 
--- The result registers hold the store's result, even after the lines that count regions.
+-- The result registers hold the store's result after the lines that update the number of open
+-- regions.
 reported_is : (request : Request) (store : StoreState) (slots q : Words) (m : Contents) (choice : services.Choice)
     → put_all (destination_of request) (result_registers (answer_count request)) (after_r (regions_code request) (answered_r (answer store (call_in slots request) choice) q) m) slots
     ≡ reported (answer store (call_in slots request) choice) (destination_of request) slots
@@ -81,7 +83,7 @@ reported_is (requests.CloseDynamic handle) store slots q m choice = refl
 reported_is (requests.Allocate destination handle words) store slots q m choice = refl
 reported_is (requests.Free address) store slots q m choice = refl
 
--- Exactly the destination slots receive the result.
+-- A request writes exactly the destination slots of its result.
 answers_written : (request : Request) (slot : ℕ) → destination_of request ≤ slot → slot < destination_of request + length (result_registers (answer_count request)) → request_writes request slot ≡ true
 answers_written (requests.OpenLexical destination) slot begun below = among destination 2 slot begun below
 answers_written (requests.CloseTo mark) slot begun below = absurd (omega (arith, begun, below))
@@ -124,7 +126,7 @@ regions_others (requests.CloseDynamic handle) q m n other = refl
 regions_others (requests.Allocate destination handle words) q m n other = refl
 regions_others (requests.Free address) q m n other = refl
 
--- After these lines the register holds the number of open lexical regions.
+-- After the lines that update it, the register `REGIONS` holds the number of open lexical regions.
 regions_reported : (request : Request) (store : StoreState) (slots q : Words) (m : Contents) (choice : services.Choice) → IsSound store → refusal store (call_in slots request) ≡ None
     → ((operand : Operand) → first_operand request ≡ Some operand → q 4 ≡ operand_word slots operand) → q REGIONS ≡ lexical_count store.regions % 2 ^ 32
     → after_r (regions_code request) (answered_r (answer store (call_in slots request) choice) q) m REGIONS ≡ lexical_count (served store (call_in slots request) choice).regions % 2 ^ 32
@@ -142,7 +144,7 @@ regions_reported (requests.Allocate destination handle words) store slots q m ch
     before ∙ ap (λ (n : ℕ). n % 2 ^ 32) (sym (lexical_made store (operand_word slots handle) (services.block_of (operand_word slots handle) (operand_word slots words) choice)))
 regions_reported (requests.Free address) store slots q m choice sound free first before = before
 
--- The result of a request changes only the two result registers.
+-- The result of a request to the store (the heap of regions) changes only the two result registers.
 answered-other : (a : Answer) (q : Words) (n : ℕ) → n ≢ 2 → n ≢ 3 → answered_r a q n ≡ q n
 answered-other (services.Refused why) q n first second = refl
 answered-other services.Done q n first second = refl
@@ -152,7 +154,7 @@ answered-other (services.Allocated address) q n first second = put-other q 2 n a
 
 module _ (program : Program) (well : IsWellFormed program) (frames : List Frame) (fit : AreFrames program frames) (addresses : ℕ → ℕ) (pages calls : ℕ) (few : calls ≤ 4096)
     (c : Configuration) (q : Words) (base back : ℕ) (stage : Stage) where
-  -- Result registers are written to slots.
+  -- `AreStored` describes the effect of writing the result registers to consecutive slots.
   pub record AreStored (slot : ℕ) (sources : List ℕ) (m : Contents) (slots : Words) : Type 0 where
     pub safe : AreSafe globals_length (words_per_call * calls) (store_all (frame_at frames c.active.function) slot sources) q m
     pub same : after_r (store_all (frame_at frames c.active.function) slot sources) q m ≡ q
@@ -210,7 +212,8 @@ module _ (program : Program) (well : IsWellFormed program) (frames : List Frame)
 
   -- ---- the operands of a request
 
-  -- A register holds the word of an optional operand, and other registers are unchanged.
+  -- `HasArgument` says that after the instructions, a register holds the word of an operand, if
+  -- there is one, and other registers are unchanged.
   record HasArgument (is : List Instr) (register : ℕ) (o : Option Operand) (q : Words) (m : Contents) : Type 0 where
     pub safe : AreSafe globals_length (words_per_call * calls) is q m
     pub memory : after_w is q m ≡ m
@@ -272,7 +275,7 @@ module _ (program : Program) (well : IsWellFormed program) (frames : List Frame)
     stored_few : length (counts ++ answers) ≡ regions_count request + gives_count frame (destination_of request) (answer_count request)
     stored_few = omega (arith, length-append counts answers, length_regions request, length_answer frame request)
 
-    -- The instruction reads the operands of its request.
+    -- The instruction that makes a request reads the slots of the request's operands.
     first_used : (one : Request) (operand : Operand) (slot : ℕ) → first_operand one ≡ Some operand → is_slot operand slot ≡ true → request_reads one slot ≡ true
     first_used (requests.OpenLexical destination) operand slot some is_it = absurd (let e : None ≡ Some operand = some in cc)
     first_used (requests.CloseTo mark) operand slot some is_it = ap (λ (o : Operand). is_slot o slot) (same_from_some some) ∙ is_it
@@ -314,7 +317,7 @@ module _ (program : Program) (well : IsWellFormed program) (frames : List Frame)
     unchanged : after_w js q v ≡ w
     unchanged = second.memory ∙ first.memory
 
-    -- Registers other than the argument registers are unchanged.
+    -- Loading the arguments of a request changes no registers other than the argument registers.
     kept : (n : ℕ) → n < 32 → n ≢ ARGUMENT → n ≢ SECOND_ARGUMENT → p n ≡ r n
     kept n below other also = second.others n below also ∙ first.others n below other
 
@@ -339,7 +342,8 @@ module _ (program : Program) (well : IsWellFormed program) (frames : List Frame)
     last_lines : Stands code (here + length is + length js) (ordinary last)
     last_lines = stands_after code (here + length is) js last after_lines
 
-    -- The lines that load the arguments and call the service are matched.
+    -- The labelled machine matches a request by the lines that load its arguments and call its
+    -- service.
     called_goes : (n : ℕ) → 0 < n
         → ((d : labelled.Configuration) → At program well frames fit code formed addresses pages calls few called c.output c.input ready w d → Goes n called hi (Running d))
         → Goes 1 here hi (Running run)
@@ -353,7 +357,7 @@ module _ (program : Program) (well : IsWellFormed program) (frames : List Frame)
         (λ f after.
         rest f (now_is code formed addresses globals_length (words_per_call * calls) called c.output c.input ready (after_w js q v) ready w f refl unchanged after)))))
 
-    -- Without room for the result of the request, the run ends.
+    -- If the store has no memory left for the result of the request, the run ends.
     full_goes : refusal c.store call ≡ Some services.Full → Goes 1 here hi (Running run)
     full_goes full =
         called_goes 1 (omega arith)
@@ -364,7 +368,7 @@ module _ (program : Program) (well : IsWellFormed program) (frames : List Frame)
         (zeros_refused program c call services.Full (ap (call_of c.active.slots) at_i) full) at_i (ap (asks zeros.serving c (destination_of request) call) full)
         (over_within pages calls Full c.output c.input) refl))
 
-    -- The case of a request that the store serves.
+    -- The module concerns a request that the store (the heap of regions) serves.
     module _ (free : refusal c.store call ≡ None) (chosen : services.Choice) (allowed : services.IsAllowed c.store call chosen) where
       abbrev choice : Choice
       choice = record { contents = zeros.contents; base = 0; serving = chosen }
@@ -392,7 +396,8 @@ module _ (program : Program) (well : IsWellFormed program) (frames : List Frame)
       abbrev w1 : Contents
       w1 = record w { store = served c.store call chosen }
 
-      -- The registers after the service, and after the lines that count regions.
+      -- `answered` are the registers after the service and before the lines that update the number
+      -- of open regions.
       abbrev answered : Words
       answered = answered_r (answer c.store call chosen) ready
 
@@ -443,7 +448,7 @@ module _ (program : Program) (well : IsWellFormed program) (frames : List Frame)
           final zero_kept base_kept left_kept back_kept newest_kept count_reported middle_kept laid
           (λ j past high. values_kept (17 + j) (omega arith) (omega (arith, high)))
 
-      -- The lines after the call write the result to slots.
+      -- `m` is memory after the lines that write the store's result to slots.
       abbrev m : Contents
       m = after_w answers final w1
 
@@ -473,7 +478,7 @@ module _ (program : Program) (well : IsWellFormed program) (frames : List Frame)
             are_brought program well frames fit addresses pages calls few false c1 base back (frame_at frames c.active.function).saves (c.active.next + 1) (destination_of request) past final low_words fits_here shares_none (destination_of request) (result_registers (answer_count request)) final w1 c.active.slots
             (omega arith) (omega arith) (results_low (answer_count request) few_answers) (λ n below. refl) in_final
 
-        -- The registers of all other slots are unchanged.
+        -- A request leaves the registers of all slots outside its result unchanged.
         apart_kept : (a k : ℕ) → value_register (frame_at frames c.active.function) a ≡ Some k → IsLiveAt program (routine_at program c.active.function) a (c.active.next + 1)
             → a < destination_of request ⊎ destination_of request + length (result_registers (answer_count request)) ≤ a → final k ≡ c.active.slots a
         apart_kept a k has wanted outside =
@@ -494,7 +499,7 @@ module _ (program : Program) (well : IsWellFormed program) (frames : List Frame)
             subst (λ (x : Words). Standing program frames addresses pages calls c1 brought m base back (stage_of frames c) x) (reported_is request c.store c.active.slots ready w1 chosen) stored.standing in
             standing_at program well frames fit addresses pages calls few c1 brought m base back (stage_of frames c) there in_slots next refl refl refl refl refl refl s.input
 
-        -- Two safe blocks, one after the other, are safe.
+        -- If two blocks of instructions are safe, executing one after the other is safe.
         block_safe : AreSafe globals_length (words_per_call * calls) (counts ++ answers) answered w1
         block_safe =
             safe_append globals_length (words_per_call * calls) counts answers answered w1 (regions_safe globals_length (words_per_call * calls) request answered w1)

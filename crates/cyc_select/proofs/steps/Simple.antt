@@ -1,4 +1,5 @@
--- Instructions that neither call nor return: writes of slots, copies and operators.
+-- The simulation of instructions that neither call nor return: writes of slots, copies and
+-- operators.
 use Rattle.std.proofs.Common.{◌≡◌, ◌≢◌, ℕ, suc, length-append, ◌+◌, ◌-◌, ◌*◌, ◌%◌, ◌<◌, ◌≤◌, Bool, true, false, List, [], ◌∷◌, ◌++◌, length, Option, Some, None, refl, sym, ap, subst, ◌∙◌, arith}
 use Rattle.std.specs.Prelude.{◌==◌, ◌||◌, if◌then◌else◌}
 use Rattle.std.specs.List.{AllByRecursion}
@@ -96,7 +97,7 @@ module _ (program : Program) (well : IsWellFormed program) (frames : List Frame)
   abbrev Held : Operand → Type 0
   Held o = IsHeld globals_length (words_per_call * calls) frame (r FRAME) w r c.active.slots o
 
-  -- The instruction reads the operand's slot.
+  -- `Uses` says that an instruction reads the slot that an operand names, if the operand is a slot.
   abbrev Uses : Instruction → Operand → Type 0
   Uses i o = (slot : ℕ) → is_slot o slot ≡ true → reads (routine_at program c.active.function).results i slot ≡ true
 
@@ -106,7 +107,7 @@ module _ (program : Program) (well : IsWellFormed program) (frames : List Frame)
   pub is_word : (o : Operand) → Held o → IsWord (word_of o)
   is_word o there = operand_is_word program well frames fit code formed addresses pages calls few c run r w base back now s caches o there
 
-  -- An instruction with two operands reads the slots of both.
+  -- If an operand of a two-operand instruction is a slot, the instruction reads this slot.
   pub left_used : (left right : Operand) (slot : ℕ) → is_slot left slot ≡ true → (is_slot left slot || is_slot right slot) ≡ true
   left_used left right slot is = or_left (is_slot left slot) (is_slot right slot) is
 
@@ -116,15 +117,17 @@ module _ (program : Program) (well : IsWellFormed program) (frames : List Frame)
   abbrev KeepsHere : List Instr → Type 0
   KeepsHere is = Keeps globals_length (words_per_call * calls) is r w FIRST
 
-  -- The instruction does not call the store.
+  -- `IsFree` says that an instruction makes no call of the store (the heap of regions).
   abbrev IsFree : Instruction → Type 0
   IsFree i = calls_nothing i ≡ true
 
-  -- The instruction has all its lines.
+  -- `IsCounted` says that the number of lines emitted for an instruction is the length of its full
+  -- code.
   abbrev pub IsCounted : Instruction → Type 0
   IsCounted i = count_of program frames c.active.function c.active.next i ≡ body_count program frames c.active.function i
 
-  -- The instruction writes exactly this slot and leads to the next one.
+  -- `Gets` says that an instruction writes exactly this slot and passes control to the next
+  -- instruction.
   abbrev Gets : Instruction → (destination : ℕ) → Type 0
   Gets i destination =
       ((slot : ℕ) → slot ≢ destination → writes program i slot ≡ false) × (writes program i destination ≡ true) × (leads i c.active.next (c.active.next + 1) ≡ true)
@@ -132,7 +135,8 @@ module _ (program : Program) (well : IsWellFormed program) (frames : List Frame)
   pub gets : (destination : ℕ) → ((slot : ℕ) → slot ≢ destination → (destination == slot) ≡ false) × ((destination == destination) ≡ true) × ((suc c.active.next == c.active.next + 1) ≡ true)
   gets destination = (λ slot other. eqb_other destination slot other, eqb_itself destination, eqb_next c.active.next)
 
-  -- Registers are as at the start of the instruction, except temporaries and at most one slot's register.
+  -- `Agrees` says that registers are as before the instruction, except temporaries and at most one slot's
+  -- register.
   pub record Agrees (but : ℕ) (q : Words) : Type 0 where
     pub zero_same : q 0 ≡ r 0
     pub base_same : q FRAME ≡ r FRAME
@@ -158,7 +162,7 @@ module _ (program : Program) (well : IsWellFormed program) (frames : List Frame)
     values_same = λ n low high other. all_same q r agrees.values_same n low high;
   }
 
-  -- Stores a register in the slot's word, if its home includes memory.
+  -- Stores a register in the slot's word of the frame, if the slot's home includes memory.
   abbrev stored : Bool → (register destination : ℕ) → List Instr
   stored b register destination = if b then store_slot frame register destination ∷ [] else []
 
@@ -186,8 +190,8 @@ module _ (program : Program) (well : IsWellFormed program) (frames : List Frame)
   stored_length true register destination = refl
   stored_length false register destination = refl
 
-  -- A block that computes a word in a register, followed by the store if the slot's home includes memory. If the slot has a register, the
-  -- word is in that one too.
+  -- A block that computes a word in a register, followed by a store if the slot's home includes memory, matches an instruction that
+  -- writes this word. If the slot has a register, the block computes the word there.
   gives_from : (i : Instruction) → IsAt i → IsFree i → (destination word : ℕ) (input : List ℕ) → Gets i destination → destination < slots → performed program zeros c i ≡ gives (record c { input = input }) destination word
       → AllByRecursion IsWord input → (line count : ℕ) (q : Words) (d : labelled.Configuration) → At program well frames fit code formed addresses pages calls few line c.output input q w d
       → (is : List Instr) (register but : ℕ) → Agrees but q → Keeps globals_length (words_per_call * calls) is q w but → after_r is q w (register % 32) ≡ word
@@ -217,7 +221,7 @@ module _ (program : Program) (well : IsWellFormed program) (frames : List Frame)
       (λ n low high other. same n ∙ (keeps.values n low high (aside n low high other) ∙ agrees.values_same n low high (aside n low high other)))
       puts later)))
 
-  -- The word is computed in the slot's own register, if it has one.
+  -- If a slot has a register, its word is computed in this register.
   made_here : (destination k : ℕ) → value_register frame destination ≡ Some k → k ≡ made_in frame destination % 32
   made_here destination k has =
       let high = homes_right.high destination k has in
@@ -240,7 +244,8 @@ module _ (program : Program) (well : IsWellFormed program) (frames : List Frame)
       gives_from i at_i free destination word input given below does fine line count q d now_d is (made_in frame destination) (made_in frame destination % 32) agrees keeps result
       (λ k has. ap (after_r is q w) (made_here destination k has) ∙ result) (made_aside destination) long counted stands
 
-  -- An instruction that writes a computed word is matched, from its own first line on.
+  -- The labelled machine matches an instruction that writes a computed word, from the instruction's
+  -- first line on.
   pub gives_by : (i : Instruction) → IsAt i → IsFree i → (is : List Instr) (destination word count : ℕ) → 0 < length is → Keeps globals_length (words_per_call * calls) is r w (made_in frame destination % 32) → after_r is r w (made_in frame destination % 32) ≡ word
       → Gets i destination → destination < slots → performed program zeros c i ≡ gives c destination word → length is + keep_count frame destination ≡ count → count_of program frames c.active.function c.active.next i ≡ count
       → Stands code here (ordinary (is ++ keep_code frame destination)) → Goes 1 here (here + count) (Running run)
@@ -248,7 +253,7 @@ module _ (program : Program) (well : IsWellFormed program) (frames : List Frame)
       walk_few code formed addresses globals_length (words_per_call * calls) 1 (length is + keep_count frame destination) here (here + count) c.output _ (Running run) (omega (arith, some))
       (gives_made i at_i free destination word c.input given below does s.input here count r run now is (agrees_itself (made_in frame destination % 32)) keeps result (omega (arith, long)) counted stands)
 
-  -- A register's word is written to a slot.
+  -- The labelled machine matches an instruction that writes a register's word to a slot.
   pub gives_register : (i : Instruction) → IsAt i → IsFree i → (destination word : ℕ) (input : List ℕ) → Gets i destination → destination < slots → performed program zeros c i ≡ gives (record c { input = input }) destination word
       → AllByRecursion IsWord input → (line count source : ℕ) (q : Words) (d : labelled.Configuration) → At program well frames fit code formed addresses pages calls few line c.output input q w d → Agrees FIRST q
       → q (source % 32) ≡ word → IsWord word
@@ -324,7 +329,7 @@ module _ (program : Program) (well : IsWellFormed program) (frames : List Frame)
           (puts_keeps globals_length (words_per_call * calls) is r w (made_in frame destination % 32) _ _ (made_in frame destination % 32) (made_in_scratch destination) (λ n n_low n_high other. other) puts) puts.result
           (gets destination) below refl (omega (arith, length_load frame k source, counted)) all_counted stands_here
 
-  -- A computed word is written to a slot.
+  -- The labelled machine matches an instruction that writes the result of a plan to a slot.
   plan_goes : (i : Instruction) → IsAt i → IsFree i → (plan : Plan) (destination word : ℕ) → Held plan.left × Held plan.right × IsComputable globals_length (words_per_call * calls) plan.operation (word_of plan.left) (word_of plan.right)
       → plan_word c.active.slots plan ≡ word → Gets i destination → destination < slots → performed program zeros c i ≡ gives c destination word → count_of program frames c.active.function c.active.next i ≡ plan_count frame plan destination
       → Stands code here (ordinary (plan_code frame plan destination)) → Goes 1 here (here + plan_count frame plan destination) (Running run)
@@ -334,7 +339,8 @@ module _ (program : Program) (well : IsWellFormed program) (frames : List Frame)
       gives_by i at_i free (computed_code frame target plan) destination word (plan_count frame plan destination) (omega (arith, length_computed frame target plan, operation_some plan.operation)) leaves.keeps (leaves.result ∙ is)
       given below does (omega (arith, length_computed frame target plan)) counted stands
 
-  -- A plan whose operands exist and whose operation the machine can compute on them.
+  -- `IsPlanThere` says that the operands of a plan are held in registers or memory, and the machine
+  -- can compute its operation on them.
   abbrev IsPlanThere : Plan → Type 0
   IsPlanThere plan =
       Held plan.left × Held plan.right × IsComputable globals_length (words_per_call * calls) plan.operation (word_of plan.left) (word_of plan.right)
@@ -360,7 +366,8 @@ module _ (program : Program) (well : IsWellFormed program) (frames : List Frame)
       plan_goes (plain.Unary operator destination operand) at_i refl (unary_plan operator operand) destination (unary_result operator (word_of operand))
       (unary_there operator operand operand_there) (unary_word c.active.slots operand (is_word operand operand_there) operator) (gets destination) below refl counted stands
 
-  -- An operator with a plan is matched.
+  -- The labelled machine matches an operator that is computed by a plan, without a test of the
+  -- divisor.
   pub binary_goes : (operator : BinaryOperator) (destination : ℕ) (left right : Operand) → IsAt (plain.Binary operator destination left right) → destination < slots → IsThere left → IsThere right
       → is_tested operator right ≡ false
       → performed program zeros c (plain.Binary operator destination left right) ≡ gives c destination (binary_result operator (word_of left) (word_of right))

@@ -1,4 +1,5 @@
--- The instruction that throws: the exception reaches the newest handler, or ends the run.
+-- The simulation of the instruction that throws: the exception reaches the newest handler, or ends
+-- the run.
 use Rattle.std.proofs.Common.{◌≡◌, ◌≢◌, ℕ, suc, ◌+◌, ◌-◌, ◌*◌, ◌<◌, ◌≤◌, Bool, true, false, not, List, [], ◌∷◌, ◌++◌, length, Some, refl, sym, ap, subst, ◌∙◌, arith, inr, length-append, inl}
 use Rattle.std.specs.Prelude.{◌==◌, ◌&&◌, nat_le, nat_lt, if◌then◌else◌}
 use Rattle.std.proofs.lemmas.Bool.{eq-eqb, ne_eqb, or_left, or_right, and_from, le-leb, lt-ltb, cond-true}
@@ -81,7 +82,7 @@ module _ (program : Program) (well : IsWellFormed program) (frames : List Frame)
     abbrev word_in : Operand → ℕ
     word_in o = operand_word c.active.slots o
 
-    -- The slots of a record have their home in memory.
+    -- The slots of a handler's record have their home in memory.
     record_kept : (function : ℕ) → function < length program.functions → (index first handler : ℕ) → instruction_at program (record { function = function; index = index }) ≡ Some (plain.Try first handler)
         → (k : ℕ) → k < 4 → is_kept (frame_at frames function) (first + k) ≡ true
     record_kept function known index first handler at k below =
@@ -89,11 +90,13 @@ module _ (program : Program) (well : IsWellFormed program) (frames : List Frame)
 
     -- ---- an exception is thrown
 
-    -- No function of the program saves the register, so its word is equal in all calls.
+    -- `IsUnsaved` says that no function of the program saves the `j`-th callee-saved register, so
+    -- its word is equal in all calls.
     abbrev IsUnsaved : (j : ℕ) → Type 0
     IsUnsaved j = (g : ℕ) → g < length program.functions → (frame_at frames g).saved ≤ j
 
-    -- The registers as if the call had returned: its callee-saved registers are restored, and its caller's frame is the current one.
+    -- Returns the registers as if a call had returned: the callee-saved registers are restored, and the caller's frame is the
+    -- current one.
     abbrev as_returned : (left q : Words) (base : ℕ) → Words
     as_returned left q base = put (λ (n : ℕ). if nat_le 17 n && nat_lt n 24 then left (n - 17) else q n) FRAME base
 
@@ -103,7 +106,8 @@ module _ (program : Program) (well : IsWellFormed program) (frames : List Frame)
         ∙ (cond-true (nat_le 17 (17 + j) && nat_lt (17 + j) 24) (left (17 + j - 17)) (q (17 + j)) (and_from _ _ (le-leb 17 (17 + j) (omega arith)) (lt-ltb (17 + j) 24 (omega (arith, high))))
         ∙ ap left (let e : 17 + j - 17 ≡ j = omega arith in e))
 
-    -- The call that the exception reaches, as if it were the active one.
+    -- `IsFound` describes the call whose handler catches the exception, as if this call were the
+    -- active one.
     record IsFound (tag value : ℕ) (t : states.State) : Type 0 where
       pub call : Activation
       pub waiting : List states.Frame
@@ -133,7 +137,7 @@ module _ (program : Program) (well : IsWellFormed program) (frames : List Frame)
       come call waiting index first rest =
           states.Running (record c { active = record call { next = index; slots = put (put call.slots first tag) (suc first) value; handlers = Caught ∷ rest }; frames = waiting })
 
-      -- The exception is caught in this call or in an outer one.
+      -- The exception is caught by a handler of this call or of an outer one, or ends the run.
       in_call : (call : Activation) (waiting : List states.Frame) (q : Words) (low back : ℕ) (beyond : states.State)
           → Standing program frames addresses pages calls (record c { active = call; frames = waiting }) q w low back (under_way (frame_at frames call.function).saves) call.slots → lasting q ≡ lasting r → ((j : ℕ) → j < 7 → IsUnsaved j → preserved_of q j ≡ preserved_of r j)
           → (call.handlers ≡ [] → Search tag value beyond) → (handlers : List Handler) → call.handlers ≡ handlers
@@ -165,7 +169,8 @@ module _ (program : Program) (well : IsWellFormed program) (frames : List Frame)
             does = ap (λ (b : Bool). if b then come call waiting index first rest else states.Stuck c.output c.input) intact;
           })
 
-      -- The caller's frame stands in memory as if the call had returned.
+      -- When an exception leaves a call, the caller's frame is in memory as if the call had
+      -- returned.
       popped : (call : Activation) (f : states.Frame) (waiting : List states.Frame) (q : Words) (low back : ℕ) → call.handlers ≡ []
           → (stands : Standing program frames addresses pages calls (record c { active = call; frames = f ∷ waiting }) q w low back (under_way (frame_at frames call.function).saves) call.slots)
           → Standing program frames addresses pages calls (record c { active = f.caller; frames = waiting })
@@ -219,7 +224,7 @@ module _ (program : Program) (well : IsWellFormed program) (frames : List Frame)
           (λ none. search waiting f.caller _ _ _ same (unsaved_popped call f waiting q low back unsaved stands) (popped call f waiting q low back none stands))
           call.handlers refl stands.newest
 
-      -- The words of the record in memory.
+      -- The module concerns the words of the handler record in memory.
       module _ (t : states.State) (it : IsFound tag value t) where
         abbrev its : Frame
         its = frame_at frames it.call.function
@@ -236,7 +241,7 @@ module _ (program : Program) (well : IsWellFormed program) (frames : List Frame)
         record_at : r HANDLERS ≡ it.low + slot_offset its it.first
         record_at = sym (newest_lasts it.q r it.same) ∙ it.one.at
 
-        -- The offset of a word of the record.
+        -- Each word of the handler's record lies within its function's frame.
         word_inside : (k : ℕ) → k < 4 → slot_word its (it.first + k) < MOST_FRAME_WORDS
         word_inside k below =
             slot_inside program well frames fit addresses pages calls few there it.q w it.low it.way_back (under_way its.saves) it.call.slots it.stands (it.first + k) (omega (arith, its_range.record_in_range, below))
@@ -264,7 +269,8 @@ module _ (program : Program) (well : IsWellFormed program) (frames : List Frame)
         some : r HANDLERS ≢ 0
         some none = absurd (omega (arith, none, record_at, its_lies.above_low, it.stands.deep))
 
-        -- The run continues at the handler, with registers loaded from the record.
+        -- The module assumes that the run continues at the handler, with registers loaded from the
+        -- handler's record.
         module _ (final : Words) (zero_is : final 0 ≡ 0) (previous_is : final HANDLERS ≡ it.contents 0) (base_is : final FRAME ≡ it.contents 1) (lowest_is : final LOWEST ≡ r LOWEST) (count_is : final REGIONS ≡ r REGIONS) (middle_is : final GLOBALS ≡ r GLOBALS)
             (preserved_is : (j : ℕ) → j < 7 → preserved_of final j ≡ preserved_of r j) (tag_is : final 4 ≡ tag) (value_is : final 5 ≡ value) (g : labelled.Configuration)
             (at_line : At program well frames fit code formed addresses pages calls few (instruction_line program frames it.call.function it.index + 3) c.output c.input final w g) where
@@ -274,7 +280,8 @@ module _ (program : Program) (well : IsWellFormed program) (frames : List Frame)
             frames = it.waiting;
           }
 
-          -- The handler's function saves every register that any function may change.
+          -- The function of the handler saves every callee-saved register that any function of the
+          -- program may change.
           saves_all : (j : ℕ) → its.saved ≤ j → IsUnsaved j
           saves_all j past g known =
               let most = fit.opening it.call.function g it.stands.known known (opens_at (routine_at program it.call.function).code it.index it.first it.one.handler it.one.opened) in
@@ -424,7 +431,7 @@ module _ (program : Program) (well : IsWellFormed program) (frames : List Frame)
           (λ e later.
           further e (now_is code formed addresses globals_length (words_per_call * calls) k c.output c.input p (after_w js q v) p w e refl unchanged later))))
 
-      -- No handler catches the exception, and the run ends.
+      -- If no handler catches the exception, the labelled machine matches the end of the run.
       ends_goes : r HANDLERS ≡ 0 → performed program zeros c (plain.Throw tag value) ≡ states.Ended (Uncaught (word_in tag) (signed (word_in value))) c.output c.input → Goes 1 here hi (Running run)
       ends_goes none does =
           let stays : (if not (p HANDLERS == p ZERO) then label else k + 1) ≡ k + 1 = ap (λ (b : Bool). if not b then label else k + 1) (eq-eqb (p HANDLERS) (p 0) (p_newest ∙ (none ∙ sym p_zero))) in
@@ -443,7 +450,7 @@ module _ (program : Program) (well : IsWellFormed program) (frames : List Frame)
           (over_within pages calls (Uncaught (word_in tag) (signed (word_in value))) c.output c.input)
           (ap (λ (x : Ending). Ended x c.output c.input) ending_is))))))
 
-      -- The exception reaches a handler.
+      -- The module concerns an exception that reaches a handler.
       module _ (it : IsFound (word_in tag) (word_in value) (performed program zeros c (plain.Throw tag value))) where
         abbrev final : Words
         final = after_r unwound_code p w

@@ -1,4 +1,5 @@
--- After a call: the results are written to the caller's slots, and registers of slots with a copy in memory are reloaded.
+-- The simulation of the lines after a call: results are written to the caller's slots, and registers of slots with a copy
+-- in memory are reloaded.
 use Rattle.std.proofs.Common.{◌≡◌, ◌≢◌, ℕ, zero, suc, ◌+◌, ◌-◌, ◌*◌, ◌%◌, ◌<◌, ◌≤◌, true, false, List, [], ◌∷◌, ◌++◌, length, length-append, Some, refl, sym, ap, subst, ◌∙◌, arith, inl, inr}
 use Rattle.std.specs.Prelude.{◌⊎◌}
 use Rattle.std.proofs.lemmas.Bool.{cases_eq, cases_lt, eq-eqb, leb-true, false≢true}
@@ -40,7 +41,7 @@ use Rattle.cyc_select.proofs.relation.Standing.{under_way, Stage, stage_of, Stan
 use Rattle.cyc_select.proofs.relation.Matches.{After, Ready, Back, result_register}
 use Rattle.cyc_registers.specs.inside.Liveness.{IsLiveAt}
 
--- Copying one more word extends the copied range.
+-- Copying one more word to the next slot extends the range of copied words by one.
 copied_slots_next : (from to : Words) (source count destination slot number word : ℕ) → slot ≡ destination + count → word ≡ from (source + count)
     → put (copied from source count to destination) slot word number ≡ copied from source (suc count) to destination number
 copied_slots_next from to source count destination slot number word is_slot is_word = elim (cases_eq number slot) [
@@ -102,7 +103,7 @@ module _ (program : Program) (well : IsWellFormed program) (frames : List Frame)
     middle = s.middle;
   }
 
-  -- The registers hold the results from this one on.
+  -- `Given` says that the result registers hold the results from the `k`-th one on.
   abbrev Given : ℕ → List ℕ → Type 0
   Given k [] = Unit {0}
   Given k (source ∷ sources) = (q (source % 32) ≡ values (first + k)) × Given (suc k) sources
@@ -158,7 +159,7 @@ module _ (program : Program) (well : IsWellFormed program) (frames : List Frame)
       number
       ∙ ap (λ (n : ℕ). copied values first n waiting result number) (let e : suc k + length sources ≡ k + suc (length sources) = omega arith in e)
 
-  -- The words written from the result registers are the results.
+  -- Writing the result registers to the result slots writes the words that the function returned.
   pub results_copied : (count : ℕ) → count ≤ 3 → ((k : ℕ) → k < count → q (result_register k) ≡ values (first + k))
       → (number : ℕ) → put_all result (result_registers count) q waiting number ≡ copied values first count waiting result number
   results_copied count few_results holds number =
@@ -175,7 +176,7 @@ module _ (program : Program) (well : IsWellFormed program) (frames : List Frame)
       (same_slots m waiting (copied values first 0 waiting result) (λ number. no_slots values waiting first result number) s) in
       (all.safe, all.same, subst (λ (n : ℕ). StandsWith (after_w (store_all (frame_at frames c.active.function) result (result_registers count)) q m) (copied values first n waiting result)) (let e : 0 + length (result_registers count) ≡ count = omega (arith, long) in e) all.standing)
 
--- The lines after a call bring the caller to its next instruction.
+-- After a call returns, the lines that follow the call bring the caller to its next instruction.
 module _ (program : Program) (well : IsWellFormed program) (frames : List Frame) (fit : AreFrames program frames) (code : Labelled) (formed : IsFormed code) (addresses : ℕ → ℕ) (pages calls : ℕ) (few : calls ≤ 4096)
     (c : Configuration) (t : State) (b : Back program well frames fit code formed addresses pages calls few c t)
     (stands : Stands code (after_line program frames c.active.function b.index b.callee b.arguments b.count b.result) (following program frames c.active.function (plain.Call b.callee b.arguments b.count b.result)))
@@ -229,7 +230,7 @@ module _ (program : Program) (well : IsWellFormed program) (frames : List Frame)
   next_is : c.active.next ≡ suc b.index
   next_is = omega (arith, b.next)
 
-  -- The call instruction writes exactly the result slots.
+  -- The call instruction writes each of its result slots.
   written_by : (slot : ℕ) → b.result ≤ slot → slot < past → writes program (plain.Call b.callee b.arguments b.count b.result) slot ≡ true
   written_by slot begun below = among b.result (routine_at program b.callee).results slot begun (omega (arith, below, many))
 
@@ -259,7 +260,8 @@ module _ (program : Program) (well : IsWellFormed program) (frames : List Frame)
   abbrev given_w : Contents
   given_w = after_w kept_words b.r b.w
 
-  -- After the reloads, the slots are those of the next configuration.
+  -- After the results are written and registers reloaded, the slots are those of the plain
+  -- configuration.
   slots_are : (number : ℕ) → put_all b.result registers_of b.r b.waiting number ≡ c.active.slots number
   slots_are number =
       results_copied program well frames fit addresses pages calls few c b.r b.base saved (under_way true) b.result b.first b.values b.waiting (routine_at program b.callee).results few_results
@@ -278,7 +280,8 @@ module _ (program : Program) (well : IsWellFormed program) (frames : List Frame)
       let same : register ≡ k = (let e : Some register ≡ Some k = has in cc) in
       omega (arith, same, leb-true 17 register lives)
 
-  -- A live slot that is not in memory is a result, or is in a callee-saved register.
+  -- A slot that is live after a call and has no word in memory is a result, or its word is in a
+  -- callee-saved register.
   alone_returned : CachesBut program well frames fit addresses pages calls few true c b.base saved true c.active.next b.result past b.r low_words room_is shares_none b.result (length registers_of) b.r b.waiting
   alone_returned a k has wanted last outside =
       let unwritten = apart_from_all a outside in

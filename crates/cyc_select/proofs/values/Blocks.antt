@@ -1,4 +1,4 @@
--- Blocks: sequences of safe instructions that write registers and leave memory unchanged.
+-- A block is a sequence of safe instructions that writes registers and leaves memory unchanged.
 use Rattle.std.proofs.Common.{◌≡◌, ◌≢◌, ℕ, ◌<◌, ◌≤◌, List, [], ◌∷◌, ◌++◌, ap, ◌∙◌, arith}
 use Rattle.cyc_isa.specs.declared.instr.Instr.{Instr}
 use Rattle.cyc_machine_model.specs.declared.constants.TheConstants.{RETURN_ADDRESS}
@@ -7,8 +7,8 @@ use Rattle.cyc_select.specs.declared.constants.TheConstants.{ZERO, FRAME, LOWEST
 use Rattle.cyc_select.proofs.effects.Views.{Contents, does_r, does_w}
 use Rattle.cyc_select.proofs.effects.Sequences.{after_r, after_w, AreSafe, after_r-append, after_w-append}
 
--- The registers that keep their meaning across calls: the newest handler's record, the number of open lexical regions, and the base address
--- of the globals.
+-- Returns the three registers that keep their meaning across calls: the newest handler's record, the number of open lexical regions, and
+-- the base address of the globals.
 abbrev pub lasting : Words → ℕ × ℕ × ℕ
 lasting r = (r HANDLERS, r REGIONS, r GLOBALS)
 
@@ -24,30 +24,32 @@ count_lasts q r same = ap (λ (p : ℕ × ℕ × ℕ). p.1) same
 pub middle_lasts : (q r : Words) → lasting q ≡ lasting r → q GLOBALS ≡ r GLOBALS
 middle_lasts q r same = ap (λ (p : ℕ × ℕ × ℕ). p.2) same
 
--- The registers that slots may have are unchanged, except for this one.
+-- `AreSame` says that all registers that slots may have are unchanged, except for `but`.
 abbrev pub AreSame : (but : ℕ) → (q r : Words) → Type 0
 AreSame but q r = (n : ℕ) → 6 ≤ n → n < 24 → n ≢ but → q n ≡ r n
 
--- All registers that slots may have are unchanged.
+-- `ValuesSame` says that all registers that slots may have are unchanged.
 abbrev pub ValuesSame : (q r : Words) → Type 0
 ValuesSame q r = (n : ℕ) → 6 ≤ n → n < 24 → q n ≡ r n
 
 pub all_same : (q r : Words) → AreSame 24 q r → ValuesSame q r
 all_same q r same n low high = same n low high (λ e. absurd (omega (arith, e, high)))
 
--- A register that no slot may have, except perhaps this one.
+-- `IsAside` says that `target` is a register that no slot may have, or is the register `but`.
 abbrev pub IsAside : (but target : ℕ) → Type 0
 IsAside but target = (n : ℕ) → 6 ≤ n → n < 24 → n ≢ but → n ≢ target
 
 module _ (globals stack : ℕ) where
-  -- Instructions that write one register: afterwards it holds this word, and every other register is unchanged.
+  -- `Puts` describes instructions that write one register: afterwards it holds this word, and every other
+  -- register is unchanged.
   pub record Puts (is : List Instr) (r : Words) (w : Contents) (target at word : ℕ) : Type 0 where
     pub safe : AreSafe globals stack is r w
     pub memory : after_w is r w ≡ w
     pub result : after_r is r w at ≡ word
     pub others : (n : ℕ) → n < 32 → n ≢ target → after_r is r w n ≡ r n
 
-  -- Instructions that keep the reserved registers and those of slots, except one.
+  -- `Keeps` describes instructions that leave unchanged the reserved registers and those of slots,
+  -- except the register `but`.
   pub record Keeps (is : List Instr) (r : Words) (w : Contents) (but : ℕ) : Type 0 where
     pub safe : AreSafe globals stack is r w
     pub memory : after_w is r w ≡ w
@@ -58,7 +60,7 @@ module _ (globals stack : ℕ) where
     pub lasts : lasting (after_r is r w) ≡ lasting r
     pub values : AreSame but (after_r is r w) r
 
-  -- A temporary register, which no call keeps.
+  -- `IsScratch` says that a register is temporary: no call preserves it.
   pub record IsScratch (n : ℕ) : Type 0 where
     pub not_zero : ZERO ≢ n
     pub not_base : FRAME ≢ n

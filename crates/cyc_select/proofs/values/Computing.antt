@@ -1,4 +1,4 @@
--- The registers after the code of operands, plans and tests.
+-- The registers after the code that computes operands, plans and tests.
 use Rattle.std.proofs.Common.{◌≡◌, ◌≢◌, ℕ, ◌-◌, ◌/◌, ◌%◌, ◌^◌, ◌<◌, ◌≤◌, Bool, true, false, List, [], ◌∷◌, Option, None, Some, refl, sym, ap, subst, ◌∙◌, arith}
 use Rattle.std.specs.Prelude.{◌==◌, nat_lt, if◌then◌else◌, bit_or}
 use Rattle.std.proofs.lemmas.Bool.{eqb-true, ne_eqb}
@@ -84,19 +84,22 @@ module _ (globals stack : ℕ) where
 
   -- ---- operands
 
-  -- A slot's word is in its register, or at an address from which it can be loaded.
+  -- `HeldIn` says that a slot's word is in its register, or at an address from which it can be
+  -- loaded.
   abbrev pub HeldIn : Option ℕ → Frame → (base : ℕ) → (w : Contents) (r slots : Words) → (slot : ℕ) → Type 0
   HeldIn None frame base w r slots slot =
       IsCell globals stack (memory_address base (slot_offset frame slot)) × (w.words (memory_address base (slot_offset frame slot)) ≡ slots slot)
   HeldIn (Some register) frame base w r slots slot =
       (6 ≤ register) × (register < 24) × (r register ≡ slots slot) × IsWord (slots slot)
 
-  -- An operand is a constant, or its slot's word is available.
+  -- `IsHeld` says that an operand is a constant, or that its slot's word is in a register or in
+  -- memory.
   abbrev pub IsHeld : Frame → (base : ℕ) → (w : Contents) (r slots : Words) → Operand → Type 0
   IsHeld frame base w r slots (operands.Slot number) = HeldIn (value_register frame number) frame base w r slots number
   IsHeld frame base w r slots (operands.Word word) = IsWord word
 
-  -- From registers and memory in which the frame and the slots' registers are as before.
+  -- The module assumes registers and memory in which the frame and the slots' registers are
+  -- unchanged.
   module _ (frame : Frame) (base : ℕ) (w : Contents) (r slots : Words) (q : Words) (m : Contents) (zero : q ZERO ≡ 0) (same : q FRAME ≡ base) (memory : m ≡ w) (values : ValuesSame q r) where
     memory_puts : (target number : ℕ) → IsWritable (target % 32) → IsCell globals stack (memory_address base (slot_offset frame number)) → w.words (memory_address base (slot_offset frame number)) ≡ slots number
         → Puts globals stack (load target (slot_offset frame number) ∷ []) q m (target % 32) (target % 32) (slots number)
@@ -156,14 +159,14 @@ module _ (globals stack : ℕ) where
     word_not_second true e = absurd (omega (arith, e))
     word_not_second false e = absurd (omega (arith, e))
 
-    -- The register of the left operand is not the temporary of the right one.
+    -- The register that holds the left operand is not the temporary for the right operand.
     pub not_second : (o : Operand) → IsHeld frame base w r slots o → operand_register frame FIRST o % 32 ≢ SECOND
     not_second (operands.Slot number) held = fetched_not_second (value_register frame number) number held
     not_second (operands.Word word) held = word_not_second (is_zero_word (operands.Word word))
 
   -- ---- two operands
 
-  -- Both operands of the operator are in registers.
+  -- `AreLoaded` says that after the instructions, both operands of an operator are in registers.
   pub record AreLoaded (is : List Instr) (q : Words) (m : Contents) (but left right a b : ℕ) : Type 0 where
     pub keeps : Keeps globals stack is q m but
     pub left_is : after_r is q m (left % 32) ≡ a
@@ -216,12 +219,13 @@ module _ (globals stack : ℕ) where
 
   -- ---- computed words
 
-  -- The machine can compute the operation on these words.
+  -- `IsComputable` says that the machine can compute an operation on two words: a division has no
+  -- zero divisor and does not overflow.
   abbrev pub IsComputable : Operation → (a b : ℕ) → Type 0
   IsComputable (operations.MultiplyDivide Divide from) a b = (b ≢ 0) × (a ≡ 2 ^ 31 → b ≡ 2 ^ 32 - 1 → ⊥)
   IsComputable operation a b = Unit {0}
 
-  -- Any other general register is unchanged after the target, HI and LO are written.
+  -- Writing a target register, HI and LO leaves every other general register unchanged.
   kept : (q : Words) (at n high low word : ℕ) → n < 32 → n ≢ at → put (put (put q 32 high) 33 low) at word n ≡ q n
   kept q at n high low word below other =
       put-other (put (put q 32 high) 33 low) at n word other
@@ -282,12 +286,14 @@ module _ (globals stack : ℕ) where
   minus_one_is n zero =
       ap (λ (x : ℕ). add_of x (sign_extended 65535)) zero ∙ (ap (add_of 0) (sign_extended_high 65535 (omega arith) (omega arith)) ∙ refl)
 
-  -- The instructions leave this word in the target register and change nothing else.
+  -- `Leaves` says that the instructions leave this word in the target register and change nothing
+  -- else.
   pub record Leaves (is : List Instr) (q : Words) (m : Contents) (target word : ℕ) : Type 0 where
     pub keeps : Keeps globals stack is q m (target % 32)
     pub result : after_r is q m (target % 32) ≡ word
 
-  -- From registers and memory in which the frame and the slots' registers are as before.
+  -- The module assumes registers and memory in which the frame and the slots' registers are
+  -- unchanged.
   module _ (frame : Frame) (base : ℕ) (w : Contents) (r slots : Words) (q : Words) (m : Contents) (zero : q ZERO ≡ 0) (same : q FRAME ≡ base) (memory : m ≡ w) (values : ValuesSame q r) where
     pub operands_put : (but : ℕ) (left right : Operand) → IsHeld frame base w r slots left → IsHeld frame base w r slots right
         → AreLoaded (operands_code frame left right) q m but (operand_register frame FIRST left) (operand_register frame SECOND right) (operand_word slots left) (operand_word slots right)
@@ -349,12 +355,13 @@ module _ (globals stack : ℕ) where
     word_not_third true target apart e = absurd (omega (arith, e))
     word_not_third false target apart e = apart e
 
-    -- The register that receives -1 contains no operand.
+    -- The temporary register that receives -1 in a division holds neither operand.
     not_third : (target : ℕ) → target % 32 ≢ THIRD → (o : Operand) → IsHeld frame base w r slots o → operand_register frame target o % 32 ≢ THIRD
     not_third target apart (operands.Slot number) held = fetched_not_third (value_register frame number) target number apart held
     not_third target apart (operands.Word word) held = word_not_third (is_zero_word (operands.Word word)) target apart
 
-    -- The dividend, the divisor and -1 are in registers.
+    -- `AreDivided` says that after the instructions, the dividend, the divisor and -1 are in
+    -- registers.
     pub record AreDivided (is : List Instr) (left right : Operand) : Type 0 where
       pub keeps : Keeps globals stack is q m FIRST
       pub dividend : after_r is q m (operand_register frame FIRST left % 32) ≡ operand_word slots left
@@ -389,7 +396,7 @@ module _ (globals stack : ℕ) where
 
 -- ---- the register in which a slot's word is computed
 
--- The register in which a slot's word is computed is a temporary or the slot's own.
+-- The register in which a slot's word is computed is a temporary or the slot's own register.
 pub made_scratch : (globals stack : ℕ) (program : Program) (r : Routine) (frame : Frame) → AreHomes program r frame.saved frame.homes → (slot : ℕ) → IsScratch globals stack (made_in frame slot % 32)
 made_scratch globals stack program r frame right slot = go (value_register frame slot) refl
   where

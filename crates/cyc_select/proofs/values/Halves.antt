@@ -1,4 +1,4 @@
--- The immediates in instructions denote the words that they stand for.
+-- The immediates in machine instructions denote the words of the operands that they replace.
 use Rattle.std.proofs.Common.{◌≡◌, ◌≢◌, ℕ, ◌+◌, ◌-◌, ◌%◌, ◌^◌, ◌<◌, ◌≤◌, ℤ, pos, ◌+ℤ◌, ◌-ℤ◌, Bool, true, false, not, Some, None, refl, sym, ap, subst, ◌∙◌, inl, inr, arith}
 use Rattle.std.specs.Prelude.{◌==◌, nat_le, nat_lt, if◌then◌else◌}
 use Rattle.std.proofs.lemmas.Bool.{cases_eq, cases_lt, eqb-true, ltb-true, leb-true, eq-eqb, or_cases}
@@ -61,7 +61,7 @@ module _ (slots : Words) where
   next_is (operands.Slot number) h is = absurd (let e : None ≡ Some h = is in cc)
   next_is (operands.Word word) h is = half_is (add_of word 1) h (IsWord-add_of word 1) is
 
-  -- The greatest signed word has no successor.
+  -- An operand that has a successor immediate is not the greatest signed word.
   pub next_not_greatest : (o : Operand) (h : ℕ) → next_half o ≡ Some h → operand_word slots o ≢ 2 ^ 31 - 1
   next_not_greatest (operands.Slot number) h is same = absurd (let e : None ≡ Some h = is in cc)
   next_not_greatest (operands.Word word) h is same =

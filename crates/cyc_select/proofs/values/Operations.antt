@@ -32,7 +32,7 @@ take_small a number is_word some small fits =
     ap (add_of a) (sign_extended_high (2 ^ 16 - number) (omega arith) (omega arith))
     ∙ (let e : add_of a (2 ^ 16 - number + (2 ^ 32 - 2 ^ 16)) ≡ a - number = omega arith in e)
 
--- The address of a global as upper half plus signed offset.
+-- The address of a global is the sum of an upper half and a sign-extended 16-bit offset.
 pub global_lies : (address : ℕ) → IsWord address → memory_address (load_upper_result ((address + 2 ^ 15) / 2 ^ 16)) (address % 2 ^ 16) ≡ address
 global_lies address is_word = elim (cases_lt (address % 2 ^ 16) (2 ^ 15)) [
   | inl low ↦
@@ -43,7 +43,8 @@ global_lies address is_word = elim (cases_lt (address % 2 ^ 16) (2 ^ 15)) [
       ∙ (let e : add_of (load_upper_result ((address + 2 ^ 15) / 2 ^ 16)) (address % 2 ^ 16 + (2 ^ 32 - 2 ^ 16)) ≡ address = omega (arith, high) in e)
 ]
 
--- The address of a global as base register plus signed offset.
+-- The address of a global near the base register is the sum of the base address and a sign-extended
+-- 16-bit offset.
 pub near_lies : (global : ℕ) → global < NEAR_GLOBALS → memory_address GLOBALS_MIDDLE ((data_base + 4 * global + 2 ^ 15) % 2 ^ 16) ≡ data_base + 4 * global
 near_lies global near = elim (cases_lt global (2 ^ 13)) [
   | inl low ↦
@@ -91,7 +92,7 @@ not_zero_test a = elim (cases_eq a 0) [
 
 -- ---- products
 
--- The signed number is at least -2^63.
+-- `IsNear` says that an integer is at least -2^63.
 abbrev IsNear : ℤ → Type 0
 IsNear (pos n) = Unit {0}
 IsNear (negsuc n) = n < 2 ^ 63
@@ -121,7 +122,8 @@ low_product a b is_a is_b =
 
 -- ---- quotients by -1
 
--- The product of the dividend and -1 gives the quotient by -1, and that of 0 and 0 the remainder.
+-- The quotient of a word by -1 is the low word of its product with -1, and the remainder is the
+-- product of 0 and 0.
 pub product_quotient : (a : ℕ) → IsWord a → low_result Multiply a (2 ^ 32 - 1) ≡ div_of a (2 ^ 32 - 1)
 unfolding div_of
 product_quotient a is_a =

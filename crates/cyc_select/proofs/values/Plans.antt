@@ -1,4 +1,4 @@
--- Plans compute the operators and comparisons of a plain program.
+-- Plans (sequences of machine operations) compute the operators and comparisons of a plain program.
 use Rattle.std.proofs.Common.{◌≡◌, ◌≢◌, ℕ, suc, ◌-◌, ◌*◌, ◌/◌, ◌%◌, ◌^◌, ◌<◌, ◌≤◌, ℤ, pos, ◌+ℤ◌, ◌≤ℤ◌, ◌<ℤ◌, Bool, true, false, not, Option, Some, None, refl, sym, ap, ◌∙◌, arith, inl, inr}
 use Rattle.std.specs.Prelude.{◌==◌, nat_le, int_le, int_lt, if◌then◌else◌, bit_and, bit_or, bit_xor}
 use Rattle.std.specs.Int.{w32, bit_not}
@@ -48,7 +48,7 @@ use Rattle.cyc_select.specs.inside.Operands.{branch_on, is_tested}
 use Rattle.cyc_select.proofs.values.Halves.{signed_is, negated_is, next_is, next_not_greatest, low_is, zero_is, amount_is, power_is, signed_fits, negated_half_fits, next_fits, low_fits, next_signed}
 use Rattle.cyc_select.proofs.values.Operations.{zero_test, not_zero_test, difference_zero, low_product}
 
--- Selects the first word for a quotient, and the second for a remainder.
+-- Returns the first word for a quotient, and the second word for a remainder.
 abbrev pub if_low : MoveFromOp → (low high : ℕ) → ℕ
 if_low High low high = high
 if_low Low low high = low
@@ -113,7 +113,7 @@ not_below_truth a b = elim (sltu_of_cases a b) [
     above : (x y : ℕ) → suc x ≤ y → nat_le y x ≡ false
     above x y less = grind arith
 
--- If two plans have equal results, so has the choice between the plans.
+-- If two plans have the same value, a conditional choice between the plans has this value too.
 via_if : (slots : Words) (b : Bool) (p q : Plan) (value : ℕ) → (b ≡ true → plan_word slots p ≡ value) → (b ≡ false → plan_word slots q ≡ value) → plan_word slots (if b then p else q) ≡ value
 via_if slots true p q value first second = first refl
 via_if slots false p q value first second = second refl
@@ -144,7 +144,7 @@ module _ (slots : Words) (left right : Operand) (left_fits : IsWord (operand_wor
   abbrev b : ℕ
   b = operand_word slots right
 
-  -- The difference of two words, and the test that it is 0.
+  -- Adding the negated immediate of the right word computes the difference of two words.
   negated_sum : (h : ℕ) → negated_half right ≡ Some h → add_of a (sign_extended h) ≡ sub_of a b
   negated_sum h is = ap (add_of a) (negated_is slots right h is) ∙ (let e : add_of a (sub_of 0 b) ≡ sub_of a b = omega (arith, left_fits, right_fits) in e)
 
@@ -306,7 +306,7 @@ unary_word slots operand fits unary.Not = comparison_word slots operand (operand
 
 -- ---- tests
 
--- The branch of a test is taken for these registers.
+-- Returns true if the branch of a test is taken for these slots.
 abbrev pub test_taken : Words → Test → Bool
 test_taken slots (tests.Operands op left right) = branch_taken op (operand_word slots left) (operand_word slots right)
 test_taken slots (tests.Sign op operand) = branch_zero_taken op (operand_word slots operand)
@@ -322,13 +322,13 @@ not_truth_zero : (t : Bool) → not (truth t == 0) ≡ t
 not_truth_zero true = refl
 not_truth_zero false = refl
 
--- A branch on the outcome's word is taken if the outcome would be 1.
+-- A branch on the word before a plan's final step is taken exactly if the plan's result would be 1.
 branches_on : (o : Outcome) (word : ℕ) (t : Bool) → outcome_result o word ≡ truth t → branch_taken (branch_on o) word 0 ≡ t
 branches_on outcomes.AsItIs word t is = ap (λ (n : ℕ). not (n == 0)) is ∙ not_truth_zero t
 branches_on outcomes.WhetherZero word t is = truth_injective (word == 0) t is
 branches_on outcomes.WhetherNotZero word t is = truth_injective (not (word == 0)) t is
 
--- A branch on a sign compares with 0.
+-- A branch on the sign of a word is taken exactly if its comparison of this word with 0 holds.
 sign_taken : (comparison : Comparison) (op : BranchZeroOp) (word : ℕ) → sign_of comparison ≡ Some op → branch_zero_taken op word ≡ compares comparison word 0
 sign_taken comparisons.Less op word is = ap (λ (o : BranchZeroOp). branch_zero_taken o word) (sym (same_Some signs.Less op is))
 sign_taken comparisons.LessOrEqual op word is = ap (λ (o : BranchZeroOp). branch_zero_taken o word) (sym (same_Some signs.LessOrEqual op is))
@@ -353,7 +353,8 @@ module _ (slots : Words) (left right : Operand) (left_fits : IsWord (operand_wor
   order_taken : (comparison : Comparison) → test_taken slots (order_test comparison left right) ≡ compares comparison (operand_word slots left) (operand_word slots right)
   order_taken comparison = go (is_zero_word right) (is_zero_word left) refl refl
     where
-      -- The operand 0 is on the right, or on the left.
+      -- A test with the operand 0 on the right can be replaced by a test of the left operand's
+      -- sign.
       with_sign : (o : Option BranchZeroOp) → sign_of comparison ≡ o → operand_word slots right ≡ 0 → test_taken slots (sign_or o left (tests.Computed (comparison_plan comparison left right))) ≡ compares comparison (operand_word slots left) (operand_word slots right)
       with_sign (Some op) is zero = sign_taken comparison op (operand_word slots left) is ∙ ap (compares comparison (operand_word slots left)) (sym zero)
       with_sign None is zero = computed_taken comparison
@@ -378,7 +379,8 @@ module _ (slots : Words) (left right : Operand) (left_fits : IsWord (operand_wor
 
 -- ---- a property of all plans
 
--- A property of all plans follows if it holds for each plan made from operands with property `P`, which the word 0 has.
+-- A property holds for all plans if it holds for each plan made from operands that satisfy `P`, and the word 0
+-- satisfies `P`.
 module _ (P : Operand → Type 0) (zero : P (operands.Word 0)) (Q : Plan → Type 0)
     (of_arithmetic : (op : ArithmeticOp) (left right : Operand) (outcome : Outcome) → P left → P right → Q (arithmetic_plan op left right outcome))
     (of_immediate : (op : ImmediateOp) (left : Operand) (half : ℕ) (outcome : Outcome) → half < 2 ^ 16 → P left → Q (immediate_plan op left half outcome)) where
@@ -434,7 +436,7 @@ module _ (P : Operand → Type 0) (zero : P (operands.Word 0)) (Q : Plan → Typ
   all_unary unary.Complement operand o = of_arithmetic arithmetic.Nor (operands.Word 0) operand outcomes.AsItIs zero o
   all_unary unary.Not operand o = all_comparison comparisons.Equal operand (operands.Word 0) o zero
 
-  -- The operands and the plan of a test have the property.
+  -- `AllOfTest` says that the operands of a test, or the plan that it computes, have the property.
   abbrev pub AllOfTest : Test → Type 0
   AllOfTest (tests.Operands op left right) = P left × P right
   AllOfTest (tests.Sign op operand) = P operand
@@ -461,7 +463,7 @@ module _ (P : Operand → Type 0) (zero : P (operands.Word 0)) (Q : Plan → Typ
   all_test comparisons.NotEqual left right l r = (l, r)
   all_test comparison left right l r = all_order comparison left right l r
 
-  -- A division has a plan if its divisor is plain.
+  -- A division has a plan if its divisor needs no test.
   module _ (of_shift : (op : ShiftOp) (left right : Operand) → P left → P right → Q (shift_by None op left right))
       (of_shift_by : (op : ShiftOp) (left right : Operand) (amount : ℕ) → P left → Q (shift_by (Some amount) op left right))
       (of_product : (left right : Operand) → P left → P right → Q (multiply_divide_plan Multiply Low left right))
@@ -502,7 +504,8 @@ module _ (P : Operand → Type 0) (zero : P (operands.Word 0)) (Q : Plan → Typ
     all_operator binary.Greater left right fine l r = all_comparison comparisons.Greater left right l r
     all_operator binary.GreaterOrEqual left right fine l r = all_comparison comparisons.GreaterOrEqual left right l r
 
-    -- An operator that commutes is no division.
+    -- Exchanging the operands of a commutative operator, which is never a division, keeps the
+    -- property of its plan.
     all_swapped : (operator : BinaryOperator) (left right : Operand) → is_swapped operator left ≡ true → P left → P right → Q (operator_plan operator right left)
     all_swapped binary.Add left right is l r = all_operator binary.Add right left refl r l
     all_swapped binary.Multiply left right is l r = all_operator binary.Multiply right left refl r l

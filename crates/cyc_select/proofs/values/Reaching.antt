@@ -1,4 +1,5 @@
--- The base address of a global: a register contains that of the first globals, and for the others it is loaded.
+-- The base address for a global: a reserved register holds it for the first globals, and for all others it is
+-- loaded.
 use Rattle.std.proofs.Common.{◌≡◌, ◌≢◌, ℕ, ◌+◌, ◌*◌, ◌%◌, ◌^◌, ◌<◌, Bool, true, false, [], ◌∷◌, refl, ap, ◌∙◌, arith}
 use Rattle.std.specs.Prelude.{◌/◌, if◌then◌else◌}
 use Rattle.std.proofs.lemmas.Bool.{ltb-true}
@@ -15,7 +16,8 @@ use Rattle.cyc_select.proofs.values.Computing.{second_scratch, second_aside}
 use Rattle.cyc_select.proofs.values.Operations.{global_lies, near_lies}
 
 module _ (globals stack : ℕ) where
-  -- The base address is in a register, and the global lies at an offset from it.
+  -- `Reaches` says that a register holds the base address for a global, whose offset from it fits
+  -- an instruction.
   pub record Reaches (near : Bool) (global but : ℕ) (q : Words) (m : Contents) : Type 0 where
     pub keeps : Keeps globals stack (if near then [] else upper_of_global global ∷ []) q m but
     pub others : (n : ℕ) → n < 32 → n ≢ SECOND → after_r (if near then [] else upper_of_global global ∷ []) q m n ≡ q n

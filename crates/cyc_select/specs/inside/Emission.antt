@@ -1,5 +1,5 @@
--- Contracts of the functions that emit code: the lines that they append, and the tables of line numbers used to resolve targets. The form
--- of these contracts is this project's own choice.
+-- Contracts of the functions that emit code: they state the lines appended, and the tables of line numbers used to resolve branch
+-- targets. The form of these contracts is this project's own choice.
 use Rattle.std.specs.Prelude.{◌≡◌, ℕ, suc, ◌+◌, ◌<◌, ◌≤◌, ◌⊎◌, List, [], ◌∷◌, ◌++◌, length, sum_by, Option, Some, None, slice_get, Result, OnOk}
 use Rattle.std.specs.declared.alloc.AllocError.{AllocError}
 use Rattle.cyc_plain.specs.declared.instruction.Instruction.{Instruction}
@@ -24,19 +24,20 @@ use Rattle.cyc_select.specs.declared.tables.FunctionLines.{FunctionLines}
 use Rattle.cyc_select.specs.declared.tables.Ready.{Ready}
 use Rattle.cyc_select.specs.declared.tables.Tables.{Tables}
 
--- A successful call appends these lines.
+-- `AddsLines` says that a successful call appends these lines to the emitter.
 abbrev pub AddsLines : {T : Type 0} → Result T AllocError → (old new : Emitter) → List Line → Type 0
 AddsLines result old new lines = OnOk result (new.lines.items ≡ old.lines.items ++ lines)
 
--- The offset of a slot in the frame fits an instruction.
+-- `IsReached` says that the offset of a slot in the frame fits an instruction.
 abbrev pub IsReached : Frame → (slot : ℕ) → Type 0
 IsReached frame slot = slot_word frame slot < MOST_FRAME_WORDS
 
--- The offsets of `count` slots from `first` on fit an instruction.
+-- `AreReached` says that the offsets of `count` slots from `first` on fit an instruction.
 abbrev pub AreReached : Frame → (first count : ℕ) → Type 0
 AreReached frame first count = (count ≡ 0) ⊎ (slot_word frame first + count ≤ MOST_FRAME_WORDS)
 
--- The slot of an operand, if it has one, is reached.
+-- `IsFound` says that the offset of an operand's slot, if the operand is a slot, fits an
+-- instruction.
 abbrev pub IsFound : Frame → Operand → Type 0
 IsFound frame (operands.Slot number) = IsReached frame number
 IsFound frame (operands.Word word) = Unit {0}
@@ -45,7 +46,8 @@ abbrev pub IsArgumentFound : Frame → Option Operand → Type 0
 IsArgumentFound frame (Some operand) = IsFound frame operand
 IsArgumentFound frame None = Unit {0}
 
--- The operands of a request are reached, and so are the slots of its result.
+-- `IsRequestFound` says that the offsets of a request's operands and result slots fit an
+-- instruction.
 pub record IsRequestFound (frame : Frame) (request : Request) : Type 0 where
   pub first : IsArgumentFound frame (first_operand request)
   pub second : IsArgumentFound frame (second_operand request)
@@ -59,37 +61,38 @@ IsTestFound frame (tests.Operands op left right) = IsFound frame left × IsFound
 IsTestFound frame (tests.Sign op operand) = IsFound frame operand
 IsTestFound frame (tests.Computed plan) = IsPlanFound frame plan
 
--- The most lines that a program may have.
+-- The greatest number of lines that a program may have.
 abbrev pub most_lines : ℕ
 most_lines = START_LINES + MOST_SIZE
 
--- Each function returns at most the words of one value.
+-- `AreFew` says that each function returns at most as many words as one value has.
 abbrev pub AreFew : Program → Type 0
 AreFew program = (k : ℕ) → (routine_at program k).results ≤ GREATEST_VALUE
 
--- The line numbers of the instructions of a function's code from `index` on, the first of which has number `here`.
+-- Returns the line numbers of the instructions of a function's code from `index` on, if the first of them begins
+-- at line `here`.
 abbrev pub instruction_lines : Program → List Frame → (function index here : ℕ) → List Instruction → List ℕ
 instruction_lines program frames function index here [] = []
 instruction_lines program frames function index here (i ∷ code) =
     here ∷ instruction_lines program frames function (suc index) (here + count_of program frames function index i) code
 
--- The line numbers of the instructions of a function.
+-- Returns the line numbers of the instructions of a function.
 abbrev pub lines_in : Program → List Frame → (function : ℕ) → List ℕ
 lines_in program frames function =
     instruction_lines program frames function 0 (function_line program frames function + saving_count (frame_at frames function)) (routine_at program function).code
 
--- The table gives the line numbers of a function.
+-- `IsNumbered` says that a table contains the line numbers of a function.
 pub record IsNumbered (program : Program) (frames : List Frame) (function : ℕ) (its : FunctionLines) : Type 0 where
   pub first_is : its.first ≡ function_line program frames function
   pub lines_are : its.lines.items ≡ lines_in program frames function
 
--- The table gives the line numbers of the first `count` functions.
+-- `AreNumbered` says that a table contains the line numbers of the first `count` functions.
 pub record AreNumbered (program : Program) (frames : List Frame) (count : ℕ) (functions : List FunctionLines) : Type 0 where
   pub as_many : length functions ≡ count
   pub each : (k : ℕ) (its : FunctionLines) → slice_get functions k ≡ Some its → IsNumbered program frames k its
 
--- The data from which the lines of a program are emitted: its functions are not too large together, and the frames and line numbers are
--- theirs.
+-- `AreReady` describes the data from which a program's lines are emitted: the total size of its functions is within the limit, and the
+-- frames and line numbers are correct.
 pub record AreReady (program : Program) (frames : List Frame) (functions : List FunctionLines) : Type 0 where
   pub well_formed : IsWellFormed program
   pub few : sum_by size program.functions ≤ MOST_SIZE
@@ -99,7 +102,8 @@ pub record AreReady (program : Program) (frames : List Frame) (functions : List 
 abbrev pub IsReady : Ready → Type 0
 IsReady ready = AreReady ready.plain.now ready.frames.now ready.functions.now
 
--- The data for one function of the program, with the line numbers of its instructions.
+-- `AreTables` describes the data from which the lines of one function are emitted, with the line
+-- numbers of its instructions.
 pub record AreTables (program : Program) (frames : List Frame) (functions : List FunctionLines) (lines : List ℕ) (function : ℕ) : Type 0 where
   pub ready : AreReady program frames functions
   pub function_in_range : function < length program.functions

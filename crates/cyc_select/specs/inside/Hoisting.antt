@@ -1,4 +1,5 @@
--- The instruction hoisted before a branch to fill its delay slot: the first line of the branch target.
+-- The instruction that is hoisted before a branch to fill the branch's delay slot: a copy of the first
+-- line of the branch target.
 use Rattle.std.specs.Prelude.{ℕ, ◌+◌, ◌%◌, ◌^◌, ◌==◌, ◌&&◌, ◌||◌, Bool, false, not, nat_lt, nat_le, if◌then◌else◌, List, [], ◌∷◌, ◌++◌, Option, Some, None, slice_get}
 use Rattle.cyc_isa.specs.declared.instr.Instr.{Instr}
 use Rattle.cyc_isa.specs.declared.instr.Instr.TheVariants as machine
@@ -24,7 +25,8 @@ use Rattle.cyc_select.specs.inside.Instructions.{add_immediate, small, minus, lo
 use Rattle.cyc_select.specs.inside.Slots.{value_register, made_in, is_own}
 use Rattle.cyc_select.specs.inside.Operands.{or_immediate, operand_register, condition_of, is_tested}
 
--- An idle place has no lines: its frame marks it as idle, and its instruction may be idle.
+-- Returns true if an instruction has no lines: its frame marks it as idle, and instructions of its
+-- kind may be idle.
 abbrev pub is_idle : Frame → (index : ℕ) → Instruction → Bool
 is_idle frame index (plain.Move destination source) = idle_at frame.idle index
 is_idle frame index (plain.MoveWords destination source count) = idle_at frame.idle index
@@ -36,17 +38,19 @@ is_idle frame index instruction = false
 
 -- ---- the line that a branch copies from its target
 
--- The first line of a branch target may only compute a register from registers. A copy of such a line may fill the branch's delay slot, and
--- the branch then jumps to the next line. The register must be a temporary, or that of a slot for which the frame permits the copy.
+-- A line can be hoisted before a branch if it computes a register from registers only. A copy of the branch target's first line may fill
+-- the delay slot; the branch then jumps to the line after the original. The register must be a temporary, or that of a slot for which the
+-- frame permits the copy.
 
--- The first line that loads a word into a register.
+-- Returns the first line of the code that loads a word into a register.
 abbrev pub word_first : (target word : ℕ) → Instr
 word_first target word =
     if fits_signed word
     then small target (word % 2 ^ 16)
     else (if nat_lt word (2 ^ 16) then or_immediate target word else load_upper target word)
 
--- The first line that loads an operand into a register, or else `following`; none if the line reads memory.
+-- Returns the first line that loads an operand into a register, or `following` if no line is needed, or
+-- `None` if the line reads memory.
 abbrev pub slot_first : Option ℕ → (following : Option Instr) → Option Instr
 slot_first None following = None
 slot_first (Some own) following = following
@@ -56,7 +60,7 @@ operand_first frame register (operands.Slot number) following = slot_first (valu
 operand_first frame register (operands.Word word) following =
     if is_zero_word (operands.Word word) then following else Some (word_first register word)
 
--- The first line that loads two operands, or else `following`.
+-- Returns the first line that loads two operands, or `following` if no load is needed.
 abbrev pub operands_first : Frame → (left right : Operand) → (following : Option Instr) → Option Instr
 operands_first frame left right following = operand_first frame FIRST left (operand_first frame SECOND right following)
 
@@ -67,7 +71,7 @@ operation_first (operations.Shift op) target left right = Some (shift_of op targ
 operation_first (operations.ShiftBy op amount) target left right = Some (shift_by_of op target left amount)
 operation_first (operations.MultiplyDivide op from) target left right = None
 
--- The first line of a plan, of a tested division, of a test, and of a copy.
+-- Returns the first line of the code of a plan.
 abbrev pub plan_first : Frame → (target : ℕ) → Plan → Option Instr
 plan_first frame target plan =
     operands_first frame plan.left plan.right
@@ -93,8 +97,8 @@ abbrev pub move_first : Option ℕ → Frame → Operand → Option Instr
 move_first None frame source = operand_first frame FIRST source None
 move_first (Some register) frame source = load_first frame register source
 
--- The first line of an instruction, if it computes a register from registers. More lines must follow, or the instruction must lead only to
--- the next one.
+-- Returns the first line of an instruction if it may be hoisted: the line computes a register from registers, and more lines follow or
+-- control passes only to the next instruction.
 abbrev pub first_line : Frame → Instruction → Option Instr
 first_line frame (plain.Move destination source) = move_first (value_register frame destination) frame source
 first_line frame (plain.Unary operator destination operand) =
@@ -109,18 +113,19 @@ first_line frame (plain.WriteByte source) = load_first frame ARGUMENT source
 first_line frame (plain.StoreGlobal global source) = operand_first frame FIRST source None
 first_line frame instruction = None
 
--- The register of the slot that an instruction computes, if the slot has one.
+-- Returns the register of the slot that an instruction computes, if the slot has one.
 abbrev pub given_register : Frame → Instruction → Option ℕ
 given_register frame (plain.Move destination source) = value_register frame destination
 given_register frame (plain.Unary operator destination operand) = value_register frame destination
 given_register frame (plain.Binary operator destination left right) = value_register frame destination
 given_register frame instruction = None
 
--- The register of the target slot, if the frame allows the place to fill delay slots.
+-- Returns the register of the slot that the target instruction computes, if the frame permits this
+-- instruction's first line to fill delay slots.
 abbrev pub own_register : Frame → (target : ℕ) → Instruction → Option ℕ
 own_register frame target instruction = if fills_at frame.fills target then given_register frame instruction else None
 
--- The register that an instruction computes from registers only.
+-- Returns the register that an instruction computes, if it reads registers only.
 abbrev pub target_of : Instr → Option ℕ
 target_of (machine.Immediate op target source half) = Some target.number
 target_of (machine.LoadUpper target half) = Some target.number
@@ -133,11 +138,12 @@ abbrev pub tests_register : Condition → (register : ℕ) → Bool
 tests_register (conditions.Registers op left right) register = left.number == register || right.number == register
 tests_register (conditions.Sign op source) register = source.number == register
 
--- A temporary register: no slot has it, and its word is not used later.
+-- Returns true if a register is temporary: no slot has it, and its word is not used later.
 abbrev pub is_spare : (register : ℕ) → Bool
 is_spare register = register == FIRST || (nat_lt ZERO register && nat_le register THIRD_RESULT)
 
--- A line may stand before the branch if it writes a temporary or the register `own`, and the branch does not test that register.
+-- Returns true if a line may be hoisted before the branch: the line writes a temporary or the register `own`, and the branch
+-- does not test this register.
 abbrev pub may_write : Condition → (own : Option ℕ) → Option ℕ → Bool
 may_write condition own None = false
 may_write condition own (Some register) =
@@ -154,7 +160,7 @@ hoisted_at frame condition target (Some instruction) =
     then None
     else copied_if condition (own_register frame target instruction) (first_line frame instruction)
 
--- The line hoisted before a branch with this test to this place.
+-- Returns the line that is hoisted before a branch with this test to this target, or `None`.
 abbrev pub hoisted : Frame → List Instruction → Test → (target : ℕ) → Option Instr
 hoisted frame code test target = hoisted_at frame (condition_of frame test) target (slice_get code target)
 
@@ -166,7 +172,8 @@ abbrev pub with_hoisted : List Instr → Option Instr → List Instr
 with_hoisted instructions None = instructions
 with_hoisted instructions (Some first) = instructions ++ first ∷ []
 
--- The line that the branch then jumps to.
+-- Returns the label to which a branch jumps: the line after the target's first one, if this first
+-- line is hoisted.
 abbrev pub after_hoisted : Option Instr → (label : ℕ) → ℕ
 after_hoisted None label = label
 after_hoisted (Some first) label = label + 1

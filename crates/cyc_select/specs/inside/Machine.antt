@@ -1,5 +1,6 @@
--- The labelled machine, the meaning of labelled code: the machine without program counter and delay slots. A line is executed as a whole,
--- and a return looks up the line with the return address. An ordinary instruction has the effect of the machine's own step.
+-- The labelled machine defines the meaning of labelled code: it is the MIPS machine without program counter and delay slots. A line is
+-- executed as a whole, and a return looks up the line whose address is the return address. An ordinary instruction has the effect of the
+-- MIPS machine's own step.
 use Rattle.std.specs.Prelude.{◌≡◌, ◌≢◌, ℕ, ◌+◌, ◌-◌, ◌*◌, ◌⊎◌, Bool, true, false, if◌then◌else◌, List, [], ◌++◌, length, replicate, Option, Some, None, slice_get, slice_set}
 use Rattle.cyc_words.specs.Ending.{Ending}
 use Rattle.cyc_isa.specs.Effect.{branch_taken, branch_zero_taken}
@@ -21,8 +22,8 @@ use Rattle.cyc_select.specs.declared.code.Condition.TheVariants as conditions
 use Rattle.cyc_select.specs.declared.code.Line.{Line}
 use Rattle.cyc_select.specs.declared.code.Line.TheVariants as lines
 
--- A running configuration: the registers, HI and LO, the words of the data range and the stack, the store, the output, the remaining input,
--- and the next line.
+-- A running configuration of the labelled machine: the registers, HI and LO, the words of the data range and the stack, the store, the
+-- output, the remaining input, and the next line.
 pub record Configuration : Type 0 where
   pub registers : List ℕ
   pub high : ℕ
@@ -34,14 +35,14 @@ pub record Configuration : Type 0 where
   pub input : List ℕ
   pub line : ℕ
 
--- A state: running, ended, or stopped by a trap or a missing line.
+-- A state of the labelled machine is running, ended, or stopped by a trap or a missing line.
 pub data State : Type 0 where
   Running : Configuration → State
   Ended : Ending → (output input : List ℕ) → State
   Stopped : (output input : List ℕ) → State
 
--- The machine without text, with the registers and memory of the labelled machine. The machine loads no word of text, because it has no
--- text, and its program counter has no meaning.
+-- Returns the core of a MIPS machine with the registers of the labelled machine. Since the MIPS machine here has no text, it loads no
+-- word of text, and its program counter has no meaning.
 abbrev pub core_of : Configuration → machines.Core
 core_of c =
     record { registers = c.registers; high = c.high; low = c.low; counter = 0; next = 4; in_slot = false }
@@ -55,7 +56,7 @@ machine_of c = record { core = core_of c; memory = memory_of c; phase = phases.R
 abbrev pub world_of : Configuration → World
 world_of c = record { machine = machine_of c; output = c.output; input = c.input }
 
--- The configuration with a machine's registers and memory, and this next line.
+-- Returns the configuration with a MIPS machine's registers and memory, and with this next line.
 abbrev pub from_world : World → ℕ → Configuration
 from_world w line =
     record {
@@ -70,18 +71,21 @@ from_world w line =
       line = line;
     }
 
--- A run that is over has ended like a program or was stopped.
+-- Returns the labelled state of a finished run: ended with the program's ending, or stopped if it
+-- has none.
 abbrev pub closed : World → Option Ending → State
 closed w (Some ending) = Ended ending w.output w.input
 closed w None = Stopped w.output w.input
 
--- The state that a world corresponds to, with this next line if it is running.
+-- Returns the labelled state of a MIPS machine's world, with this next line if the machine is
+-- running.
 abbrev pub settled : World → (line : ℕ) → Phase → State
 settled w line phases.Running = Running (from_world w line)
 settled w line phases.Waiting = Stopped w.output w.input
 settled w line (phases.Over end) = closed w (ending_of end)
 
--- An ordinary instruction: the machine that executes it may emit this event and reach this state.
+-- `Performs` says that the MIPS machine can execute an ordinary instruction and then reach this
+-- labelled state.
 abbrev pub Performs : Configuration → Instr → State → Type 0
 Performs c instruction new =
     (event : Event) × (after : machines.State) × Acts (executes (machine_of c) instruction) (machine_of c) event after
@@ -91,30 +95,31 @@ abbrev pub PerformsOrdinary : Bool → Configuration → Instr → State → Typ
 PerformsOrdinary true c instruction new = Performs c instruction new
 PerformsOrdinary false c instruction new = new ≡ Stopped c.output c.input
 
--- The word in a register.
+-- Returns the word in a register.
 abbrev pub word_in : Configuration → ℕ → ℕ
 word_in c number = register (core_of c) number
 
--- The configuration with this number of the next line.
+-- Returns the configuration with this number of the next line.
 abbrev pub at : Configuration → ℕ → Configuration
 at c line = record c { line = line }
 
--- The configuration with the address of the next line in register 31.
+-- Returns the configuration with the address of the line after the current one in register 31.
 abbrev pub linked : (ℕ → ℕ) → Configuration → Configuration
 linked addresses c = record c { registers = (with_register (core_of c) RETURN_ADDRESS (addresses (c.line + 1))).registers }
 
--- A return goes to the line after a call whose address is in register 31, and stops the run if there is none.
+-- `Returns` says that a return goes to the line after a call whose address is in register 31, and stops the
+-- run if no such line exists.
 abbrev pub Returns : Labelled → (ℕ → ℕ) → Configuration → State → Type 0
 Returns code addresses c new =
     ((line : ℕ) × IsReturnPoint code line × (addresses line ≡ word_in c RETURN_ADDRESS) × (new ≡ Running (at c line)))
     ⊎ (((line : ℕ) → IsReturnPoint code line → addresses line ≢ word_in c RETURN_ADDRESS) × (new ≡ Stopped c.output c.input))
 
--- A branch condition holds for these register values.
+-- Returns true if a branch condition holds for these register values.
 abbrev pub holds_of : (ℕ → ℕ) → Condition → Bool
 holds_of words (conditions.Registers op left right) = branch_taken op (words left.number) (words right.number)
 holds_of words (conditions.Sign op source) = branch_zero_taken op (words source.number)
 
--- The effect of executing a line.
+-- `Executes` says that executing a line may lead to the state `new`.
 abbrev pub Executes : Labelled → (ℕ → ℕ) → Configuration → Line → State → Type 0
 Executes code addresses c (lines.Ordinary instruction) new = PerformsOrdinary (is_ordinary instruction) c instruction new
 Executes code addresses c (lines.Branch condition label) new =
@@ -127,13 +132,14 @@ abbrev pub ExecutesAt : Labelled → (ℕ → ℕ) → Configuration → Option 
 ExecutesAt code addresses c (Some line) new = Executes code addresses c line new
 ExecutesAt code addresses c None new = new ≡ Stopped c.output c.input
 
--- The labelled machine may step from `old` to `new`. A run that is over stays as it is.
+-- `Step` says that the labelled machine may step from `old` to `new`. A finished run steps to its
+-- own state.
 abbrev pub Step : Labelled → (ℕ → ℕ) → State → State → Type 0
 Step code addresses (Running c) new = ExecutesAt code addresses c (slice_get code.lines c.line) new
 Step code addresses (Ended ending output input) new = new ≡ Ended ending output input
 Step code addresses (Stopped output input) new = new ≡ Stopped output input
 
--- The next line, and the observation of a state. A run that is over has no next line.
+-- Returns the number of the next line of a state, or 0 if the run is over.
 abbrev pub line_of : State → ℕ
 line_of (Running c) = c.line
 line_of (Ended ending output input) = 0
@@ -157,7 +163,7 @@ status_of (Running c) = simulation.Running
 status_of (Ended ending output input) = simulation.Ended ending
 status_of (Stopped output input) = simulation.Failed
 
--- Labelled code with lines at these addresses, as a transition system.
+-- Returns the transition system of labelled code whose lines have these addresses.
 abbrev pub machine : Labelled → (ℕ → ℕ) → simulation.Machine
 machine code addresses = record {
   State = State;
@@ -168,8 +174,8 @@ machine code addresses = record {
   status = status_of;
 }
 
--- The initial state. As on the machine, register 29 points to the end of the stack, register 4 holds the call limit, and the data range
--- begins with the globals.
+-- Returns the initial state. As on the MIPS machine, register 29 points to the end of the stack, register 4 holds the call limit, and
+-- the data range begins with the globals.
 
 abbrev pub start_in : (globals stack : List ℕ) → StoreState → (calls : ℕ) → (input : List ℕ) → State
 start_in globals stack store calls input =
@@ -185,7 +191,8 @@ start_in globals stack store calls input =
       line = 0;
     })
 
--- The words of the data range. The definition is not an `abbrev`, since unfolding it would compute a million words.
+-- Returns the words of the data range: the globals, followed by zeros. The definition is not an `abbrev`, since
+-- unfolding it would compute a million words.
 unfoldable pub globals_of : List ℕ → List ℕ
 globals_of globals = globals ++ replicate (globals_length - length globals) 0
 

@@ -1,20 +1,20 @@
--- The numbers in an instruction: 16-bit immediates, sign- or zero-extended, and shift amounts. The formats are those of the MIPS32
--- architecture, volume II.
+-- The numbers in an instruction: sign- or zero-extended 16-bit immediates, and shift amounts. The formats of these numbers are
+-- those of the MIPS32 architecture.
 use Rattle.std.specs.Prelude.{ℕ, ◌-◌, ◌%◌, ◌^◌, ◌==◌, Bool, true, false, not, ◌&&◌, ◌||◌, nat_le, nat_lt, Option, Some, None, if◌then◌else◌}
 use Rattle.std.specs.Int.Count.{count_trailing_zeros}
 use Rattle.cyc_words.specs.Word.{add_of, sub_of}
 use Rattle.cyc_plain.specs.declared.instruction.Operand.{Operand}
 use Rattle.cyc_plain.specs.declared.instruction.Operand.TheVariants as operands
 
--- A word equals its lower half sign-extended.
+-- Returns true if a word equals its sign-extended lower half.
 abbrev pub fits_signed : ℕ → Bool
 fits_signed word = nat_lt word (2 ^ 15) || nat_le (2 ^ 32 - 2 ^ 15) word
 
--- The 16-bit immediate that sign-extends to this word.
+-- Returns the 16-bit immediate that sign-extends to this word, if one exists.
 abbrev pub half_of : ℕ → Option ℕ
 half_of word = if fits_signed word then Some (word % 2 ^ 16) else None
 
--- The sign-extended immediates for an operand's word, for its negation, and for its successor.
+-- Returns the sign-extended immediate for a constant operand, if one exists.
 abbrev pub signed_half : Operand → Option ℕ
 signed_half (operands.Slot number) = None
 signed_half (operands.Word word) = half_of word
@@ -27,7 +27,7 @@ abbrev pub next_half : Operand → Option ℕ
 next_half (operands.Slot number) = None
 next_half (operands.Word word) = half_of (add_of word 1)
 
--- The zero-extended immediate for an operand's word.
+-- Returns the zero-extended immediate for a constant operand, if one exists.
 abbrev pub low_half : Operand → Option ℕ
 low_half (operands.Slot number) = None
 low_half (operands.Word word) = if nat_lt word (2 ^ 16) then Some word else None
@@ -40,17 +40,19 @@ abbrev pub is_zero_word : Operand → Bool
 is_zero_word (operands.Slot number) = false
 is_zero_word (operands.Word word) = word == 0
 
--- A divisor by which the machine can divide every word.
+-- Returns true if the divisor is a constant by which the machine can divide every word: neither 0
+-- nor -1.
 abbrev pub is_plain_divisor : Operand → Bool
 is_plain_divisor (operands.Slot number) = false
 is_plain_divisor (operands.Word word) = not (word == 0) && not (word == 2 ^ 32 - 1)
 
--- The shift amount given by a constant operand.
+-- Returns the shift amount of a constant operand: its word modulo 32.
 abbrev pub shift_amount : Operand → Option ℕ
 shift_amount (operands.Slot number) = None
 shift_amount (operands.Word word) = Some (word % 32)
 
--- The amount of the left shift that multiplies by an operand: a constant power of two.
+-- Returns the amount of the left shift that multiplies by an operand, if the operand is a constant
+-- power of two.
 abbrev pub power_of : Operand → Option ℕ
 power_of (operands.Slot number) = None
 power_of (operands.Word word) =

@@ -1,4 +1,4 @@
--- The code that loads operands into registers and computes with them, and its number of lines.
+-- The code that loads operands into registers and computes with them, and the number of its lines.
 use Rattle.std.specs.Prelude.{ℕ, zero, suc, ◌+◌, ◌%◌, ◌^◌, ◌==◌, Bool, false, not, nat_lt, if◌then◌else◌, List, [], ◌∷◌, ◌++◌, sum_by, Option, Some, None}
 use Rattle.cyc_isa.specs.Decoding.{register_of}
 use Rattle.cyc_isa.specs.declared.instr.Instr.{Instr}
@@ -31,7 +31,8 @@ use Rattle.cyc_select.specs.inside.Slots.{value_register, or_else, is_kept, load
 
 -- ---- operands
 
--- Loads a word into a register: by one instruction if one half suffices, else by both halves.
+-- A word is loaded into a register by one instruction if one half suffices, otherwise by both
+-- halves.
 abbrev pub or_immediate : (target half : ℕ) → Instr
 or_immediate target half = machine.Immediate immediate.Or (register_of target) (register_of ZERO) half
 
@@ -43,13 +44,13 @@ word_code target word =
     then or_immediate target word ∷ []
     else (if word % 2 ^ 16 == 0 then load_upper target word ∷ [] else constant target word))
 
--- Loads an operand into a register.
+-- Returns the code that loads an operand into a register.
 abbrev pub load_code : Frame → (target : ℕ) → Operand → List Instr
 load_code frame target (operands.Slot number) = load_slot frame target number ∷ []
 load_code frame target (operands.Word word) = word_code target word
 
--- Makes an operand available in a register. The word 0 and a slot with a register are in one already; any other operand is loaded into the
--- given one.
+-- Returns the code that makes an operand available in a register. The word 0 and a slot with a register need no code; any other operand is
+-- loaded into `register`.
 abbrev pub fetch_from : Option ℕ → Frame → (register slot : ℕ) → List Instr
 fetch_from None frame register slot = load register (slot_offset frame slot) ∷ []
 fetch_from (Some own) frame register slot = []
@@ -65,7 +66,7 @@ operand_register frame register (operands.Word word) = if is_zero_word (operands
 
 -- ---- computations
 
--- The operation on the words in two registers, into another one.
+-- Returns the code that applies an operation to the words in two registers and writes a third one.
 abbrev pub operation_code : Operation → (target left right : ℕ) → List Instr
 operation_code (operations.Arithmetic op) target left right = arithmetic_of op target left right ∷ []
 operation_code (operations.Immediate op half) target left right = immediate_of op target left half ∷ []
@@ -73,23 +74,23 @@ operation_code (operations.Shift op) target left right = shift_of op target left
 operation_code (operations.ShiftBy op amount) target left right = shift_by_of op target left amount ∷ []
 operation_code (operations.MultiplyDivide op from) target left right = multiply_divide_of op left right ∷ move_from_of from target ∷ []
 
--- The final step on the word in that register.
+-- Returns the code of a plan's final step on the word in the target register.
 abbrev pub outcome_code : Outcome → (target : ℕ) → List Instr
 outcome_code outcomes.AsItIs target = []
 outcome_code outcomes.WhetherZero target = is_zero target ∷ []
 outcome_code outcomes.WhetherNotZero target = arithmetic_of arithmetic.SetLessUnsigned target ZERO target ∷ []
 
--- Makes two operands available, each in a register.
+-- Returns the code that makes two operands available, each in a register.
 abbrev pub operands_code : Frame → (left right : Operand) → List Instr
 operands_code frame left right = operand_code frame FIRST left ++ operand_code frame SECOND right
 
--- The operation of a plan, without its final step, into a register.
+-- Returns the code of a plan without its final step.
 abbrev pub operation_of : Frame → (target : ℕ) → Plan → List Instr
 operation_of frame target plan =
     operands_code frame plan.left plan.right
     ++ operation_code plan.operation target (operand_register frame FIRST plan.left) (operand_register frame SECOND plan.right)
 
--- The operation of a plan and its final step.
+-- Returns the code of a plan with its final step.
 abbrev pub computed_code : Frame → (target : ℕ) → Plan → List Instr
 computed_code frame target plan = operation_of frame target plan ++ outcome_code plan.outcome target
 
@@ -97,13 +98,13 @@ abbrev pub plan_code : Frame → Plan → (destination : ℕ) → List Instr
 plan_code frame plan destination =
     computed_code frame (made_in frame destination) plan ++ keep_code frame destination
 
--- The computation of the operands that a branch tests.
+-- Returns the code that computes the operands that a branch tests.
 abbrev pub test_code : Frame → Test → List Instr
 test_code frame (tests.Operands op left right) = operands_code frame left right
 test_code frame (tests.Sign op operand) = operand_code frame FIRST operand
 test_code frame (tests.Computed plan) = operation_of frame FIRST plan
 
--- The branch taken if the outcome would be 1.
+-- Returns the branch that is taken if a plan's final step would compute 1.
 abbrev pub branch_on : Outcome → BranchOp
 branch_on outcomes.AsItIs = branch.NotEqual
 branch_on outcomes.WhetherZero = branch.Equal
@@ -118,7 +119,7 @@ condition_of frame (tests.Computed plan) =
 
 -- ---- addresses
 
--- A small offset is part of the load or store instruction. An offset that is too large is added to the address first.
+-- A load or store instruction contains a small offset. A larger offset is added to the address first.
 
 abbrev pub far_plan : (address : Operand) → (offset : ℕ) → Plan
 far_plan address offset = arithmetic_plan arithmetic.AddUnsigned address (operands.Word offset) outcomes.AsItIs
@@ -133,7 +134,7 @@ address_register frame address offset = if fits_signed offset then operand_regis
 abbrev pub near_half : (offset : ℕ) → ℕ
 near_half offset = if fits_signed offset then offset % 2 ^ 16 else 0
 
--- Loads the word of memory at this address, or stores it.
+-- Returns the instruction that loads or stores the word of memory at this address.
 abbrev pub at_address : Frame → MemoryOp → (register : ℕ) → (address : Operand) → (offset : ℕ) → Instr
 at_address frame op register address offset =
     machine.Memory op (register_of register) (register_of (address_register frame address offset)) (near_half offset)
@@ -150,7 +151,7 @@ abbrev pub load_count : Operand → ℕ
 load_count (operands.Slot number) = 1
 load_count (operands.Word word) = word_count word
 
--- The number of lines that load an operand into a register, if it is in none.
+-- Returns the number of lines that load a slot into a register: 0 if the slot has a register.
 abbrev pub fetch_count : Option ℕ → ℕ
 fetch_count None = 1
 fetch_count (Some own) = 0
@@ -159,7 +160,8 @@ abbrev pub operand_count : Frame → Operand → ℕ
 operand_count frame (operands.Slot number) = fetch_count (value_register frame number)
 operand_count frame (operands.Word word) = if is_zero_word (operands.Word word) then 0 else word_count word
 
--- The number of lines that store a slot's word in the frame, and that write a register to the slot.
+-- Returns the number of lines that store a slot's word in the frame: 0 if the slot's home is a
+-- register alone.
 abbrev pub keep_count : Frame → (slot : ℕ) → ℕ
 keep_count frame slot = if is_kept frame slot then 1 else 0
 
@@ -174,20 +176,20 @@ abbrev pub hand_count : Frame → (source slot : ℕ) → ℕ
 hand_count frame source slot =
     if is_own (value_register frame slot) source then keep_count frame slot else give_count frame slot
 
--- The number of lines that write words to the slots from `slot` on.
+-- Returns the number of lines that write registers to the `count` slots from `slot` on.
 abbrev pub gives_count : Frame → (slot count : ℕ) → ℕ
 gives_count frame slot zero = 0
 gives_count frame slot (suc count) = give_count frame slot + gives_count frame (suc slot) count
 
--- The number of lines that reload registers after a call.
+-- Returns the number of lines that reload registers after a call.
 abbrev pub reload_count : Frame → ℕ
 reload_count frame = sum_by homing.both_count frame.homes
 
--- The number of lines that load the base address for a global.
+-- Returns the number of lines that load the base address for a global: 0 if a register holds it.
 abbrev pub reach_count : (global : ℕ) → ℕ
 reach_count global = if is_near global then 0 else 1
 
--- The number of lines that copy an operand into a slot.
+-- Returns the number of lines that copy an operand to a slot.
 abbrev pub move_count_to : Option ℕ → Frame → (destination : ℕ) → Operand → ℕ
 move_count_to None frame destination source = operand_count frame source + 1
 move_count_to (Some register) frame destination source = load_count source + keep_count frame destination
@@ -195,7 +197,7 @@ move_count_to (Some register) frame destination source = load_count source + kee
 abbrev pub move_count : Frame → (destination : ℕ) → Operand → ℕ
 move_count frame destination source = move_count_to (value_register frame destination) frame destination source
 
--- The number of lines that copy words into slots, one by one.
+-- Returns the number of lines that copy words to slots one by one.
 abbrev pub moves_count : Frame → (destination source count : ℕ) → ℕ
 moves_count frame destination source zero = 0
 moves_count frame destination source (suc count) =
@@ -213,7 +215,7 @@ outcome_count outcomes.AsItIs = 0
 outcome_count outcomes.WhetherZero = 1
 outcome_count outcomes.WhetherNotZero = 1
 
--- The number of lines of a plan, without and with its final step.
+-- Returns the number of lines of a plan without its final step.
 abbrev pub count_of_operation : Frame → Plan → ℕ
 count_of_operation frame plan =
     operand_count frame plan.left + operand_count frame plan.right + operation_count plan.operation
@@ -227,7 +229,8 @@ test_count frame (tests.Operands op left right) = operand_count frame left + ope
 test_count frame (tests.Sign op operand) = operand_count frame operand
 test_count frame (tests.Computed plan) = count_of_operation frame plan
 
--- A division whose divisor may be -1, which needs a test.
+-- Returns true if an operator is a division whose divisor may be 0 or -1, so that its code tests
+-- the divisor.
 abbrev pub is_tested : BinaryOperator → (divisor : Operand) → Bool
 is_tested binary.Divide divisor = not (is_plain_divisor divisor)
 is_tested binary.Remainder divisor = not (is_plain_divisor divisor)

@@ -1,4 +1,5 @@
--- The code that passes arguments from the caller's slots to those of the callee, and its number of lines.
+-- The code that passes arguments from the caller's slots to those of the callee, and the number of its
+-- lines.
 use Rattle.std.specs.Prelude.{ℕ, zero, suc, ◌+◌, ◌*◌, ◌==◌, ◌||◌, Bool, false, if◌then◌else◌, List, [], ◌∷◌, ◌++◌, Option, Some, None}
 use Rattle.cyc_plain.specs.declared.limits.TheConstants.{MOST_FRAME_WORDS}
 use Rattle.cyc_isa.specs.declared.instr.Instr.{Instr}
@@ -7,13 +8,13 @@ use Rattle.cyc_select.specs.inside.Instructions.{load, slot_offset, store_slot}
 use Rattle.cyc_select.specs.inside.Slots.{value_register, is_kept, made_in, keep_code, hand_code}
 use Rattle.cyc_select.specs.inside.Operands.{keep_count, hand_count}
 
--- The register passes one of the parameters before `slot`.
+-- Returns true if one of the parameters before `slot` is passed in this register.
 abbrev pub is_taken : (callee : Frame) → (slot register : ℕ) → Bool
 is_taken callee zero register = false
 is_taken callee (suc slot) register = is_taken callee slot register || made_in callee slot == register
 
--- The register from which an argument is passed: its own, unless an earlier parameter is passed in that register. None if the argument is
--- passed from memory.
+-- Returns the register from which an argument is passed: its slot's own, unless an earlier parameter is passed in it. Returns `None` if
+-- the argument is passed from memory.
 abbrev pub free_register : Option ℕ → (callee : Frame) → (slot : ℕ) → Option ℕ
 free_register None callee slot = None
 free_register (Some register) callee slot = if is_taken callee slot register then None else Some register
@@ -21,7 +22,8 @@ free_register (Some register) callee slot = if is_taken callee slot register the
 abbrev pub passed_from : (caller callee : Frame) → (source slot : ℕ) → Option ℕ
 passed_from caller callee source slot = free_register (value_register caller source) callee slot
 
--- Stores a slot that is in a register only to its word in memory, if it is passed from there.
+-- Returns the code that stores the word of a slot whose home is a register alone, if the argument
+-- is passed from memory.
 abbrev pub spill_from : Option ℕ → (caller : Frame) → (source : ℕ) → List Instr
 spill_from None caller source = if is_kept caller source then [] else store_slot caller (made_in caller source) source ∷ []
 spill_from (Some register) caller source = []
@@ -46,8 +48,8 @@ spills_count caller callee source slot zero = 0
 spills_count caller callee source slot (suc count) =
     spill_count caller callee source slot + spills_count caller callee (suc source) (suc slot) count
 
--- Moves arguments from the caller's slots to the callee's first slots, after the switch to the callee's frame. An argument passed from
--- memory is loaded into the callee's register for it.
+-- Returns the code that passes an argument from the caller's slot to the callee's, after the switch to the callee's frame. An argument
+-- passed from memory is loaded into the callee's register for it.
 abbrev pub pass_from : Option ℕ → (caller callee : Frame) → (source slot : ℕ) → List Instr
 pass_from None caller callee source slot =
     load (made_in callee slot) (4 * MOST_FRAME_WORDS + slot_offset caller source) ∷ keep_code callee slot

@@ -1,5 +1,5 @@
 -- Plans: the machine operation and operands that compute an operator or a comparison. The plans are this project's own choice;
--- `proofs/Plans` proves them correct.
+-- `proofs/Plans` proves that the plans compute these operators and comparisons.
 use Rattle.std.specs.Prelude.{ℕ, Bool, true, false, Option, Some, None, if◌then◌else◌}
 use Rattle.cyc_isa.specs.declared.instr.ImmediateOp.{ImmediateOp}
 use Rattle.cyc_isa.specs.declared.instr.ImmediateOp.TheVariants as immediate
@@ -34,12 +34,13 @@ abbrev pub arithmetic_plan : ArithmeticOp → (left right : Operand) → Outcome
 arithmetic_plan op left right outcome =
     record { operation = operations.Arithmetic op; left = left; right = right; outcome = outcome }
 
--- A plan whose instruction has an immediate operand. The right operand of such a plan is the word 0, which needs no line.
+-- Returns a plan whose instruction has an immediate operand. The right operand of this plan is the word 0, which needs no
+-- line.
 abbrev pub immediate_plan : ImmediateOp → Operand → (half : ℕ) → Outcome → Plan
 immediate_plan op left half outcome =
     record { operation = operations.Immediate op half; left = left; right = operands.Word 0; outcome = outcome }
 
--- A plan with an immediate, if there is one, else another plan.
+-- Returns a plan with the immediate, if one is given, otherwise the plan `other`.
 abbrev pub immediate_or : Option ℕ → ImmediateOp → Operand → Outcome → Plan → Plan
 immediate_or (Some half) op left outcome other = immediate_plan op left half outcome
 immediate_or None op left outcome other = other
@@ -61,7 +62,8 @@ abbrev pub multiply_divide_plan : MultiplyDivideOp → MoveFromOp → (left righ
 multiply_divide_plan op from left right =
     record { operation = operations.MultiplyDivide op from; left = left; right = right; outcome = outcomes.AsItIs }
 
--- The plan of a product: a shift if one factor is a power of two.
+-- Returns the plan of a product: a shift if one factor is a power of two, otherwise a
+-- multiplication.
 abbrev pub product_or : Option ℕ → (left right : Operand) → Plan
 product_or (Some amount) left right = shift_by (Some amount) shift.Left left right
 product_or None left right = multiply_divide_plan Multiply Low left right
@@ -71,7 +73,8 @@ product_plan left right = product_or (power_of right) left right
 
 -- ---- comparisons
 
--- The comparison that holds for the exchanged operands exactly if the given one holds.
+-- Returns the comparison that holds for the exchanged operands exactly if this one holds for the
+-- operands in order.
 abbrev pub mirrored : Comparison → Comparison
 mirrored comparisons.Less = comparisons.Greater
 mirrored comparisons.LessOrEqual = comparisons.GreaterOrEqual
@@ -79,14 +82,15 @@ mirrored comparisons.Greater = comparisons.Less
 mirrored comparisons.GreaterOrEqual = comparisons.LessOrEqual
 mirrored comparison = comparison
 
--- The plan of the test that a word is 0, or is not.
+-- Returns the plan that tests that a word is 0, or that it is not 0 if `holds` is false.
 abbrev pub zero_plan : Operand → (holds : Bool) → Plan
 zero_plan operand holds =
     if holds
     then immediate_plan immediate.SetLessUnsigned operand 1 outcomes.AsItIs
     else arithmetic_plan arithmetic.SetLessUnsigned (operands.Word 0) operand outcomes.AsItIs
 
--- The plan of the test that two words are equal, or differ: their difference is 0, or is not.
+-- Returns the plan that tests two words for equality or difference: it tests their difference for
+-- 0.
 abbrev pub differs_plan : (left right : Operand) → Outcome → Plan
 differs_plan left right outcome =
     immediate_or (negated_half right) immediate.AddUnsigned left outcome
@@ -98,7 +102,8 @@ equal_plan left right holds =
     then zero_plan left holds
     else differs_plan left right (if holds then outcomes.WhetherZero else outcomes.WhetherNotZero)
 
--- The plan of the test that the left word is less than the right one, or is not.
+-- Returns the plan that tests that the left word is less than the right one, or that it is not
+-- less.
 abbrev pub less_plan : (left right : Operand) → Outcome → Plan
 less_plan left right outcome =
     immediate_or (signed_half right) immediate.SetLess left outcome
@@ -109,7 +114,8 @@ less_unsigned_plan left right outcome =
     immediate_or (signed_half right) immediate.SetLessUnsigned left outcome
     (arithmetic_plan arithmetic.SetLessUnsigned left right outcome)
 
--- The plan of the test that the left word is at most the right one: it is less than its successor.
+-- Returns the plan that tests that the left word is at most the right one: it is less than the
+-- right word's successor.
 abbrev pub at_most_plan : (left right : Operand) → (holds : Bool) → Plan
 at_most_plan left right holds =
     immediate_or (next_half right) immediate.SetLess left (if holds then outcomes.AsItIs else outcomes.WhetherZero)
@@ -125,13 +131,14 @@ compared_plan comparisons.GreaterOrEqual left right = less_plan left right outco
 compared_plan comparisons.LessUnsigned left right = less_unsigned_plan left right outcomes.AsItIs
 compared_plan comparisons.GreaterOrEqualUnsigned left right = less_unsigned_plan left right outcomes.WhetherZero
 
--- The operands should be exchanged: the left one is a constant, and the comparison can be mirrored.
+-- Returns true if the operands of a comparison should be exchanged: the left one is a constant, and
+-- the comparison can be mirrored.
 abbrev pub is_mirrored : Comparison → Operand → Bool
 is_mirrored comparisons.LessUnsigned left = false
 is_mirrored comparisons.GreaterOrEqualUnsigned left = false
 is_mirrored comparison left = is_word left
 
--- The plan of a comparison's truth value: 1 or 0.
+-- Returns the plan of a comparison's truth value, 1 or 0.
 abbrev pub comparison_plan : Comparison → (left right : Operand) → Plan
 comparison_plan comparison left right =
     if is_mirrored comparison left
@@ -156,12 +163,13 @@ difference_plan left right =
     immediate_or (negated_half right) immediate.AddUnsigned left outcomes.AsItIs
     (arithmetic_plan arithmetic.SubtractUnsigned left right outcomes.AsItIs)
 
--- The plan of a bitwise operation, on two registers or on a register and an immediate.
+-- Returns the plan of a bitwise operation, on two registers or on a register and an immediate.
 abbrev pub bits_plan : ArithmeticOp → ImmediateOp → (left right : Operand) → Plan
 bits_plan op number_op left right =
     immediate_or (low_half right) number_op left outcomes.AsItIs (arithmetic_plan op left right outcomes.AsItIs)
 
--- The plan of a division assumes a divisor by which the machine can divide every word.
+-- Returns the plan of an operator. For a division, the machine must be able to divide every word by
+-- the divisor.
 abbrev pub operator_plan : BinaryOperator → (left right : Operand) → Plan
 operator_plan binary.Add left right = sum_plan left right
 operator_plan binary.Subtract left right = difference_plan left right
@@ -180,7 +188,8 @@ operator_plan binary.LessOrEqual left right = comparison_plan comparisons.LessOr
 operator_plan binary.Greater left right = comparison_plan comparisons.Greater left right
 operator_plan binary.GreaterOrEqual left right = comparison_plan comparisons.GreaterOrEqual left right
 
--- The operands should be exchanged: the left one is a constant, and the operator commutes.
+-- Returns true if the operands of an operator should be exchanged: the left one is a constant, and
+-- the operator commutes.
 abbrev pub is_swapped : BinaryOperator → Operand → Bool
 is_swapped binary.Add left = is_word left
 is_swapped binary.Multiply left = is_word left
@@ -189,14 +198,14 @@ is_swapped binary.Or left = is_word left
 is_swapped binary.Xor left = is_word left
 is_swapped operator left = false
 
--- The plan of an operator on two operands.
+-- Returns the plan of an operator on two operands.
 abbrev pub binary_plan : BinaryOperator → (left right : Operand) → Plan
 binary_plan operator left right =
     if is_swapped operator left then operator_plan operator right left else operator_plan operator left right
 
 -- ---- tests of branches
 
--- The branch on a sign that performs a comparison with 0, if there is one.
+-- Returns the branch on a word's sign that performs a comparison with 0, if there is one.
 abbrev pub sign_of : Comparison → Option BranchZeroOp
 sign_of comparisons.Less = Some signs.Less
 sign_of comparisons.LessOrEqual = Some signs.LessOrEqual
@@ -204,7 +213,8 @@ sign_of comparisons.Greater = Some signs.Greater
 sign_of comparisons.GreaterOrEqual = Some signs.GreaterOrEqual
 sign_of comparison = None
 
--- A test of order; a comparison with 0 tests the sign.
+-- Returns a test of the operand's sign if a branch on the sign performs the comparison, otherwise
+-- the test `other`.
 abbrev pub sign_or : Option BranchZeroOp → Operand → Test → Test
 sign_or (Some op) operand other = tests.Sign op operand
 sign_or None operand other = other
@@ -217,7 +227,7 @@ order_test comparison left right =
     then sign_or (sign_of (mirrored comparison)) right (tests.Computed (comparison_plan comparison left right))
     else tests.Computed (comparison_plan comparison left right))
 
--- The test that a branch on a comparison performs.
+-- Returns the test that a branch on a comparison performs.
 abbrev pub test_of : Comparison → (left right : Operand) → Test
 test_of comparisons.Equal left right = tests.Operands branch.Equal left right
 test_of comparisons.NotEqual left right = tests.Operands branch.NotEqual left right

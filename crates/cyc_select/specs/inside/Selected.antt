@@ -1,4 +1,4 @@
--- The relation between labelled code and the plain program that it implements.
+-- The relation between labelled code and the plain program that this code implements.
 use Rattle.std.specs.Prelude.{◌≡◌, ℕ, ◌+◌, ◌<◌, ◌≤◌, List, ◌++◌, length, sum_by, slice_index_or}
 use Rattle.std.specs.List.{AllByRecursion, range_with_len, flat_map}
 use Rattle.cyc_store.specs.State.{StoreState, IsNew}
@@ -13,12 +13,12 @@ use Rattle.cyc_select.specs.declared.code.Line.TheVariants as lines
 use Rattle.cyc_select.specs.inside.Labelled.{Labelled, IsFormed, AreAddresses, words_of, all_words}
 use Rattle.cyc_select.specs.inside.Machine as labelled
 
--- The most words that the line of this number takes.
+-- Returns the most words that the line with this number takes.
 abbrev pub words_at : Labelled → ℕ → ℕ
 words_at code number = words_of (slice_index_or code.lines number lines.Return)
 
--- Each line belongs to the start or to one place of the plain program. A run of the code follows a run of the program and visits the lines
--- of a place once for each step from it. (An idle place may have no lines.)
+-- Each line belongs to the start code or to one instruction of the plain program. A run of the code follows a run of the program and
+-- visits the lines of an instruction once for each of its steps. (An idle instruction may have no lines.)
 pub record IsCodeOf (program : Program) (code : Labelled) : Type 0 where
   pub formed : IsFormed code
   pub before : List ℕ
@@ -30,7 +30,7 @@ pub record IsCodeOf (program : Program) (code : Labelled) : Type 0 where
       (range_with_len 0 (length (routine_at program function).code))
       ≤ size (routine_at program function)
   pub few_words : all_words code.lines ≤ MAX_START_WORDS + sum_by size program.functions
-  -- The address of the slots of `main`.
+  -- `base` is the address of the slots of `main`.
   pub base : ℕ
   pub placed : IsBelow program program.main base slots_end
   pub follows : (pages calls : ℕ) → AreAllowed pages calls → (store : StoreState) → IsNew pages store → (input : List ℕ) → AllByRecursion (λ b. b < 256) input

@@ -1,7 +1,7 @@
--- The code of a plain program, as a function. The selected code is this project's own choice; its meaning is stated and proved separately
--- (`Selected`).
+-- The code selected for a plain program, as a function. The choice of this code is this project's own; its meaning is stated and proved
+-- separately (`Selected`).
 --
--- Frames grow downward from the end of the stack. The return address of the call that starts the program is 0. The module `constants`
+-- Stack frames grow downward from the end of the stack. The call that starts the program has return address 0. The module `constants`
 -- assigns the registers.
 use Rattle.std.specs.Prelude.{ℕ, zero, suc, ◌+◌, ◌==◌, Bool, true, false, if◌then◌else◌, List, [], ◌∷◌, ◌++◌, map, Option, Some, None}
 use Rattle.cyc_registers.specs.inside.Bars.{is_crossing}
@@ -48,22 +48,23 @@ use Rattle.cyc_select.specs.inside.Counts.{count_of, function_count, function_li
 abbrev pub ordinary : List Instr → List Line
 ordinary instructions = map lines.Ordinary instructions
 
--- Loads dividend and divisor into registers, and -1 into a third.
+-- Returns the code that loads the dividend and the divisor into registers, and -1 into a third one.
 abbrev pub divided_code : Frame → (left right : Operand) → List Instr
 divided_code frame left right = operands_code frame left right ++ add_immediate THIRD ZERO (minus 1) ∷ []
 
--- The instruction that computes the quotient and the remainder by -1: the product of the dividend and -1, and that of 0 and 0.
+-- Returns the instruction that computes a quotient or a remainder by -1: the product of the dividend and -1, or that of 0 and
+-- 0.
 abbrev pub product_code : MoveFromOp → (left : ℕ) → Instr
 product_code High left = multiply_divide_of Multiply ZERO ZERO
 product_code Low left = multiply_divide_of Multiply left THIRD
 
--- Divides, and reads the quotient or the remainder.
+-- Returns the code that divides and moves the quotient or the remainder to the destination.
 abbrev pub quotient_code : Frame → MoveFromOp → (destination left right : ℕ) → List Instr
 quotient_code frame which destination left right =
     multiply_divide_of Divide left right ∷ move_from_of which (made_in frame destination) ∷ keep_code frame destination
 
--- The code of a division. For the divisor -1 it multiplies instead, since the machine cannot divide the least number by -1. The product is
--- read from the place of the quotient.
+-- Returns the code of a division. For the divisor -1 the code multiplies instead, since the machine cannot divide the least number by -1.
+-- The product's result is in the same register (HI or LO) as that of the division.
 abbrev pub divide_code : Frame → (here : ℕ) → MoveFromOp → (destination : ℕ) → (left right : Operand) → List Line
 divide_code frame here which destination left right =
     ordinary (divided_code frame left right)
@@ -72,7 +73,7 @@ divide_code frame here which destination left right =
     ∷ lines.Jump (here + (operand_count frame left + operand_count frame right) + 5)
     ∷ ordinary (quotient_code frame which destination (operand_register frame FIRST left) (operand_register frame SECOND right))
 
--- The result register of a division: quotient or remainder.
+-- Returns the register that holds the result of a division: HI for a remainder, LO for a quotient.
 abbrev pub part_of : BinaryOperator → MoveFromOp
 part_of binary.Remainder = High
 part_of operator = Low
@@ -85,7 +86,7 @@ operator_code frame here operator destination left right =
 
 -- ---- lines of instructions
 
--- Copies an operand into a slot.
+-- Returns the code that copies an operand to a slot.
 abbrev pub move_to : Option ℕ → Frame → (destination : ℕ) → Operand → List Instr
 move_to None frame destination source =
     operand_code frame FIRST source ++ store_slot frame (operand_register frame FIRST source) destination ∷ []
@@ -95,17 +96,18 @@ abbrev pub move_code : Frame → (destination : ℕ) → Operand → List Line
 move_code frame destination source =
     ordinary (move_to (value_register frame destination) frame destination source)
 
--- Branches if a test holds, with the hoisted line before it.
+-- Returns the code of a branch that is taken if a test holds, with the hoisted line, if any, before
+-- the branch.
 abbrev pub branch_code : Frame → Test → (first : Option Instr) → (label : ℕ) → List Line
 branch_code frame test first label =
     ordinary (with_hoisted (test_code frame test) first)
     ++ lines.Branch (condition_of frame test) (after_hoisted first label) ∷ []
 
--- Prints an operand's low byte.
+-- Returns the code that prints an operand's low byte.
 abbrev pub write_code : Frame → Operand → List Line
 write_code frame source = ordinary (load_code frame ARGUMENT source ++ small SERVICE PUT_BYTE ∷ syscall ∷ [])
 
--- Loads a global into a slot, or stores an operand in a global.
+-- Returns the code that loads a global into a slot.
 abbrev pub load_global : Frame → (destination global : ℕ) → List Line
 load_global frame destination global =
     ordinary (global_code LoadWord (made_in frame destination) global ++ keep_code frame destination)
@@ -114,20 +116,21 @@ abbrev pub store_global : Frame → (global : ℕ) → Operand → List Line
 store_global frame global source =
     ordinary (operand_code frame FIRST source ++ global_code StoreWord (operand_register frame FIRST source) global)
 
--- Copies words from slots to slots, one by one.
+-- Returns the code that copies words from slots to slots, one by one.
 abbrev pub moves : Frame → (destination source count : ℕ) → List Instr
 moves frame destination source zero = []
 moves frame destination source (suc count) =
     move_to (value_register frame destination) frame destination (operands.Slot source)
     ++ moves frame (suc destination) (suc source) count
 
--- Copies words from slots to slots, loading all words before the first is written.
+-- Returns the code that copies words from slots to slots, loading all words before it writes the
+-- first.
 abbrev pub all_moved : Frame → (destination source count : ℕ) → List Instr
 all_moved frame destination source count =
     load_words frame source (result_registers count) ++ store_all frame destination (result_registers count)
 
--- Copies several words: all at once if copying one by one would overwrite a source. If they are copied at once, the slots have no
--- registers.
+-- Returns the code that copies several words: all at once if copying one by one would overwrite a source. Slots whose words are
+-- copied all at once have no registers.
 abbrev pub moved_code : Frame → (destination source count : ℕ) → List Instr
 moved_code frame destination source count =
     if is_crossing destination source count
@@ -137,14 +140,14 @@ moved_code frame destination source count =
 abbrev pub move_words : Frame → (destination source count : ℕ) → List Line
 move_words frame destination source count = ordinary (moved_code frame destination source count)
 
--- Writes the address of a slot's word to a slot.
+-- Returns the code that writes the address of a slot's word to another slot.
 abbrev pub address_of : Frame → (destination slot : ℕ) → List Line
 address_of frame destination slot =
     ordinary (
     add_immediate (made_in frame destination) FRAME (slot_offset frame slot)
     ∷ keep_code frame destination)
 
--- Loads a word or a byte of memory into a slot, or stores an operand.
+-- Returns the code that loads a word or a byte of memory into a slot.
 abbrev pub load_at : Frame → MemoryOp → (destination : ℕ) → (address : Operand) → (offset : ℕ) → List Line
 load_at frame op destination address offset =
     ordinary (
@@ -158,12 +161,12 @@ store_at frame op address offset source =
     address_code frame address offset
     ++ (operand_code frame SECOND source ++ at_address frame op (operand_register frame SECOND source) address offset ∷ []))
 
--- Loads an optional argument into a register.
+-- Returns the code that loads an argument, if there is one, into a register.
 abbrev pub argument_code : Frame → (register : ℕ) → Option Operand → List Instr
 argument_code frame register None = []
 argument_code frame register (Some operand) = load_code frame register operand
 
--- The number of the service that serves a request.
+-- Returns the number of the machine service that serves a request.
 abbrev pub service_number : Request → ℕ
 service_number (requests.OpenLexical destination) = OPEN_LEXICAL
 service_number (requests.CloseTo mark) = CLOSE_LEXICAL
@@ -172,11 +175,12 @@ service_number (requests.CloseDynamic handle) = CLOSE_DYNAMIC
 service_number (requests.Allocate destination handle words) = ALLOCATE
 service_number (requests.Free address) = FREE
 
--- Moves the result of a request from the result registers to slots.
+-- Returns the code that moves the result of a request from the result registers to slots.
 abbrev pub answer_code : Frame → Request → List Instr
 answer_code frame request = bring_all false frame (destination_of request) (result_registers (answer_count request))
 
--- Updates the register that counts the open lexical regions: one more than before on opening, and the mark after closing.
+-- Returns the code that updates the register with the number of open lexical regions: opening adds 1, and closing sets it
+-- to the request's operand.
 abbrev pub regions_code : Request → List Instr
 regions_code (requests.OpenLexical destination) = add_immediate REGIONS SECOND_ANSWER 1 ∷ []
 regions_code (requests.CloseTo mark) = add_immediate REGIONS ARGUMENT 0 ∷ []
@@ -185,7 +189,7 @@ regions_code (requests.CloseDynamic handle) = []
 regions_code (requests.Allocate destination handle words) = []
 regions_code (requests.Free address) = []
 
--- The code of a request to the store.
+-- Returns the code of a request to the store.
 abbrev pub ask_code : Frame → Request → List Line
 ask_code frame request =
     ordinary (
@@ -193,28 +197,30 @@ ask_code frame request =
     ++ (argument_code frame SECOND_ARGUMENT (second_operand request)
     ++ small SERVICE (service_number request) ∷ syscall ∷ (regions_code request ++ answer_code frame request)))
 
--- Ends the run with an uncaught exception.
+-- Returns the code that ends the run with an uncaught exception.
 abbrev pub uncaught_code : Frame → (tag : ℕ) → Operand → List Line
 uncaught_code frame tag value =
     ordinary (
     word_code ARGUMENT tag ++ (load_code frame SECOND_ARGUMENT value ++ small SERVICE END_UNCAUGHT ∷ syscall ∷ []))
 
--- Ends the run if no further call is allowed.
+-- Returns the code that ends the run if no further call is allowed.
 abbrev pub room_code : (here : ℕ) → List Line
 room_code here =
     lines.Branch (conditions.Registers branch.NotEqual (register_of FRAME) (register_of LOWEST)) (here + 3) ∷ []
     ++ ordinary (small SERVICE END_FULL ∷ syscall ∷ [])
 
--- Calls the function whose first line has this label. If there is room, the callee's frame becomes the current one.
+-- Returns the code that calls the function whose first line has this label. If the stack has space for another
+-- frame, the callee's frame becomes the current one.
 abbrev pub calling_code : (caller callee : Frame) → (here label arguments count : ℕ) → List Line
 calling_code caller callee here label arguments count =
     room_code here ++ ordinary (push_frame ∷ copies caller callee arguments 0 count) ++ lines.Call label ∷ []
 
--- After a call of a function with `results` result words, moves them to the caller's slots.
+-- Returns the code after a call of a function with `results` result words, which moves the results
+-- to the caller's slots and reloads registers.
 abbrev pub returned_code : Frame → (result results : ℕ) → List Line
 returned_code frame result results = ordinary (bring_all true frame result (result_registers results) ++ reloads frame)
 
--- Ends the run if this is the return of the first call of `main`.
+-- Returns the code that ends the run if this return is that of the first call of `main`.
 abbrev pub ending_code : Bool → Frame → (here value : ℕ) → List Line
 ending_code is_main frame here value =
     if is_main
@@ -222,7 +228,8 @@ ending_code is_main frame here value =
     ++ ordinary (load_slot frame ARGUMENT value ∷ small SERVICE END_RETURNED ∷ syscall ∷ [])
     else []
 
--- Returns from a function with `results` result words, which may be the first call of `main`.
+-- Returns the code that returns from a function with `results` result words. The return of the
+-- first call of `main` ends the run.
 abbrev pub returning_code : (is_main : Bool) → Frame → (here value results : ℕ) → List Line
 returning_code is_main frame here value results =
     ordinary (restoring_code frame)
@@ -230,14 +237,15 @@ returning_code is_main frame here value results =
     ++ ordinary (load_all frame value (result_registers results) ++ (restores frame ++ pop_frame ∷ []))
     ++ lines.Return ∷ [])
 
--- Fills a handler's record: the previous handler, the frame, and the line after the recording call.
+-- Returns the code that fills a handler's record: the previous handler, the frame, and the line
+-- after the recording call.
 abbrev pub recorded_code : Frame → (first : ℕ) → List Instr
 recorded_code frame first =
     store_slot frame HANDLERS first
     ∷ store_slot frame FRAME (first + 1)
     ∷ []
 
--- Stores the exception's tag and value when it reaches the handler.
+-- Returns the code that stores an exception's tag and value when the exception reaches the handler.
 abbrev pub caught_code : Frame → (first : ℕ) → List Instr
 caught_code frame first =
     store_slot frame ARGUMENT first
@@ -257,11 +265,12 @@ try_code frame here first label =
     ∷ ordinary (caught_code frame first)
     ++ (lines.Jump label ∷ ordinary (opened_code frame first)))
 
--- Loads a word of the newest handler's record.
+-- Returns the instruction that loads a word of the newest handler's record.
 abbrev pub load_record : (target offset : ℕ) → Instr
 load_record target offset = machine.Memory LoadWord (register_of target) (register_of HANDLERS) offset
 
--- Passes an exception to the newest handler, or ends the run.
+-- Returns the code that passes an exception to the newest handler: it loads the handler's address,
+-- its frame and the previous handler.
 abbrev pub unwound_code : List Instr
 unwound_code =
     load_record RETURN_ADDRESS 8 ∷ load_record FRAME 4 ∷ load_record HANDLERS 0 ∷ []
@@ -273,7 +282,7 @@ throw_code frame here tag value =
     ∷ ordinary (small SERVICE END_UNCAUGHT ∷ syscall ∷ [])
     ++ (ordinary unwound_code ++ lines.Return ∷ []))
 
--- The lines of an instruction, if the first has number `here`.
+-- Returns the lines of an instruction, if the first of them has number `here`.
 abbrev pub body : Program → List Frame → (function here : ℕ) → Instruction → List Line
 body program frames function here (plain.Move destination source) =
     move_code (frame_at frames function) destination source
@@ -324,13 +333,14 @@ body program frames function here (plain.Finish value) =
 body program frames function here (plain.Uncaught tag value) = uncaught_code (frame_at frames function) tag value
 body program frames function here (plain.Enter callee) = room_code here
 
--- The lines that follow a call, executed after it returns.
+-- Returns the lines that follow a call and are executed after it returns.
 abbrev pub following : Program → List Frame → (function : ℕ) → Instruction → List Line
 following program frames function (plain.Call callee arguments count result) =
     returned_code (frame_at frames function) result (routine_at program callee).results
 following program frames function instruction = []
 
--- The lines of the instruction at `index`, if the first has number `here`.
+-- Returns the lines of the instruction at `index`, if the first of them has number `here`; an idle
+-- instruction has none.
 abbrev pub place_lines : Program → List Frame → (function index here : ℕ) → Instruction → List Line
 place_lines program frames function index here instruction =
     if is_idle (frame_at frames function) index instruction then [] else body program frames function here instruction
@@ -352,8 +362,8 @@ function_lines program frames function here (r ∷ routines) =
     routine_lines program frames function here r
     ++ function_lines program frames (suc function) (here + function_count program frames function r) routines
 
--- Loads the base register of the globals and calls `main`, whose first line has this label. The frame of `main` lies below the end of the
--- stack, which has room for the frames of all allowed calls.
+-- Returns the start code, which loads the base register of the globals and calls `main` at this label. The frame of `main` lies below the
+-- end of the stack; the stack has space for the frames of all allowed calls.
 abbrev pub start_code : (label : ℕ) → List Line
 start_code label =
     ordinary (

@@ -1,4 +1,5 @@
--- The code that reads and writes slots and globals, and that saves registers at a function's entry.
+-- The code that reads and writes slots and globals, and the code that saves registers at a
+-- function's entry.
 use Rattle.std.specs.Prelude.{ℕ, zero, suc, ◌+◌, ◌*◌, ◌/◌, ◌%◌, ◌^◌, ◌==◌, ◌&&◌, Bool, false, nat_lt, if◌then◌else◌, List, [], ◌∷◌, ◌++◌, map, sum_by, take, Option, Some, None}
 use Rattle.cyc_plain.specs.declared.limits.TheConstants.{MOST_FRAME_WORDS}
 use Rattle.cyc_isa.specs.Decoding.{register_of}
@@ -17,7 +18,7 @@ use Rattle.cyc_select.specs.inside.Instructions.{load, store, slot_offset, store
 
 -- ---- slots and registers
 
--- The register of a slot, and a temporary if it has none.
+-- Returns the register of a slot, or `None` if the slot's home is memory alone.
 abbrev pub value_register : Frame → (slot : ℕ) → Option ℕ
 value_register frame slot = homing.register_of (homing.home_of frame.homes slot)
 
@@ -25,11 +26,12 @@ abbrev pub or_else : Option ℕ → ℕ → ℕ
 or_else None other = other
 or_else (Some register) other = register
 
--- The slot's word in the frame holds its value.
+-- Returns true if a slot's value is also in its word of the frame, so that its home includes
+-- memory.
 abbrev pub is_kept : Frame → (slot : ℕ) → Bool
 is_kept frame slot = homing.is_kept (homing.home_of frame.homes slot)
 
--- Loads a slot's word into a register.
+-- Returns the instruction that loads a slot's word into a register.
 abbrev pub load_from : Option ℕ → Frame → (target slot : ℕ) → Instr
 load_from None frame target slot = load target (slot_offset frame slot)
 load_from (Some register) frame target slot = copy target register
@@ -37,14 +39,15 @@ load_from (Some register) frame target slot = copy target register
 abbrev pub load_slot : Frame → (target slot : ℕ) → Instr
 load_slot frame target slot = load_from (value_register frame slot) frame target slot
 
--- The register in which a slot's word is computed, and the store from there into the frame.
+-- Returns the register in which a slot's word is computed: the slot's own, or else the first
+-- temporary.
 abbrev pub made_in : Frame → (slot : ℕ) → ℕ
 made_in frame slot = or_else (value_register frame slot) FIRST
 
 abbrev pub keep_code : Frame → (slot : ℕ) → List Instr
 keep_code frame slot = if is_kept frame slot then store_slot frame (made_in frame slot) slot ∷ [] else []
 
--- Writes a register to a slot.
+-- Returns the code that writes a register to a slot.
 abbrev pub give_to : Option ℕ → Frame → (source slot : ℕ) → List Instr
 give_to None frame source slot = store_slot frame source slot ∷ []
 give_to (Some register) frame source slot = copy register source ∷ keep_code frame slot
@@ -52,28 +55,29 @@ give_to (Some register) frame source slot = copy register source ∷ keep_code f
 abbrev pub give_code : Frame → (source slot : ℕ) → List Instr
 give_code frame source slot = give_to (value_register frame slot) frame source slot
 
--- The home of the slot is this register.
+-- Returns true if the slot's own register is this one.
 abbrev pub is_own : Option ℕ → (register : ℕ) → Bool
 is_own None register = false
 is_own (Some own) register = own == register
 
--- Writes a register to a slot; no move is needed if it is the slot's own register.
+-- Returns the code that writes a register to a slot. If it is the slot's own register, no copy is
+-- needed.
 abbrev pub hand_code : Frame → (source slot : ℕ) → List Instr
 hand_code frame source slot =
     if is_own (value_register frame slot) source then keep_code frame slot else give_code frame source slot
 
--- Writes a register to a slot as `give_code` does. If registers are reloaded afterwards (`again`), a slot with a register and memory is
--- written in memory only.
+-- Returns the code that writes a register to a slot, as `give_code` does. If registers are reloaded afterwards (`again`), a slot with a
+-- register and memory is written in memory only.
 abbrev pub bring_code : (again : Bool) → Frame → (source slot : ℕ) → List Instr
 bring_code again frame source slot =
     if again && is_kept frame slot then store_slot frame source slot ∷ [] else give_code frame source slot
 
--- Writes registers to the slots from `slot` on.
+-- Returns the code that writes registers to the slots from `slot` on.
 abbrev pub bring_all : (again : Bool) → Frame → (slot : ℕ) → List ℕ → List Instr
 bring_all again frame slot [] = []
 bring_all again frame slot (source ∷ sources) = bring_code again frame source slot ++ bring_all again frame (suc slot) sources
 
--- Reloads the register of a slot that also has its word in memory.
+-- Returns the code that reloads the register of a slot whose word is also in memory.
 abbrev pub reload : Frame → Home → (slot : ℕ) → List Instr
 reload frame homes.Memory slot = []
 reload frame (homes.Both register) slot = load register (slot_offset frame slot) ∷ []
@@ -87,7 +91,7 @@ abbrev pub reloads : Frame → List Instr
 reloads frame = reloads_from frame 0 frame.homes
 
 -- A base register holds the address in the middle of the first globals, which signed offsets reach. The address of any other global is
--- split: its upper half is loaded first.
+-- split, and its upper half is loaded first.
 abbrev pub global_address : ℕ → ℕ
 global_address global = data_base + 4 * global
 
@@ -110,18 +114,18 @@ abbrev pub at_global : MemoryOp → (register global : ℕ) → Instr
 at_global op register global =
     machine.Memory op (register_of register) (register_of (reach_register global)) (reach_half global)
 
--- Loads a global into a register, or stores it from one.
+-- Returns the code that loads a global into a register or stores it from one.
 abbrev pub global_code : MemoryOp → (register global : ℕ) → List Instr
 global_code op register global = reach_code global ++ at_global op register global ∷ []
 
--- Moves the frame's address to the next frame.
+-- The instruction that moves the frame pointer to the next frame.
 abbrev pub push_frame : Instr
 push_frame = add_immediate FRAME FRAME (minus (4 * MOST_FRAME_WORDS))
 
 abbrev pub pop_frame : Instr
 pop_frame = add_immediate FRAME FRAME (4 * MOST_FRAME_WORDS)
 
--- Saves `count` callee-saved registers in the frame at the function's entry, or restores them when it returns.
+-- Returns the code that saves `count` callee-saved registers in the frame at a function's entry.
 abbrev pub saves_from : (first j count : ℕ) → List Instr
 saves_from first j zero = []
 saves_from first j (suc count) = store (FIRST_PRESERVED + j) (4 * (first + j)) ∷ saves_from first (suc j) count
@@ -136,7 +140,7 @@ saves frame = saves_from frame.first_saved 0 frame.saved
 abbrev pub restores : Frame → List Instr
 restores frame = restores_from frame.first_saved 0 frame.saved
 
--- Saves the return address, if the function overwrites its register.
+-- Returns the code that saves the return address, if the function overwrites its register.
 abbrev pub way_code : Frame → List Instr
 way_code frame = if frame.saves then store RETURN_ADDRESS (4 * frame.return_address) ∷ [] else []
 
@@ -146,18 +150,18 @@ restoring_code frame = if frame.saves then load RETURN_ADDRESS (4 * frame.return
 abbrev pub way_count : Frame → ℕ
 way_count frame = if frame.saves then 1 else 0
 
--- The home in which a parameter arrives: its own, or memory if that is a callee-saved register, which holds a word of the caller's until it
--- is saved.
+-- Returns the home in which a parameter arrives: its own, or memory if its register is callee-saved and still holds a word of the caller.
 abbrev pub coming_home : Home → Home
 coming_home homes.Memory = homes.Memory
 coming_home (homes.Both register) = if homing.is_preserved register then homes.Memory else homes.Both register
 coming_home (homes.Register register) = if homing.is_preserved register then homes.Memory else homes.Register register
 
--- The frame as its callers see it: with the homes in which the parameters arrive.
+-- Returns the frame as callers see it, with the homes in which parameters arrive.
 abbrev pub coming : Frame → Frame
 coming frame = record frame { homes = map coming_home frame.homes }
 
--- The register into which an arrived parameter is loaded at the function's entry, after the lines that save this register.
+-- Returns the home into which an arrived parameter is loaded at a function's entry, after the lines that save the home's
+-- register.
 abbrev pub arriving_home : Home → Home
 arriving_home homes.Memory = homes.Memory
 arriving_home (homes.Both register) = if homing.is_preserved register then homes.Both register else homes.Memory
@@ -172,14 +176,15 @@ arrivals frame = reloads_from frame 0 (arriving frame)
 abbrev pub arrival_count : Frame → ℕ
 arrival_count frame = sum_by homing.saved_count (take frame.parameters frame.homes)
 
--- The lines at a function's entry: saves of registers, then loads of the parameters that belong in them.
+-- Returns the lines at a function's entry: they save registers, then load the parameters that belong in
+-- them.
 abbrev pub saving_code : Frame → List Instr
 saving_code frame = way_code frame ++ (saves frame ++ arrivals frame)
 
 abbrev pub saving_count : Frame → ℕ
 saving_count frame = way_count frame + (frame.saved + arrival_count frame)
 
--- The registers of a function's results.
+-- Returns the registers that hold the result words of a function.
 abbrev pub result_registers : ℕ → List ℕ
 result_registers count = take count (FIRST_RESULT ∷ SECOND_RESULT ∷ THIRD_RESULT ∷ [])
 
@@ -187,7 +192,7 @@ abbrev pub load_all : Frame → (slot : ℕ) → List ℕ → List Instr
 load_all frame slot [] = []
 load_all frame slot (target ∷ targets) = load_slot frame target slot ∷ load_all frame (suc slot) targets
 
--- Loads words from slots that are in memory only.
+-- Returns the code that loads into registers the words of slots whose home is memory alone.
 abbrev pub load_words : Frame → (slot : ℕ) → List ℕ → List Instr
 load_words frame slot [] = []
 load_words frame slot (target ∷ targets) = load target (slot_offset frame slot) ∷ load_words frame (suc slot) targets

@@ -1,4 +1,5 @@
--- The needs of parts of a function for which `cyc_meaning` defines only the needs of lists, and the bound on the counted values.
+-- This file defines the frame words that parts of a function need, for parts of which `cyc_meaning` defines only the needs of
+-- lists. It also defines the bound on the counted values.
 use Rattle.std.specs.Prelude.{ℕ, ◌+◌, ◌^◌, max, option_map}
 use Rattle.cyc_types.specs.declared.typed.Operation.{Operation}
 use Rattle.cyc_types.specs.declared.typed.Operation.TheVariants as operation
@@ -13,11 +14,12 @@ use Rattle.cyc_meaning.specs.FrameCount.{operand_words, argument_words, argument
 abbrev pub most_frame_count : ℕ
 most_frame_count = 2 ^ 32
 
--- the need of operands after this many words, if their result has `own` words
+-- The frame words that operands need after `before` words, if their result has `own` words.
 abbrev pub operands_need : Arguments → (before own : ℕ) → ℕ
 operands_need cs before own = max (before + argument_words cs + own) (arguments_need cs before)
 
--- the need of one operator of a chain of this type with its right operand, if the left one has this many words
+-- The frame words that one operator of a chain of this type needs with its right operand, if the left operand
+-- has `left` words.
 abbrev pub operation_need : Operation → Ty → (left : ℕ) → ℕ
 operation_need (operation.Compute w o e) t left =
     max (left + operand_words (type_of (view_expression e)) + words_of t) (left + expression_need (view_expression e))
@@ -28,13 +30,13 @@ operation_need (operation.Pointer o e) t left =
 operation_need (operation.PointerPeek n o e) t left =
     max (left + operand_words (type_of (view_expression e)) + words_of t) (left + expression_need (view_expression e))
 
--- the need of one item of a block
+-- The frame words that one item of a block needs.
 abbrev pub item_need : Item → ℕ
 item_need (item.Execute s) = statement_need (view_statement s)
 item_need (item.Local w n t v) = initial_need (option_map view_converted v)
 item_need i = 0
 
--- the words that one item of a block keeps beside the variables
+-- The frame words that one item of a block keeps in addition to the variables.
 abbrev pub kept_by_item : Item → ℕ
 kept_by_item (item.Execute s) = kept_by (view_statement s)
 kept_by_item (item.Region w r n) = 1

@@ -1,5 +1,5 @@
--- Texts to which the theorem applies: both sets of rules accept them, and their runs end as stated. Each example is proved by computation,
--- so the theorem is not vacuous.
+-- This file has texts to which the soundness theorem applies: both the typing rules and the flow rules accept them, and their runs end as
+-- stated. Each example is proved by computation, so the theorem is not vacuous.
 use Rattle.std.proofs.Common.{◌≡◌, ℕ, List, [], ◌∷◌, Some, None, Ok, Err, pos, refl}
 use Rattle.std.specs.Prelude.{codes}
 use Rattle.cyc_words.specs.Word.{slt_of}
@@ -25,7 +25,7 @@ use Rattle.cyc_soundness.proofs.FormedLemmas.{typed_sound}
 
 -- ---- the property of an example text
 
--- the typed program satisfies the flow rules and ends with this status
+-- Says that the typed program satisfies the flow rules and that its run ends with this status.
 abbrev Ends : Checked typed.Program → Status → Type 0
 Ends (Ok p) s = (flow_of p ≡ Ok tt) × (status_of (run p [] 200) ≡ s)
 Ends (Err f) s = ⊥
@@ -56,7 +56,7 @@ abbrev written : BaseType → List PointerKind → WrittenType
 written b [] = record { place = at 1; base = b; marks = [] }
 written b (k ∷ ks) = record { place = at 1; base = b; marks = record { kind = k; region = None } ∷ [] }
 
--- the type of a non-null pointer to an int in the region of this name
+-- The type of a non-null pointer to an int in the region with this name.
 abbrev into : ℕ → WrittenType
 into n = record { place = at 1; base = Int; marks = record { kind = marks.NonNull; region = Some (named n 3) } ∷ [] }
 
@@ -317,7 +317,7 @@ opened is = MoreItems (Region (named 8 50) (named 9 51) (Some (named 5 52))) is
 abbrev block : Items → Items → Items
 block inner is = MoreItems (Execute (Block (Braces (at 53) inner (at 54)))) is
 
--- the type of a nullable pointer to an int in the region of this name
+-- The type of a nullable pointer to an int in the region with this name.
 abbrev may_be_into : ℕ → WrittenType
 may_be_into n = record { place = at 1; base = Int; marks = record { kind = marks.Nullable; region = Some (named n 3) } ∷ [] }
 

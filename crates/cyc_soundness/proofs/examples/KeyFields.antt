@@ -1,7 +1,7 @@
--- The class must demand that no field is a key, because the judgement on typed trees does not demand it. Example: a tree in which a struct
--- has a key as a field; that judgement and the flow rules accept it. The key is read twice and so used twice: a run of the tree is dead.
--- The typing rules derive no such tree (`typed_trees_are_formed` of `cyc_types`), since they reject a key field at the declaration of its
--- struct.
+-- This file shows why the class must require that no field is a key: the judgement on typed trees does not require it. In the example
+-- tree, a struct has a key as a field; the judgement on typed trees and the flow rules accept the tree. The key is read twice and so used
+-- twice: a run of the tree is dead. The typing rules derive no such tree (`typed_trees_are_formed` of `cyc_types`), since they reject a
+-- key field at the declaration of its struct.
 use Rattle.std.proofs.Common.{◌≡◌, ℕ, suc, ◌<◌, true, [], ◌∷◌, Some, Ok, inl, refl, arith}
 use Rattle.cyc_words.proofs.Numbers.{zero_below}
 use Rattle.cyc_syntax.specs.declared.tree.PointerKind.TheVariants as marks
@@ -55,7 +55,7 @@ context = with_local true pointer (with_local true key (with_region (body_contex
 second : (n : ℕ) → 1 < suc (suc n)
 second n = omega arith
 
--- the field is neither a struct nor a unique pointer, so the key in it can be read
+-- The field is neither a struct nor a unique pointer, so the key in the field can be read.
 freed : WellTypedStatement context free
 freed = (
   types.Void,

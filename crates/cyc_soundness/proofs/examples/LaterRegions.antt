@@ -1,7 +1,7 @@
--- The class restricts the regions in the types of locals, because the judgement on typed trees does not. An example is a tree in which the
--- type of a local mentions a region that is opened later. The judgement on typed trees and the flow rules accept the example, and a run of
--- it is dead. The typing rules derive no such tree, since a region name is known only after its declaration (`typed_trees_are_formed` of
--- `cyc_types`).
+-- This file shows why the class restricts the regions in the types of locals: the judgement on typed trees does not restrict them. In the
+-- example tree, the type of a local mentions a region that is opened later. The judgement on typed trees and the flow rules accept the
+-- example, and a run of it is dead. The typing rules derive no such tree, since a region name is known only after its declaration
+-- (`typed_trees_are_formed` of `cyc_types`).
 use Rattle.std.proofs.Common.{◌≡◌, ◌<◌, [], ◌∷◌, Some, Ok, inl, inr, refl, arith}
 use Rattle.cyc_words.proofs.Numbers.{zero_below}
 use Rattle.cyc_syntax.specs.declared.tree.PointerKind.TheVariants as marks
@@ -18,7 +18,7 @@ use Rattle.cyc_meaning.specs.State.{IsDead, status_of}
 use Rattle.cyc_meaning.specs.Run.{run}
 use Rattle.cyc_meaning.proofs.ExampleTrees.{here, function}
 
--- a pointer into the region of the later block
+-- The type of a pointer into the region of the block that is opened later.
 abbrev inner : Ty
 inner = types.Pointer marks.Nullable types.Int (regions.Variable 1)
 

@@ -13,7 +13,7 @@ use Rattle.cyc_meaning.specs.State.{IsDead, IsWrong, status_of}
 use Rattle.cyc_meaning.specs.Run.{run}
 use Rattle.cyc_meaning.proofs.ExampleTrees.{here, function, star, at, fat}
 
--- fault 25 at 1:67
+-- The checker rejects this program with fault 25 at 1:67.
 -- int main(){ int x = 1; int *`main p = &x; Inner: { int y = 2; p = &y; } return *p; }
 abbrev inner_address_assigned : t.Program
 inner_address_assigned = record { structs = []; exceptions = []; globals = []; functions = (record (function [] []) { locals = (types.Int ∷ star ∷ types.Int ∷ []); body = (t.MoreItems (t.Declare 0 types.Int (Some (t.Convert kinds.Int kinds.Int (t.Number 1)))) (t.MoreItems (t.Declare 1 star (Some (t.Convert kinds.NonNull kinds.Nullable (t.AddressOf (t.Local here 0) at)))) (t.MoreItems (t.Execute (t.Block 1 (t.MoreItems (t.Declare 2 types.Int (Some (t.Convert kinds.Int kinds.Int (t.Number 2)))) (t.MoreItems (t.Execute (t.Evaluate (t.Assign (t.Local here 1) (t.Convert kinds.NonNull kinds.Nullable (t.AddressOf (t.Local here 2) at)) (types.Value star)))) t.NoItems)))) (t.MoreItems (t.Execute (t.Return (Some (t.Convert kinds.Int kinds.Int (t.Load (t.Target kinds.Nullable (t.Copy (t.Local here 1) star) types.Int)))))) t.NoItems)))) } ∷ []); main = 0 }
@@ -22,7 +22,7 @@ inner_address_assigned_ends : status_of (run inner_address_assigned [] 500) ≡ 
 unfolding slt_of sar_of div_of rem_of
 inner_address_assigned_ends = refl
 
--- fault 25 at 1:62
+-- The checker rejects this program with fault 25 at 1:62.
 -- int main(){ int *`main p = NULL; { int y = 2; int *`main q = &y; p = q; } return *p; }
 abbrev initial_value_of_a_shorter_life : t.Program
 initial_value_of_a_shorter_life = record { structs = []; exceptions = []; globals = []; functions = (record (function [] []) { locals = (star ∷ types.Int ∷ star ∷ []); body = (t.MoreItems (t.Declare 0 star (Some (t.Convert kinds.Nullable kinds.Nullable t.NullPointer))) (t.MoreItems (t.Execute (t.Block 1 (t.MoreItems (t.Declare 1 types.Int (Some (t.Convert kinds.Int kinds.Int (t.Number 2)))) (t.MoreItems (t.Declare 2 star (Some (t.Convert kinds.NonNull kinds.Nullable (t.AddressOf (t.Local here 1) at)))) (t.MoreItems (t.Execute (t.Evaluate (t.Assign (t.Local here 0) (t.Convert kinds.Nullable kinds.Nullable (t.Copy (t.Local here 2) star)) (types.Value star)))) t.NoItems))))) (t.MoreItems (t.Execute (t.Return (Some (t.Convert kinds.Int kinds.Int (t.Load (t.Target kinds.Nullable (t.Copy (t.Local here 0) star) types.Int)))))) t.NoItems))) } ∷ []); main = 0 }
@@ -31,7 +31,7 @@ initial_value_of_a_shorter_life_ends : status_of (run initial_value_of_a_shorter
 unfolding slt_of sar_of div_of rem_of
 initial_value_of_a_shorter_life_ends = refl
 
--- fault 22 at 1:77
+-- The checker rejects this program with fault 22 at 1:77.
 -- int main(){ int *`main p = NULL; Inner: { int y = 2; int *`Inner *`main q = &p; *q = &y; } return *p; }
 abbrev invariant_after_a_pointer : t.Program
 invariant_after_a_pointer = record { structs = []; exceptions = []; globals = []; functions = (record (function [] []) { locals = (star ∷ types.Int ∷ (types.Pointer marks.Nullable star Heap) ∷ []); body = (t.MoreItems (t.Declare 0 star (Some (t.Convert kinds.Nullable kinds.Nullable t.NullPointer))) (t.MoreItems (t.Execute (t.Block 1 (t.MoreItems (t.Declare 1 types.Int (Some (t.Convert kinds.Int kinds.Int (t.Number 2)))) (t.MoreItems (t.Declare 2 (types.Pointer marks.Nullable star Heap) (Some (t.Convert kinds.NonNull kinds.Nullable (t.AddressOf (t.Local here 0) (types.Pointer marks.NonNull star Heap))))) (t.MoreItems (t.Execute (t.Evaluate (t.Store (t.Target kinds.Nullable (t.Copy (t.Local here 2) (types.Pointer marks.Nullable star Heap)) star) (t.Convert kinds.NonNull kinds.Nullable (t.AddressOf (t.Local here 1) at)) (types.Value star)))) t.NoItems))))) (t.MoreItems (t.Execute (t.Return (Some (t.Convert kinds.Int kinds.Int (t.Load (t.Target kinds.Nullable (t.Copy (t.Local here 0) star) types.Int)))))) t.NoItems))) } ∷ []); main = 0 }
@@ -40,7 +40,7 @@ invariant_after_a_pointer_ends : status_of (run invariant_after_a_pointer [] 500
 unfolding slt_of sar_of div_of rem_of
 invariant_after_a_pointer_ends = refl
 
--- fault 22 at 1:83
+-- The checker rejects this program with fault 22 at 1:83.
 -- int main(){ int x = 1; int *`main p = &x; Inner: { int y = 2; int *`Inner q = &y; p :=: q; } return *p; }
 abbrev swapped_with_a_shorter_life : t.Program
 swapped_with_a_shorter_life = record { structs = []; exceptions = []; globals = []; functions = (record (function [] []) { locals = (types.Int ∷ star ∷ types.Int ∷ star ∷ []); body = (t.MoreItems (t.Declare 0 types.Int (Some (t.Convert kinds.Int kinds.Int (t.Number 1)))) (t.MoreItems (t.Declare 1 star (Some (t.Convert kinds.NonNull kinds.Nullable (t.AddressOf (t.Local here 0) at)))) (t.MoreItems (t.Execute (t.Block 1 (t.MoreItems (t.Declare 2 types.Int (Some (t.Convert kinds.Int kinds.Int (t.Number 2)))) (t.MoreItems (t.Declare 3 star (Some (t.Convert kinds.NonNull kinds.Nullable (t.AddressOf (t.Local here 2) at)))) (t.MoreItems (t.Execute (t.Swap (t.VariableSide (t.Local here 1) star) (t.VariableSide (t.Local here 3) star))) t.NoItems))))) (t.MoreItems (t.Execute (t.Return (Some (t.Convert kinds.Int kinds.Int (t.Load (t.Target kinds.Nullable (t.Copy (t.Local here 1) star) types.Int)))))) t.NoItems)))) } ∷ []); main = 0 }
@@ -49,7 +49,7 @@ swapped_with_a_shorter_life_ends : status_of (run swapped_with_a_shorter_life []
 unfolding slt_of sar_of div_of rem_of
 swapped_with_a_shorter_life_ends = refl
 
--- fault 25 at 2:26
+-- The checker rejects this program with fault 25 at 2:26.
 -- int *g = NULL;
 -- void f(){ int x = 1; g = &x; }
 -- int main(){ f(); return *g; }
@@ -60,7 +60,7 @@ local_in_a_global_ends : status_of (run local_in_a_global [] 500) ≡ IsDead
 unfolding slt_of sar_of div_of rem_of
 local_in_a_global_ends = refl
 
--- fault 25 at 2:26
+-- The checker rejects this program with fault 25 at 2:26.
 -- int ?g = NULL;
 -- void f(){ int x = 1; g = &x; }
 -- int main(){ f(); return g[0]; }
@@ -71,7 +71,7 @@ local_in_a_fat_global_ends : status_of (run local_in_a_fat_global [] 500) ≡ Is
 unfolding slt_of sar_of div_of rem_of
 local_in_a_fat_global_ends = refl
 
--- fault 25 at 1:32
+-- The checker rejects this program with fault 25 at 1:32.
 -- int *`H f(){ int x = 1; return &x; }
 -- int main(){ return *f(); }
 abbrev address_returned : t.Program
@@ -81,7 +81,7 @@ address_returned_ends : status_of (run address_returned [] 500) ≡ IsDead
 unfolding slt_of sar_of div_of rem_of
 address_returned_ends = refl
 
--- fault 25 at 1:34
+-- The checker rejects this program with fault 25 at 1:34.
 -- char *`H f(){ char c = 1; return &c; }
 -- int main(){ return *f(); }
 abbrev address_of_a_char_returned : t.Program
@@ -91,7 +91,7 @@ address_of_a_char_returned_ends : status_of (run address_of_a_char_returned [] 5
 unfolding slt_of sar_of div_of rem_of
 address_of_a_char_returned_ends = refl
 
--- fault 25 at 1:26
+-- The checker rejects this program with fault 25 at 1:26.
 -- int *`H f(int n){ return &n; }
 -- int main(){ return *f(1); }
 abbrev parameters_address_returned : t.Program
@@ -101,7 +101,7 @@ parameters_address_returned_ends : status_of (run parameters_address_returned []
 unfolding slt_of sar_of div_of rem_of
 parameters_address_returned_ends = refl
 
--- fault 25 at 2:49
+-- The checker rejects this program with fault 25 at 2:49.
 -- void put(int *`r *`s p, int *`r q){ *p = q; }
 -- int main(){ int *p = NULL; { int x = 1; put(&p, &x); } return *p; }
 abbrev argument_of_a_shorter_life : t.Program
@@ -111,7 +111,7 @@ argument_of_a_shorter_life_ends : status_of (run argument_of_a_shorter_life [] 5
 unfolding slt_of sar_of div_of rem_of
 argument_of_a_shorter_life_ends = refl
 
--- fault 25 at 2:71
+-- The checker rejects this program with fault 25 at 2:71.
 -- int *`r second(int *`r p, int *`r q){ return q; }
 -- int main(){ int x = 1; int *`main p = &x; { int y = 2; p = second(&x, &y); } return *p; }
 abbrev result_of_a_shorter_life : t.Program
@@ -121,7 +121,7 @@ result_of_a_shorter_life_ends : status_of (run result_of_a_shorter_life [] 500) 
 unfolding slt_of sar_of div_of rem_of
 result_of_a_shorter_life_ends = refl
 
--- fault 25 at 2:41
+-- The checker rejects this program with fault 25 at 2:41.
 -- void put(int *`a *`s p, int *`b q : `b > `a){ *p = q; }
 -- int main(){ int *p = NULL; { int x = 1; put(&p, &x); } return *p; }
 abbrev constraint_not_kept : t.Program
@@ -131,7 +131,7 @@ constraint_not_kept_ends : status_of (run constraint_not_kept [] 500) ≡ IsDead
 unfolding slt_of sar_of div_of rem_of
 constraint_not_kept_ends = refl
 
--- fault 25 at 1:42
+-- The checker rejects this program with fault 25 at 1:42.
 -- void put(int *`a *`s p, int *`b q){ *p = q; }
 -- int main(){ int *p = NULL; { int x = 1; put(&p, &x); } return *p; }
 abbrev constraint_left_out : t.Program
@@ -141,7 +141,7 @@ constraint_left_out_ends : status_of (run constraint_left_out [] 500) ≡ IsDead
 unfolding slt_of sar_of div_of rem_of
 constraint_left_out_ends = refl
 
--- fault 25 at 2:67
+-- The checker rejects this program with fault 25 at 2:67.
 -- struct S { int *p; };
 -- int main(){ struct S @s = new S{NULL}; Inner: { int y = 2; s->p = &y; } return *s->p; }
 abbrev address_in_a_field : t.Program
@@ -151,7 +151,7 @@ address_in_a_field_ends : status_of (run address_in_a_field [] 500) ≡ IsDead
 unfolding slt_of sar_of div_of rem_of
 address_in_a_field_ends = refl
 
--- fault 25 at 3:32
+-- The checker rejects this program with fault 25 at 3:32.
 -- struct S { int *p; };
 -- struct S *g = NULL;
 -- void f(){ int y = 2; g = new S{&y}; }
@@ -163,7 +163,7 @@ address_in_a_new_object_ends : status_of (run address_in_a_new_object [] 500) �
 unfolding slt_of sar_of div_of rem_of
 address_in_a_new_object_ends = refl
 
--- fault 25 at 1:48
+-- The checker rejects this program with fault 25 at 1:48.
 -- int main(){ int ?p = NULL; { region<`a> h; p = rnew(h) {for i < 2 : i}; } return p[1]; }
 abbrev array_of_a_region_that_ends : t.Program
 array_of_a_region_that_ends = record { structs = []; exceptions = []; globals = []; functions = (record (function [] []) { locals = (fat ∷ (types.Handle Heap) ∷ []); body = (t.MoreItems (t.Declare 0 fat (Some (t.Convert kinds.Nullable kinds.Fat t.NullPointer))) (t.MoreItems (t.Execute (t.Block 1 (t.MoreItems (t.DeclareRegion 1 1) (t.MoreItems (t.Execute (t.Evaluate (t.Assign (t.Local here 0) (t.Convert kinds.Fat kinds.Fat (t.New (t.ByHandle (t.Copy (t.Local here 1) (types.Handle Heap))) (t.Array here 0 (t.Number 2) kinds.Int (t.Counter 0)) fat)) (types.Value fat)))) t.NoItems)))) (t.MoreItems (t.Execute (t.Return (Some (t.Convert kinds.Int kinds.Int (t.Load (t.Element (t.Copy (t.Local here 0) fat) (t.Number 1) types.Int)))))) t.NoItems))) } ∷ []); main = 0 }
@@ -172,7 +172,7 @@ array_of_a_region_that_ends_ends : status_of (run array_of_a_region_that_ends []
 unfolding slt_of sar_of div_of rem_of
 array_of_a_region_that_ends_ends = refl
 
--- fault 25 at 1:65
+-- The checker rejects this program with fault 25 at 1:65.
 -- int main(){ region<`a> x; int *`a p = NULL; { region<`b> y; p = rnew(y) 1; } return *p; }
 abbrev younger_region_in_an_older : t.Program
 younger_region_in_an_older = record { structs = []; exceptions = []; globals = []; functions = (record (function [] []) { locals = ((types.Handle Heap) ∷ star ∷ (types.Handle Heap) ∷ []); body = (t.MoreItems (t.DeclareRegion 1 0) (t.MoreItems (t.Declare 1 star (Some (t.Convert kinds.Nullable kinds.Nullable t.NullPointer))) (t.MoreItems (t.Execute (t.Block 1 (t.MoreItems (t.DeclareRegion 1 2) (t.MoreItems (t.Execute (t.Evaluate (t.Assign (t.Local here 1) (t.Convert kinds.NonNull kinds.Nullable (t.New (t.ByHandle (t.Copy (t.Local here 2) (types.Handle Heap))) (t.Plain kinds.Int (t.Number 1)) at)) (types.Value star)))) t.NoItems)))) (t.MoreItems (t.Execute (t.Return (Some (t.Convert kinds.Int kinds.Int (t.Load (t.Target kinds.Nullable (t.Copy (t.Local here 1) star) types.Int)))))) t.NoItems)))) } ∷ []); main = 0 }
@@ -181,7 +181,7 @@ younger_region_in_an_older_ends : status_of (run younger_region_in_an_older [] 5
 unfolding slt_of sar_of div_of rem_of
 younger_region_in_an_older_ends = refl
 
--- fault 25 at 2:79
+-- The checker rejects this program with fault 25 at 2:79.
 -- struct S { int x; };
 -- int main(){ int *p = NULL; { region<`a> h; struct S @`a s = rnew(h) S{1}; p = &s->x; } return *p; }
 abbrev part_of_an_object_of_a_region : t.Program
@@ -191,7 +191,7 @@ part_of_an_object_of_a_region_ends : status_of (run part_of_an_object_of_a_regio
 unfolding slt_of sar_of div_of rem_of
 part_of_an_object_of_a_region_ends = refl
 
--- fault 25 at 3:46
+-- The checker rejects this program with fault 25 at 3:46.
 -- int main(){
 --     let NewDynamicRegion{<`k> k} = new_ukey(); int *`k p = NULL;
 --     { region<`k> h = open(k); int x = 1; p = &x; }
@@ -203,7 +203,7 @@ local_in_a_dynamic_region_ends : status_of (run local_in_a_dynamic_region [] 500
 unfolding slt_of sar_of div_of rem_of
 local_in_a_dynamic_region_ends = refl
 
--- fault 25 at 3:35
+-- The checker rejects this program with fault 25 at 3:35.
 -- int main(){
 --     let NewDynamicRegion{<`k> k} = new_ukey(); int *q = NULL;
 --     { region<`k> h = open(k); q = rnew(h) 1; }
@@ -215,7 +215,7 @@ dynamic_object_on_the_heap_ends : status_of (run dynamic_object_on_the_heap [] 5
 unfolding slt_of sar_of div_of rem_of
 dynamic_object_on_the_heap_ends = refl
 
--- fault 25 at 1:99
+-- The checker rejects this program with fault 25 at 1:99.
 -- int main(){ int @`U u = rnew(unique_region) 5; int *p = NULL; { let alias <`a> int @`a x = u; p = x; } ufree(u); return *p; }
 abbrev alias_after_its_block : t.Program
 alias_after_its_block = record { structs = []; exceptions = []; globals = []; functions = (record (function [] []) { locals = (at ∷ star ∷ at ∷ []); body = (t.MoreItems (t.Declare 0 at (Some (t.Convert kinds.NonNull kinds.NonNull (t.New t.AsUnique (t.Plain kinds.Int (t.Number 5)) at)))) (t.MoreItems (t.Declare 1 star (Some (t.Convert kinds.Nullable kinds.Nullable t.NullPointer))) (t.MoreItems (t.Execute (t.Block 1 (t.MoreItems (t.DeclareAlias 1 2 at here 0) (t.MoreItems (t.Execute (t.Evaluate (t.Assign (t.Local here 1) (t.Convert kinds.NonNull kinds.Nullable (t.Copy (t.Local here 2) at)) (types.Value star)))) t.NoItems)))) (t.MoreItems (t.Execute (t.Evaluate (t.FreeUnique (t.Move here 0 at)))) (t.MoreItems (t.Execute (t.Return (Some (t.Convert kinds.Int kinds.Int (t.Load (t.Target kinds.Nullable (t.Copy (t.Local here 1) star) types.Int)))))) t.NoItems))))) } ∷ []); main = 0 }
@@ -224,7 +224,7 @@ alias_after_its_block_ends : status_of (run alias_after_its_block [] 500) ≡ Is
 unfolding slt_of sar_of div_of rem_of
 alias_after_its_block_ends = refl
 
--- fault 25 at 3:71
+-- The checker rejects this program with fault 25 at 3:71.
 -- int main(){
 --     int @`U u = rnew(unique_region) 5; int @`U w = rnew(unique_region) 6;
 --     let alias <`a> int @`a x = u; { let alias <`b> int @`b y = w; x = y; } ufree(w); return *x; }
@@ -235,7 +235,7 @@ alias_in_an_older_alias_ends : status_of (run alias_in_an_older_alias [] 500) �
 unfolding slt_of sar_of div_of rem_of
 alias_in_an_older_alias_ends = refl
 
--- fault 25 at 2:112
+-- The checker rejects this program with fault 25 at 2:112.
 -- struct S { int x; };
 -- int main(){ struct S @`U u = rnew(unique_region) S{1}; int *p = NULL; { let alias <`a> struct S @`a s = u; p = &s->x; } ufree(u); return *p; }
 abbrev part_of_an_aliased_object : t.Program
@@ -245,7 +245,7 @@ part_of_an_aliased_object_ends : status_of (run part_of_an_aliased_object [] 500
 unfolding slt_of sar_of div_of rem_of
 part_of_an_aliased_object_ends = refl
 
--- fault 25 at 1:41
+-- The checker rejects this program with fault 25 at 1:41.
 -- int main(){ int *p = new 1; int *`U w = p; ufree(w); return *p; }
 abbrev heap_object_as_unique : t.Program
 heap_object_as_unique = record { structs = []; exceptions = []; globals = []; functions = (record (function [] []) { locals = (star ∷ star ∷ []); body = (t.MoreItems (t.Declare 0 star (Some (t.Convert kinds.NonNull kinds.Nullable (t.New t.OnHeap (t.Plain kinds.Int (t.Number 1)) at)))) (t.MoreItems (t.Declare 1 star (Some (t.Convert kinds.Nullable kinds.Nullable (t.Copy (t.Local here 0) star)))) (t.MoreItems (t.Execute (t.Evaluate (t.FreeUnique (t.Move here 1 star)))) (t.MoreItems (t.Execute (t.Return (Some (t.Convert kinds.Int kinds.Int (t.Load (t.Target kinds.Nullable (t.Copy (t.Local here 0) star) types.Int)))))) t.NoItems)))) } ∷ []); main = 0 }
@@ -254,7 +254,7 @@ heap_object_as_unique_ends : status_of (run heap_object_as_unique [] 500) ≡ Is
 unfolding slt_of sar_of div_of rem_of
 heap_object_as_unique_ends = refl
 
--- fault 25 at 2:83
+-- The checker rejects this program with fault 25 at 2:83.
 -- struct S<`a> { int *`a p; };
 -- int main(){ int x = 1; struct S<`main> @s = new S<`main>{&x}; { int y = 2; s->p = &y; } return *s->p; }
 abbrev struct_of_a_shorter_life : t.Program
@@ -264,7 +264,7 @@ struct_of_a_shorter_life_ends : status_of (run struct_of_a_shorter_life [] 500) 
 unfolding slt_of sar_of div_of rem_of
 struct_of_a_shorter_life_ends = refl
 
--- fault 22 at 2:96
+-- The checker rejects this program with fault 22 at 2:96.
 -- struct S<`a> { int *`a p; };
 -- int main(){ struct S<`main> @s = new S<`main>{NULL}; Inner: { int y = 2; struct S<`Inner> @t = s; t->p = &y; } return *s->p; }
 abbrev struct_regions_do_not_convert : t.Program
@@ -274,7 +274,7 @@ struct_regions_do_not_convert_ends : status_of (run struct_regions_do_not_conver
 unfolding slt_of sar_of div_of rem_of
 struct_regions_do_not_convert_ends = refl
 
--- fault 26 at 5:26
+-- The checker rejects this program with fault 26 at 5:26.
 -- int make(region_t<`r> h){ rnew(h) 1; return 0; }
 -- int main(){
 --     let NewDynamicRegion{<`k> k} = new_ukey(); region_t<`k> g;
@@ -287,7 +287,7 @@ handle_after_its_region_ends : status_of (run handle_after_its_region [] 500) �
 unfolding slt_of sar_of div_of rem_of
 handle_after_its_region_ends = refl
 
--- fault 26 at 5:26
+-- The checker rejects this program with fault 26 at 5:26.
 -- int get(int *`r p){ return *p; }
 -- int main(){
 --     let NewDynamicRegion{<`k> k} = new_ukey(); int *`k p = NULL;
@@ -300,7 +300,7 @@ pointer_after_its_region_ends : status_of (run pointer_after_its_region [] 500) 
 unfolding slt_of sar_of div_of rem_of
 pointer_after_its_region_ends = refl
 
--- fault 26 at 2:34
+-- The checker rejects this program with fault 26 at 2:34.
 -- int get(int *`r p){ return *p; }
 -- int outer(int *`r p; {}){ return get(p); }
 -- int main(){
@@ -314,7 +314,7 @@ effect_of_a_call_left_out_ends : status_of (run effect_of_a_call_left_out [] 500
 unfolding slt_of sar_of div_of rem_of
 effect_of_a_call_left_out_ends = refl
 
--- fault 26 at 6:26
+-- The checker rejects this program with fault 26 at 6:26.
 -- struct S<`a> { int *`a p; };
 -- int get(struct S<`a> *`b s){ return *s->p; }
 -- int main(){
@@ -328,7 +328,7 @@ effect_of_a_struct_ends : status_of (run effect_of_a_struct [] 500) ≡ IsDead
 unfolding slt_of sar_of div_of rem_of
 effect_of_a_struct_ends = refl
 
--- fault 24 at 1:33
+-- The checker rejects this program with fault 24 at 1:33.
 -- int get(int *`r p; {}){ return *p; }
 -- int main(){
 --     let NewDynamicRegion{<`k> k} = new_ukey(); int *`k p = NULL;
@@ -341,7 +341,7 @@ read_left_out_of_an_effect_ends : status_of (run read_left_out_of_an_effect [] 5
 unfolding slt_of sar_of div_of rem_of
 read_left_out_of_an_effect_ends = refl
 
--- fault 24 at 5:19
+-- The checker rejects this program with fault 24 at 5:19.
 -- struct S { int x; };
 -- int main(){
 --     let NewDynamicRegion{<`k> k} = new_ukey(); struct S *`k p = NULL;
@@ -354,7 +354,7 @@ member_after_its_region_ends : status_of (run member_after_its_region [] 500) �
 unfolding slt_of sar_of div_of rem_of
 member_after_its_region_ends = refl
 
--- fault 24 at 4:26
+-- The checker rejects this program with fault 24 at 4:26.
 -- int main(){
 --     let NewDynamicRegion{<`k> k} = new_ukey(); int ?`k p = NULL;
 --     { region<`k> h = open(k); p = rnew(h) {for i < 2 : i}; }
@@ -366,7 +366,7 @@ element_after_its_region_ends : status_of (run element_after_its_region [] 500) 
 unfolding slt_of sar_of div_of rem_of
 element_after_its_region_ends = refl
 
--- fault 24 at 4:24
+-- The checker rejects this program with fault 24 at 4:24.
 -- int main(){
 --     let NewDynamicRegion{<`k> k} = new_ukey(); region_t<`k> g;
 --     { region<`k> h = open(k); g = h; }
@@ -378,7 +378,7 @@ object_after_its_region_ends : status_of (run object_after_its_region [] 500) �
 unfolding slt_of sar_of div_of rem_of
 object_after_its_region_ends = refl
 
--- fault 24 at 1:51
+-- The checker rejects this program with fault 24 at 1:51.
 -- int same(int *`r p, int *`s q; {`s}){ return q == p; }
 -- int main(){
 --     let NewDynamicRegion{<`k> k} = new_ukey(); int *`k p = NULL;
@@ -391,7 +391,7 @@ right_side_compared_out_of_an_effect_ends : status_of (run right_side_compared_o
 unfolding slt_of sar_of div_of rem_of
 right_side_compared_out_of_an_effect_ends = refl
 
--- fault 27 at 1:59
+-- The checker rejects this program with fault 27 at 1:59.
 -- int main(){ int @`U @q = new rnew(unique_region) 2; ufree(*q); return **q; }
 abbrev unique_copied_out_of_a_cell : t.Program
 unique_copied_out_of_a_cell = record { structs = []; exceptions = []; globals = []; functions = (record (function [] []) { locals = ((types.Pointer marks.NonNull at Heap) ∷ []); body = (t.MoreItems (t.Declare 0 (types.Pointer marks.NonNull at Heap) (Some (t.Convert kinds.NonNull kinds.NonNull (t.New t.OnHeap (t.Plain kinds.NonNull (t.New t.AsUnique (t.Plain kinds.Int (t.Number 2)) at)) (types.Pointer marks.NonNull at Heap))))) (t.MoreItems (t.Execute (t.Evaluate (t.FreeUnique (t.Load (t.Target kinds.NonNull (t.Copy (t.Local here 0) (types.Pointer marks.NonNull at Heap)) at))))) (t.MoreItems (t.Execute (t.Return (Some (t.Convert kinds.Int kinds.Int (t.Load (t.Target kinds.NonNull (t.Load (t.Target kinds.NonNull (t.Copy (t.Local here 0) (types.Pointer marks.NonNull at Heap)) at)) types.Int)))))) t.NoItems))) } ∷ []); main = 0 }
@@ -400,7 +400,7 @@ unique_copied_out_of_a_cell_ends : status_of (run unique_copied_out_of_a_cell []
 unfolding slt_of sar_of div_of rem_of
 unique_copied_out_of_a_cell_ends = refl
 
--- fault 27 at 2:63
+-- The checker rejects this program with fault 27 at 2:63.
 -- int *`U g = NULL;
 -- int main(){ int *`U u = rnew(unique_region) 1; g :=: u; ufree(g); int *`U w = NULL; g :=: w; return *w; }
 abbrev unique_copied_out_of_a_global : t.Program
@@ -410,7 +410,7 @@ unique_copied_out_of_a_global_ends : status_of (run unique_copied_out_of_a_globa
 unfolding slt_of sar_of div_of rem_of
 unique_copied_out_of_a_global_ends = refl
 
--- fault 27 at 1:57
+-- The checker rejects this program with fault 27 at 1:57.
 -- int main(){ int @`U u = rnew(unique_region) 5; ufree(*(&u)); return *u; }
 abbrev unique_read_through_an_address : t.Program
 unique_read_through_an_address = record { structs = []; exceptions = []; globals = []; functions = (record (function [] []) { locals = (at ∷ []); body = (t.MoreItems (t.Declare 0 at (Some (t.Convert kinds.NonNull kinds.NonNull (t.New t.AsUnique (t.Plain kinds.Int (t.Number 5)) at)))) (t.MoreItems (t.Execute (t.Evaluate (t.FreeUnique (t.Load (t.Target kinds.NonNull (t.AddressOf (t.Local here 0) (types.Pointer marks.NonNull at Heap)) at))))) (t.MoreItems (t.Execute (t.Return (Some (t.Convert kinds.Int kinds.Int (t.Load (t.Target kinds.NonNull (t.Peek here 0 at) types.Int)))))) t.NoItems))) } ∷ []); main = 0 }
@@ -419,7 +419,7 @@ unique_read_through_an_address_ends : status_of (run unique_read_through_an_addr
 unfolding slt_of sar_of div_of rem_of
 unique_read_through_an_address_ends = refl
 
--- fault 29 at 2:97
+-- The checker rejects this program with fault 29 at 2:97.
 -- int @`r both(int @`r p, int @`r *`s c){ *c = p; return p; }
 -- int main(){ int @`U u = rnew(unique_region) 5; int @`U *c = new rnew(unique_region) 1; u = both(u, c); ufree(u); int @`U w = rnew(unique_region) 2; w :=: *c; return *w; }
 abbrev variable_for_unique : t.Program
@@ -429,7 +429,7 @@ variable_for_unique_ends : status_of (run variable_for_unique [] 500) ≡ IsDead
 unfolding slt_of sar_of div_of rem_of
 variable_for_unique_ends = refl
 
--- fault 27 at 2:66
+-- The checker rejects this program with fault 27 at 2:66.
 -- struct S { int x; };
 -- int main(){ struct S @`U u = rnew(unique_region) S{1}; int *p = &u->x; ufree(u); return *p; }
 abbrev address_inside_a_unique : t.Program

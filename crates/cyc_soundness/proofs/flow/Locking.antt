@@ -1,4 +1,5 @@
--- A lent value stays in its variable to the end of its block: no reachable code in between moves, assigns or lends the local again.
+-- A lent value stays in its variable to the end of the block that lends it: until then, no reachable code moves, assigns or lends
+-- the local again.
 use Rattle.std.proofs.Common.{◌≡◌, ◌<◌, arith, ℕ, zero, suc, Bool, true, false, not, ◌+◌, ◌||◌, ◌&&◌, List, [], ◌∷◌, ◌++◌, Option, Some, None, refl, sym, ap, subst, ◌∙◌}
 use Rattle.std.specs.Prelude.{◌≢◌, get_or, slice_set, if◌then◌else◌}
 use Rattle.std.proofs.lemmas.List.{get_or-set_other}
@@ -34,7 +35,7 @@ use Rattle.cyc_soundness.proofs.flow.Looking.{only_other}
 
 -- ---- unreachable code
 
--- the guard that matches a state
+-- The guard, that is, the set of locked locals, that matches a flow state.
 abbrev guard_at : flow.State → Guard
 guard_at f = record { relied = nowhere; locked = λ n. is_locked (fullness f n); peeked = nowhere }
 
@@ -46,7 +47,8 @@ unreached_is : (f : flow.State) → is_reached f ≡ false → f ≡ Unreached
 unreached_is Unreached e = refl
 unreached_is (Reached as') e = let k : true ≡ false = e in absurd (cc)
 
--- code after unreachable code is unreachable, and no reachable break leaves the enclosing loop there
+-- Code after unreachable code is unreachable, and no reachable `break` in this code leaves the
+-- enclosing loop.
 module _ (w : ℕ → Bool) (c : Around) (js : Items) (a b : Known) (fresh : AreFresh w js) (flows : Derives (rule_items c js a) b) (none : is_reached a.now ≡ false) where
   unreached_fit : (o : Guard) (d : Bool) → Fits o d a.breaks → (is_reached b.now ≡ false) × Fits o d b.breaks
   unreached_fit o d before =
@@ -94,7 +96,7 @@ reached_meet_right Unreached g reached = reached
 reached_meet_right (Reached as') Unreached reached = refl
 reached_meet_right (Reached as') (Reached bs) reached = refl
 
--- if a statement never ends, the code after it is unreachable
+-- If a statement never ends, then the code after the statement is unreachable.
 mutual
   never_statement : (w : ℕ → Bool) (c : Around) (s : Statement) (a b : Known) → IsFresh w s → Derives (rule_statement c s a) b → may_end s ≡ false → is_reached b.now ≡ false
   never_statement w c (Block r js) a b fresh (l, d, (u, same)) e = subst (λ (z : Known). is_reached z.now ≡ false) (sym same) (each_reached Full (locks_of js) l.now ∙ never_items w c js a l fresh d e)
@@ -133,7 +135,7 @@ mutual
       never_clauses w c start cs (or_clause a.now js l) b more ds both.1
       (meet_none a.now (with_each Full (locks_of js) l.now) none (each_reached Full (locks_of js) l.now ∙ never_items w c js (at (statements.with_caught n start) a) l fresh d both.0))
 
--- control reaches the end of a statement only if the statement may end
+-- Control reaches the end of a statement only if `may_end` holds for the statement.
 pub ends_so : (w : ℕ → Bool) (c : Around) (s : Statement) (a b : Known) → IsFresh w s → Derives (rule_statement c s a) b → is_reached b.now ≡ true → may_end s ≡ true
 ends_so w c s a b fresh flows reached = go (may_end s) refl
   where
@@ -144,7 +146,7 @@ ends_so w c s a b fresh flows reached = go (may_end s) refl
 -- ---- locks
 
 module _ (n : ℕ) where
-  -- the local is lent in this state, if the state is reachable
+  -- Says that the local is lent in this flow state, if the state is reachable.
   abbrev pub IsLockedIn : flow.State → Type 0
   IsLockedIn f = (is_reached f ≡ true) × (is_locked (fullness f n) ≡ true)
 
@@ -326,7 +328,8 @@ module _ (n : ℕ) where
 
     -- ---- statements
 
-    -- the demands kept in reachable code, and the states after it and at the breaks that leave the enclosing loop
+    -- The requirements that reachable code satisfies while a local is lent, and the flow states after the code
+    -- and at the breaks that leave the enclosing loop.
     record Locks (A : Type 0) (end : Bool) (c : Around) (a b : Known) : Type 0 where
       kept : A
       now : IsLockedIf b.now
@@ -349,7 +352,8 @@ module _ (n : ℕ) where
         go true same = (each_still (locks_of js) l.now (out same) (there, locked there)).1
         go false same = let k : true ≡ false = sym there ∙ never_items w c js a l fresh flows same in absurd (cc)
 
-    -- the demands kept in clauses, with the states after them and at their breaks
+    -- The requirements that clauses satisfy while a local is lent, with the flow states after the
+    -- clauses and at their breaks.
     record LocksClauses (k : ℕ) (c : Around) (cs : Clauses) (a b : Known) : Type 0 where
       kept : InClauses locking k cs
       now : IsLockedIf b.now
@@ -380,7 +384,7 @@ module _ (n : ℕ) where
     out_front k ks apart out (first as') = apart refl
     out_front k ks apart out (later b as' among) = out among
 
-    -- the items after a statement that may end
+    -- The items after a statement that may end satisfy the requirements while a local is lent.
     following_statement : (w : ℕ → Bool) (k : ℕ) (c : Around) (s : Statement) (js : Items) (a b l : Known) → AreFresh w js → Derives (rule_items (statements.following_item (Execute s) c) js l) b → Locks (InStatement locking k s) (may_end s) c a l → (may_end s ≡ false → is_reached l.now ≡ false)
         → (may_end s ≡ true → Locks (InItems locking (k + declared_regions s) js) (items_may_end js) (statements.following_item (Execute s) c) l b × (items_may_end js ≡ true → IsOut (locks_of js)))
         → Locks (InItems locking k (MoreItems (Execute s) js)) (may_end s && items_may_end js) c a b × ((may_end s && items_may_end js) ≡ true → IsOut (locks_of js))
@@ -522,13 +526,13 @@ locked_items q n w k c js a b mine fresh locked flows kept = (locks_items n q w 
 
 -- ---- the start of a loan
 
--- an item that lends a local locks that local
+-- An item that lends a local locks this local.
 pub now_locked : (f : flow.State) (key l : ℕ) → is_reached f ≡ true → not (is_vacant (fullness f key)) ≡ true → key ≢ l → IsLockedIn key (with_fullness Full (with_fullness Locked f key) l)
 now_locked Unreached key l reached set apart = let z : false ≡ true = reached in absurd (cc)
 now_locked (Reached as') key l reached set apart =
     locked_with key Full (Reached (slice_set as' key Locked)) l apart (refl, ap is_locked (set_there as' key Locked (not-true (is_vacant (get_or as' key Vacant)) set)))
 
--- the locals in scope have lower numbers than the next local
+-- The locals in scope have lower numbers than the local that is declared next.
 scoped_below : (these : Lives) (n : ℕ) (vs : List LocalInScope) (bs : List InScope) → IsScope these vs bs → AreBelow n bs → AreScoped vs n
 scoped_below these n vs [] none below = subst (λ us. AreScoped us n) (sym none) tt
 scoped_below these n vs (Variable b ∷ bs) (rest, (v, vs_are, number, of_type, hidden, life), is) (less, below) =

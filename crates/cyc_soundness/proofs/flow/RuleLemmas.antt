@@ -45,7 +45,7 @@ mutual
   breaks_clauses c start (Case x n r js cs) k m (l, d, later) =
       implies_after k.breaks l.breaks m.breaks (breaks_items c js (statements.at (with_caught n start) k) l d) (breaks_clauses c start cs (or_clause k.now js l) m later)
 
--- the state after a `try` is at most that after its body
+-- The flow state after a `try` is at most the state after its body.
 pub clauses_implied : (c : Around) (start : State) (cs : Clauses) (k m : Known) → Derives (rule_clauses c start cs k) m → Implies k.now m.now
 clauses_implied c start NoClauses k m (u, e) = subst (λ (z : Known). Implies k.now z.now) (sym e) (implies_self k.now)
 clauses_implied c start (Default r js) k m (l, d, (u, e)) =
@@ -54,6 +54,6 @@ clauses_implied c start (Case x n r js cs) k m (l, d, later) =
     implies_after k.now (meet k.now (with_each Full (locks_of js) l.now)) m.now (meet_first k.now (with_each Full (locks_of js) l.now))
     (clauses_implied c start cs (or_clause k.now js l) m later)
 
--- an item without a lock does not change the rules' surroundings
+-- An item that locks no local does not change the context of the flow rules.
 pub nothing_locked : (c : Around) (js : Items) (k m : Known) → Derives (rule_items (record c { locks = c.locks ++ [] }) js k) m → Derives (rule_items c js k) m
 nothing_locked c js k m d = subst (λ ns. Derives (rule_items (record c { locks = ns }) js k) m) (append-nil c.locks) d

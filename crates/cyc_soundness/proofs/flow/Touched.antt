@@ -1,4 +1,5 @@
--- The body of a `try` touches no local that its clauses rely on, because the clauses begin without the locals that the body touches.
+-- The body of a `try` touches no local on which the clauses rely, because the clauses begin without the locals that the body
+-- touches.
 use Rattle.std.proofs.Common.{◌≡◌, ℕ, zero, suc, ◌+◌, Bool, true, false, List, [], ◌∷◌, ◌++◌, Option, Some, None, refl}
 use Rattle.std.specs.Prelude.{get_or, slice_set, if◌then◌else◌}
 use Rattle.cyc_types.specs.TypedTrees.{Local, Global, Expression, Number, NullPointer, HeapRegion, Counter, Copy, Move, Peek, Load, AddressOf, AddressOfCell, NumberOfElements, FreeUnique, FreeKey, Call, Unary, Binary}
@@ -150,7 +151,7 @@ asked_too true to is = to is
 
 -- ---- the state at the start of the clauses of a `try`
 
--- the state does not rely on any of these locals
+-- Says that a flow state does not rely on any of these locals.
 abbrev AreSpared : flow.State → List ℕ → Type 0
 AreSpared f ns = (n : ℕ) → IsAmong n ns → IsSparedBy f n
 
@@ -320,6 +321,6 @@ emptied_spares (n ∷ ns) f m (first as') = emptied_still ns (if is_locked (full
 emptied_spares (n ∷ ns) f m (later b as' is) = emptied_spares ns (if is_locked (fullness f n) then f else with_fullness Vacant f n) m is
 emptied_spares [] f m is = elim is [ ]
 
--- the body of a `try` touches no local that its clauses rely on
+-- The body of a `try` touches no local on which the clauses of the `try` rely.
 pub relied_body : (q : Relied) (k : ℕ) (s : Statement) (f : flow.State) → InStatement q k s → InStatement (emptied (touched_statement s []) f ∷ q) k s
 relied_body q k s f kept = relied_statement q (emptied (touched_statement s []) f) k s [] (emptied_spares (touched_statement s []) f) kept

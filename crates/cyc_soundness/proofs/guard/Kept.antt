@@ -1,5 +1,5 @@
--- The derivations of the rules are guarded. Each state of the rules is read as the set of locals that hold values, and can be chosen in the
--- guarded form.
+-- This file proves that the derivations of the flow rules are guarded. Each flow state is read as the set of locals that hold values, and
+-- can be chosen in the guarded form.
 use Rattle.std.proofs.Common.{◌≡◌, ℕ, Bool, true, false, cond, not, ◌&&◌, ◌||◌, nat_eq, List, [], ◌∷◌, ◌++◌, Option, Some, None, get_or, refl, sym, ap, subst, ◌∙◌}
 use Rattle.std.proofs.lemmas.Bool.{and_parts, not-true}
 use Rattle.cyc_words.proofs.Booleans.{or_false_right, or_true_right}
@@ -25,7 +25,7 @@ use Rattle.cyc_soundness.proofs.guard.Followed.{rests_back, before, before_initi
 use Rattle.cyc_soundness.proofs.guard.Followed.{followed_place, followed_placement, followed_converted, followed_side, BothFit, ItemFits, ItemsFit, caught_fits, followed_statement, followed_items, followed_item, falls, falls_items, falls_clauses}
 use Rattle.cyc_soundness.proofs.guard.Never.{never_items}
 
--- the pending peeks are exactly those of the guard
+-- Says that the peeks whose values are not yet used are exactly those of the guard.
 abbrev pub Waits : Guard → List ℕ → Type 0
 Waits p q = (n : ℕ) → p.peeked n ≡ has q n
 
@@ -37,7 +37,7 @@ waits_more : (o : Option ℕ) (p : Guard) (q : List ℕ) → Waits p q → Waits
 waits_more None p q h = h
 waits_more (Some m) p q h = λ n. peek_added (nat_eq m n) (p.peeked n) (has q n) (h n) ∙ sym (has_append q (m ∷ []) n)
 
--- a state below one state is below any equal state
+-- If a flow state has at least some facts, then every equal flow state has them too.
 moved_to : (f g : State) (h : Held) → f ≡ g → IsAtLeast (held_of f) h → IsAtLeast (held_of g) h
 moved_to f g h eq i = subst (λ x. IsAtLeast (held_of x) h) eq i
 
@@ -245,7 +245,7 @@ kept_declaration p n (Some c) f g ns j h new w r (b, x, (u, eq)) i = (
 
 -- ---- loops
 
--- the rules' facts about the enclosing loop, given the state after it
+-- The flow rules' facts about the enclosing loop, given the flow state after the loop.
 abbrev pub exits_at : Option Loop → Held → Option Exits
 exits_at None b = None
 exits_at (Some l) b = Some (record { head = held_of l.head; following = b })
@@ -260,7 +260,8 @@ kept_continue (Some l) f left b h (k, u) = h (held_of l.head) (tested left l.hea
 
 -- ---- catch clauses
 
--- the locals that the clauses of a `try` rely on: those that hold values at their start
+-- The locals on which the clauses of a `try` rely: the locals that hold values at the start of the
+-- clauses.
 record Caught (p : Guard) (ts : List ℕ) (f : State) : Type 0 where
   relied : ℕ → Bool
   reliable : IsReliable p relied (held_of f)
@@ -314,7 +315,7 @@ leaves_relying : (ls : List ℕ) (p o : Guard) (d : Bool) (r : ℕ → Bool) →
 leaves_relying ls p o true r h x = x
 leaves_relying ls p o false r h x = λ n. ((x n).0, (x n).1, λ s. h n ((x n).2 s))
 
--- The state after clauses is at most that before them.
+-- The flow state after clauses is at most the state before the clauses.
 clauses_fall : (c : Around) (start : State) (cs : Clauses) (k l : Known) → Derives (rule_clauses c start cs k) l → IsAtLeast (held_of k.now) (held_of l.now)
 clauses_fall c start NoClauses k l (u, eq) = subst (λ z. IsAtLeast (held_of k.now) (held_of z.now)) (sym eq) (at_least_same (held_of k.now))
 clauses_fall c start (Default b js) k l (m, x, (u, eq)) = subst (λ z. IsAtLeast (held_of k.now) (held_of z.now)) (sym eq) (meet_left k.now (with_each Full (locks_of js) m.now))
@@ -343,7 +344,7 @@ kept_loan p n m f g j h k1 k2 eq i =
     let lent : State = with_fullness Full (with_fullness Locked f m) n in
     (seen_kept p [] m f h k1 k2, at_least_trans (with_held true (held_of f) n) (held_of lent) j (lent_at_least f n m k1) (moved_to g lent j eq i))
 
--- items are unreachable or guarded
+-- A list of items is unreachable, or it is guarded.
 run_or_never : (p : Guard) (e : Bool) (x : Option Exits) (js : Items) (f : State) (j : Held) → Fits p e f → (e ≡ false → KeepsItems p x js (held_of f) j) → KeepsItems p x js (held_of f) j
 run_or_never p true x js f j h k = subst (λ g. KeepsItems p x js (held_of g) j) (sym h) (never_items p x js j)
 run_or_never p false x js f j h k = k refl

@@ -1,4 +1,5 @@
--- The states of the rules and their reading in proofs about runs: a lent local holds a value.
+-- This file defines the flow states of the rules and their meaning in proofs about runs: a lent
+-- local holds a value.
 use Rattle.std.proofs.Common.{◌≡◌, ◌⊎◌, ℕ, zero, suc, Bool, true, false, cond, not, ◌||◌, nat_eq, List, [], ◌∷◌, get_or, slice_set, inl, inr, refl, sym, ap, subst, ◌∙◌}
 use Rattle.std.proofs.lemmas.Bool.{and_parts}
 use Rattle.std.proofs.lemmas.List.{get_or-set_other}
@@ -15,7 +16,8 @@ held_of (Reached as') = Holds (is_full as')
 
 -- ---- changing one local of a list
 
--- after a change the local has the new value, or the list has no such local
+-- After the state of a local is changed, the local has the new state, or the list has no such
+-- local.
 pub set_here : (as' : List Fullness) (n : ℕ) (a : Fullness) → (get_or (slice_set as' n a) n Vacant ≡ a) ⊎ (get_or (slice_set as' n a) n Vacant ≡ get_or as' n Vacant)
 set_here [] n a = inr refl
 set_here (b ∷ bs) zero a = inl refl
@@ -34,7 +36,8 @@ set_vacant (b ∷ bs) (suc n) = set_vacant bs n
 pub set_other : (as' : List Fullness) (n : ℕ) (a : Fullness) (m : ℕ) → (m ≡ n → ⊥) → get_or (slice_set as' n a) m Vacant ≡ get_or as' m Vacant
 set_other as' n a m h = get_or-set_other as' n m a Vacant h
 
--- each local is either the changed one, or unchanged
+-- After the state of a local is changed, every local is either the changed one or has its old
+-- state.
 pub set_at : (as' : List Fullness) (n : ℕ) (a : Fullness) (m : ℕ) → ((n ≡ m) × (get_or (slice_set as' n a) m Vacant ≡ a)) ⊎ (get_or (slice_set as' n a) m Vacant ≡ get_or as' m Vacant)
 set_at as' n a m = go (nat_eq n m) (reflects n m)
   where
@@ -108,7 +111,7 @@ each_enough (a ∷ as') [] h n k = absurd (cc)
 each_enough (a ∷ as') (b ∷ bs) h zero k = full_enough a b (and_parts (is_as_full a b) (are_as_full as' bs) h).0 k
 each_enough (a ∷ as') (b ∷ bs) h (suc n) k = each_enough as' bs (and_parts (is_as_full a b) (are_as_full as' bs) h).1 n k
 
--- the rules' test decides the order on facts
+-- The test of the flow rules decides the order on facts about locals.
 pub tested : (f g : State) → is_at_least f g ≡ true → IsAtLeast (held_of f) (held_of g)
 tested Unreached g h = tt
 tested (Reached as') Unreached h = absurd (cc)
@@ -139,7 +142,7 @@ emptied_at_least (Reached as') n = λ m h. go m h (nat_eq n m) (reflects n m)
     go m h true (same e) = absurd (gone m e h)
     go m h false (other k) = subst (λ x. not (is_vacant x) ≡ true) (set_other as' n Vacant m k) h
 
--- a local that holds a value is lent, and another is declared
+-- Facts after a local that holds a value is lent and another local is declared.
 pub lent_at_least : (f : State) (n m : ℕ) → not (is_vacant (fullness f m)) ≡ true → IsAtLeast (with_held true (held_of f) n) (held_of (with_fullness Full (with_fullness Locked f m) n))
 lent_at_least Unreached n m s = tt
 lent_at_least (Reached as') n m s = λ k h. outer k h (set_at (slice_set as' m Locked) n Full k)
@@ -184,7 +187,7 @@ pub emptied_never : (ts : List ℕ) → emptied ts Unreached ≡ Unreached
 emptied_never [] = refl
 emptied_never (t ∷ ts) = emptied_never ts
 
--- the state after several locals were emptied
+-- The flow state after several locals were emptied.
 pub record Emptied (ts : List ℕ) (as' : List Fullness) (f : State) : Type 0 where
   pub left : List Fullness
   pub is : f ≡ Reached left

@@ -1,4 +1,5 @@
--- In a well-typed program declared numbers are fresh: a lent local is in scope, and a declared local has the next number.
+-- In a well-typed program the numbers of declared locals are fresh: a lent local is in scope, and a declared local has
+-- the next number.
 use Rattle.std.proofs.Common.{◌≡◌, ℕ, suc, ◌+◌, ◌<◌, ◌≤◌, Bool, true, false, cond, nat_eq, List, [], ◌∷◌, Some, None, length, refl, subst, arith, inl, inr}
 use Rattle.cyc_types.specs.Types.{Ty}
 use Rattle.cyc_types.specs.Declarations.{declared_types, item_types}
@@ -9,11 +10,11 @@ use Rattle.cyc_soundness.proofs.guard.Bools.{Reflects, same, other, reflects}
 use Rattle.cyc_soundness.proofs.guard.Numbers.{IsFresh, AreFresh, AreFreshClauses}
 use Rattle.cyc_soundness.proofs.guard.Whole.{AreAllFresh}
 
--- all lent locals have numbers below this one
+-- Says that all lent locals have numbers below m.
 abbrev pub AreBelow : (locked : ℕ → Bool) → ℕ → Type 0
 AreBelow w m = (n : ℕ) → w n ≡ true → n < m
 
--- all locals in scope have numbers below this one
+-- Says that all locals in scope have numbers below m.
 abbrev pub InScope : List LocalInScope → ℕ → Type 0
 InScope [] m = Unit {0}
 InScope (v ∷ vs) m = (v.number < m) × InScope vs m
@@ -30,7 +31,7 @@ found_below [] m n t r h x = absurd x
 found_below (v ∷ vs) m n t r (h, k) (inl (e, y, z)) = subst (λ i. i < m) e h
 found_below (v ∷ vs) m n t r (h, k) (inr x) = found_below vs m n t r k x
 
--- the next local is not lent
+-- The local that is declared next is not lent.
 next_fresh : (w : ℕ → Bool) (m n : ℕ) → AreBelow w m → n ≡ m → w n ≡ false
 next_fresh w m n h e = go (w n) (h n)
   where

@@ -1,4 +1,5 @@
--- CELLS that a step reads and writes: those of variables, and those that a pointer leads to.
+-- This file is about the cells that a step reads and writes: cells of variables, and cells to which
+-- a pointer points.
 use Rattle.std.proofs.Common.{◌≡◌, ◌≢◌, Option, ℕ, zero, suc, ◌≤◌, ◌<◌, Bool, true, false, List, [], ◌∷◌, Some, None, slice_get, refl, sym, ap, subst, ◌∙◌, arith}
 use Rattle.std.specs.Prelude.{if◌then◌else◌}
 use Rattle.std.proofs.lemmas.Option.{same_Some}
@@ -29,7 +30,7 @@ use Rattle.cyc_soundness.proofs.states.StillHands.{variables_grown, given_typed}
 use Rattle.cyc_soundness.proofs.states.CallHands.{hands_globals, variables_marked}
 use Rattle.cyc_soundness.proofs.states.StackLocals.{open_of, globals_among, kept_open, object_known, open_outlasting, IsPresent, outlasting_open, lent_held}
 
--- a typed state, assembled from its parts
+-- A typed state is assembled from its parts.
 pub running : (p : Program) (g : Typing) (x : Exits) (bs : List InScope) (e : Environment) (w : World) → IsTyped g w.regions w.objects → KnowsProgram g p → IsBound e.locals e.counters bs → AreVariables g bs
     → (focus : Focus) (k : List Entry) → LiveIn k bs → IsFocus p g x bs focus k → IsWell p (Running focus k e w)
 running p g x bs e w typed globals bound variables focus k live stands =
@@ -37,7 +38,7 @@ running p g x bs e w typed globals bound variables focus k live stands =
 
 -- ---- targets of pointers
 
--- a lifetime that outlasts a shared lifetime is also a shared one
+-- If a lifetime outlasts a shared lifetime, then it is a shared lifetime too.
 pub outlasts_common : (l m : Life) → Outlasts l m → IsCommonLife m → IsCommonLife l
 outlasts_common l m (alike _) common = common
 outlasts_common l m (for_ever _) common = tt
@@ -56,7 +57,7 @@ open_object g regions object (OfRegion number around lent) common opens = opens
 open_object g regions object (Kept a) common opens = opens
 open_object g regions object Owned common opens = absurd common
 
--- a resource that is peeked at or held by an operand has a holder
+-- A resource at which a peek looks, or that an operand holds, has a holder.
 pub part_had : (g : Typing) (i : ℕ) (peek : Option ℕ) (o : Option Thing) → ClaimsPart g i peek o → IsHad g o
 part_had g i None None is = tt
 part_had g i (Some n) None is = tt
@@ -71,7 +72,7 @@ kept_same a b same = ap thing_in same
     thing_in l = a
 
 module _ (g : Typing) (w : World) (typed : IsTyped g w.regions w.objects) where
-  -- no cell contains a struct
+  -- No cell of an object contains a struct.
   never_struct : (number : ℕ) (x : ObjectType) (n : ℕ) (ls : List Life) (offset : ℕ) → slice_get g.objects number ≡ Some x → slice_get x.cells offset ≡ Some (Struct n ls) → IsFilled g number (suc offset) → ⊥
   never_struct number x n ls offset there at (m, flag, enough) =
       let (y, k, stands, filled, is) = typed.each number x there in
@@ -107,7 +108,7 @@ module _ (g : Typing) (w : World) (typed : IsTyped g w.regions w.objects) where
   common_there k object y (OfRegion number around lent) there opens outlasts lasting had = life_by k object y (OfRegion number around lent) there opens outlasts lasting
   common_there k object y (Kept a) there opens outlasts lasting had = life_by k object y (Kept a) there opens outlasts lasting
 
-  -- a unique object is live as long as its pointer has a holder, also while it is lent
+  -- A unique object is live as long as its pointer has a holder, even while the object is lent.
   lent_there : (ns : List ℕ) (object : ℕ) (l m : Life) → l ≡ Kept (PointerTo object) → Outlasts l m → IsPresent g ns m → IsHad g (pointer_at m object) → IsHeld (g.own (PointerTo object))
   lent_there ns object l m same (alike _) lasting had = lent_held g.loans (g.own (PointerTo object)) (subst (λ z. IsPresent g ns z) same lasting).1
   lent_there ns object l m same (for_ever _) lasting had = let z : heap_life ≡ Kept (PointerTo object) = same in absurd (cc)
@@ -118,7 +119,7 @@ module _ (g : Typing) (w : World) (typed : IsTyped g w.regions w.objects) where
   lent_there ns object l m same (borrows o) lasting had = had
   lent_there ns object l m same (encloses a b as' bs us vs end more) lasting had = let z : OfRegion a as' us ≡ Kept (PointerTo object) = same in absurd (cc)
 
-  -- the object that a pointer leads to is live
+  -- The object to which a pointer points is live.
   pub life_of : (k : List Entry) (object : ℕ) (y : ObjectType) (m : Life) → slice_get g.objects object ≡ Some y → AreOpen w.regions (ends_of k) → Outlasts (life_at object y.life) m → IsPresent g (ends_of k) m → IsHad g (pointer_at m object) → IsOpenObject g w.regions object y.life
   life_of k object y m there opens outlasts lasting had = go y.life refl outlasts
     where
@@ -129,14 +130,14 @@ module _ (g : Typing) (w : World) (typed : IsTyped g w.regions w.objects) where
       go (Kept a) same out =
           subst (λ z. IsOpenObject g w.regions object z) same (common_there k object y m there opens (subst (λ z. Outlasts z m) (sym same) out) lasting had)
 
-  -- the target object of a typed pointer is live
+  -- The target object of a typed pointer is live.
   pub target_live : (k : List Entry) (t : RunTy) (l : Life) (object offset : ℕ) → AreOpen w.regions (ends_of k) → IsPresent g (ends_of k) l → IsHad g (pointer_at l object) → IsTarget g t l object offset → (x : Object) × (object_at w object ≡ Found x)
   target_live k t l object offset opens lasting had (x, there, shown, outlasts, part) =
       let (y, m, stands, flag, is) = typed.each object x there in
       let open' = life_of k object x l there opens outlasts lasting had in
       (y, ap (λ o. found_object w o) stands ∙ ap (λ (b : Bool). if b then Found y else Closed) (live_object g w object x y typed there stands is.owner open'))
 
--- a place that is not a struct holds a value
+-- A memory location that is not a struct holds a value.
 pub value_part : (n : Lives) (g : Typing) (object : ℕ) (x : ObjectType) (t : Ty) (offset : ℕ) → is_struct t ≡ false → IsPart g object x (at n t) offset → (slice_get x.cells offset ≡ Some (at n t)) × IsFilled g object (suc offset)
 value_part n g object x types.Int offset plain is = is
 value_part n g object x types.Char offset plain is = is
@@ -204,7 +205,7 @@ plain_unkept (Key (OfRegion number ns us)) plain = tt
 plain_unkept (Key Owned) plain = tt
 plain_unkept (Struct n ls) plain = tt
 
--- a type that is neither a key nor a unique pointer is plain
+-- A type that is not a key and determines its claims is plain.
 pub both_plain : (t : RunTy) → IsKeyless t → IsByType t → IsPlain t
 both_plain Int keyless by = tt
 both_plain Char keyless by = tt
@@ -222,7 +223,7 @@ shared_claims g w number offset y t typed there shown at by h v = let (x, m, sta
 -- ---- reads and writes
 
 module _ (p : Program) (g : Typing) (x : Exits) (bs : List InScope) (e : Environment) (w : World) (typed : IsTyped g w.regions w.objects) (globals : KnowsProgram g p) (bound : IsBound e.locals e.counters bs) (variables : AreVariables g bs) where
-  -- the content of a cell that is read
+  -- The content of a cell that a step reads.
   pub record Content (kind : Kind) (number offset : ℕ) (t : RunTy) : Type 0 where
     pub value : values.Value
     pub has : HasType g t value
@@ -252,7 +253,7 @@ module _ (p : Program) (g : Typing) (x : Exits) (bs : List InScope) (e : Environ
             ∙ ap (λ o. read kind o k e w) content;
       }
 
-  -- reading a cell leads to a typed state
+  -- Reading a cell yields a typed state.
   pub reads : (k : List Entry) (kind : Kind) (number offset : ℕ) (t : RunTy) (y : ObjectType) (f : flow.State) → LiveIn k bs → Holds g f bs
       → slice_get g.objects number ≡ Some y → slice_get y.cells offset ≡ Some t → IsOpenObject g w.regions number y.life → IsFilled g number (suc offset) → kind_at t ≡ kind
       → (r : RunValue) → ((v : values.Value) → HasType g t v → IsResult g r (record { kind = kind; value = v })) → ((c : Content kind number offset t) → ClaimsBy g (operands_in k) r c.value) → IsStack p g x bs (Val r f) k
@@ -261,7 +262,7 @@ module _ (p : Program) (g : Typing) (x : Exits) (bs : List InScope) (e : Environ
       let c = content_of kind number offset t y at cells opens filled same in
       subst (λ s. IsWell p s) (sym (c.loads k e)) (running p g x bs e w typed globals bound variables (Given (record { kind = kind; value = c.value })) k live (r, f, holds, fits c.value c.has, comes c, stack))
 
-  -- writing a known cell leads to a typed state, whose typing has grown
+  -- Writing a known cell yields a typed state, whose typing has grown.
   module _ (v : Operand) (focus : Focus) (k : List Entry) (number offset m : ℕ) (t : RunTy) (y : ObjectType) (here : ℕ → Standing) where
     abbrev pub written_typing : Typing
     written_typing = record (with_filled g number (risen offset m)) { here = here }
@@ -297,7 +298,7 @@ module _ (p : Program) (g : Typing) (x : Exits) (bs : List InScope) (e : Environ
         (cell_written g w number offset y t v.value typed at cells c few_too is.1 g.own here g.pending (λ a held. held) (λ a none. none) (λ object i hidden apart kept a has. has) (λ object i hidden apart kept. before object i hidden apart kept) (λ i u found apart kept. beside i u found apart kept) (λ kept. claims kept) free lasts (λ object j a has. has))
         (globals_grown g h (record { objects = grows.objects; filled = grows.filled; fields = grows.fields; kept = grows.kept }) p (λ n ls. refl) globals) bound (variables_grown (record g { here = here }) h changed bs (variables_marked g here bs variables)) focus k live (goes_on changed now)))
 
-  -- reading a place that a pointer leads to
+  -- Reading the target of a pointer yields a typed state.
   pub reads_target : (k : List Entry) (kind : Kind) (object offset : ℕ) (n : Lives) (t : Ty) (l : Life) (f : flow.State) → AreOpen w.regions (ends_of k) → LiveIn k bs → IsPresent g (ends_of k) l → IsHad g (pointer_at l object) → Holds g f bs
       → IsTarget g (at n t) l object offset → IsByType (at n t) → is_struct t ≡ false → kind_at (at n t) ≡ kind → IsStack p g x bs (Val (Value (at n t)) f) k
       → IsWell p (loaded kind (cell_at w object offset) k e w)
@@ -309,7 +310,7 @@ module _ (p : Program) (g : Typing) (x : Exits) (bs : List InScope) (e : Environ
 
 -- ---- storing an operand's value
 
--- the change relation with the standing of variables written out
+-- The relation `Changed` holds if it holds with the standing of variables written out.
 changed_from : (old : Holder) (g h : Typing) → Changed old (record g { here = g.here }) h → Changed old g h
 changed_from old g h changed = record {
   grows = record { objects = changed.grows.objects; filled = changed.grows.filled; fields = changed.grows.fields; kept = changed.grows.kept };
@@ -321,7 +322,7 @@ changed_from old g h changed = record {
   loans = changed.loans;
 }
 
--- a resource that had a holder still has one
+-- A resource that had a holder still has a holder after a transfer.
 pub held_still : (own : Thing → Holder) (o : Option Thing) (new : Holder) (a : Thing) → IsHeld new → IsHeld (own a) → IsHeld (given o new own a)
 held_still own None new a now held = held
 held_still own (Some b) new a now held = go (same_thing a b)
@@ -336,7 +337,7 @@ open_still g o new regions object (Kept a) now opens = opens
 open_still g o new regions object Owned now held = held_still g.own o new (PointerTo object) now held
 
 module _ (p : Program) (g : Typing) (x : Exits) (bs : List InScope) (e : Environment) (w : World) (typed : IsTyped g w.regions w.objects) (globals : KnowsProgram g p) (bound : IsBound e.locals e.counters bs) (variables : AreVariables g bs) where
-  -- a value moves from an operand into a cell
+  -- A value moves from an operand into a cell.
   module _ (v : Operand) (focus : Focus) (k : List Entry) (number offset m i : ℕ) (t : RunTy) (y : ObjectType) (here : ℕ → Standing) where
     abbrev pub stored_given : Typing
     stored_given = giving g (thing_of t v.value) (At number offset)
@@ -358,7 +359,7 @@ module _ (p : Program) (g : Typing) (x : Exits) (bs : List InScope) (e : Environ
         (λ object j hidden apart kept. before object j hidden apart kept) (λ j u found apart kept. beside j u found apart kept) free lasts (λ kept. (given_now g.own thing its, claims.1))
         (λ more now. goes (changed_after (Hand i) (record g { here = here }) (record stored_given { here = here }) stored_typing (giving_changed (record g { here = here }) thing (Hand i) its claims.0) more) now)
 
-  -- storing a value without changing the standing of variables
+  -- A value is stored, and no variable gains or loses its content.
   pub stores_on : (v : Operand) (focus : Focus) (k : List Entry) (number offset m i : ℕ) (t : RunTy) (y : ObjectType) → LiveIn k bs → slice_get g.objects number ≡ Some y → slice_get y.cells offset ≡ Some t → IsOpenObject g w.regions number y.life
       → slice_get g.filled number ≡ Some m → offset ≤ m → y.is_hidden ≡ false → IsResult g (Value t) v → Claims g.own (Hand i) t v.value
       → (Changed (Hand i) g (stored_typing v focus k number offset m i t y g.here) → IsFilled (stored_typing v focus k number offset m i t y g.here) number (suc offset) → IsFocus p (stored_typing v focus k number offset m i t y g.here) x bs focus k)
@@ -367,7 +368,7 @@ module _ (p : Program) (g : Typing) (x : Exits) (bs : List InScope) (e : Environ
       stores_marking v focus k number offset m i t y g.here live at cells opens flag few is claims (λ object j hidden apart kept. kept) (λ j u found apart kept. kept)
       (λ hides. let z : true ≡ false = sym hides ∙ shown in absurd (cc)) (λ object j apart now. now) (λ changed now. goes (changed_from (Hand i) g (stored_typing v focus k number offset m i t y g.here) changed) now)
 
-  -- writing the cell that a pointer leads to
+  -- Writing the cell to which a pointer points yields a typed state.
   pub writes_target : (v : Operand) (k : List Entry) (object offset i : ℕ) (t : RunTy) (l : Life) (focus : Focus) → AreOpen w.regions (ends_of k) → LiveIn k bs → IsPresent g (ends_of k) l → IsHad g (pointer_at l object)
       → IsTarget g t l object offset → IsResult g (Value t) v → Claims g.own (Hand i) t v.value → ((h : Typing) → Changed (Hand i) g h → IsFocus p h x bs focus k)
       → IsWell p (stored (cell_at w object offset) object offset v focus k e w)

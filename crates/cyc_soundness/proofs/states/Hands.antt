@@ -1,5 +1,5 @@
--- RESOURCES CHANGE HOLDERS: keys, and pointers to unique objects. All resources that the step does not move keep their holders, so typed
--- parts stay typed.
+-- This file is about resources that change holders: keys, and pointers to unique objects. All resources that the step does not move keep
+-- their holders, so typed parts stay typed.
 use Rattle.std.proofs.Common.{◌≡◌, ◌≢◌, ℕ, Bool, true, false, List, [], ◌∷◌, set, Option, Some, None, slice_get, refl, sym, ap, subst, ◌∙◌, inl, inr, eqb}
 use Rattle.std.specs.Prelude.{if◌then◌else◌, ◌==◌}
 use Rattle.std.proofs.lemmas.Bool.{eqb-true, eq-eqb, false_from_ne_true}
@@ -28,7 +28,7 @@ the_same (PointerTo m) (PointerTo n) e = ap (λ i. PointerTo i) (eqb-true m n e)
 the_same (KeyOf m) (PointerTo n) e = absurd (let k : false ≡ true = e in cc)
 the_same (PointerTo m) (KeyOf n) e = absurd (let k : false ≡ true = e in cc)
 
--- a transferred resource belongs to its new holder
+-- A resource that is transferred belongs to its new holder.
 pub given_now : (own : Thing → Holder) (o : Option Thing) (h : Holder) → Owns (given o h own) h o
 given_now own None h = tt
 given_now own (Some a) h = ap (λ (z : Bool). if z then h else own a) (thing_is_itself a)
@@ -37,12 +37,12 @@ by_test : {A : Type 0} (b : Bool) (x y z : A) → (b ≡ true → y ≡ z) → (
 by_test true x y z one two = one refl
 by_test false x y z one two = two refl
 
--- every other resource keeps its holder
+-- Every resource that is not transferred keeps its holder.
 pub given_other : (own : Thing → Holder) (o : Option Thing) (old new : Holder) (a : Thing) → Owns own old o → own a ≢ old → given o new own a ≡ own a
 given_other own None old new a has apart = refl
 given_other own (Some b) old new a has apart = by_test (same_thing a b) (own a) new (own a) (λ e. absurd (apart (ap own (the_same a b e) ∙ has))) (λ e. refl)
 
--- a resource that has a holder after the transfer had one before
+-- A resource that has a holder after the transfer also had a holder before it.
 pub held_before : (own : Thing → Holder) (o : Option Thing) (old new : Holder) (a : Thing) → Owns own old o → IsHeld old → IsHeld (given o new own a) → IsHeld (own a)
 held_before own None old new a has held now = now
 held_before own (Some b) old new a has held now = go (same_thing a b) refl now
@@ -51,19 +51,19 @@ held_before own (Some b) old new a has held now = go (same_thing a b) refl now
     go true e now = subst (λ h. IsHeld h) (sym (ap own (the_same a b e) ∙ has)) held
     go false e now = now
 
--- the new holder also keeps the resources that it had before
+-- After a transfer, the new holder still has the resources that it had before.
 pub given_too : (own : Thing → Holder) (o q : Option Thing) (h : Holder) → Owns own h q → Owns (given o h own) h q
 given_too own o None h has = tt
 given_too own None (Some b) h has = has
 given_too own (Some a) (Some b) h has = by_test (same_thing b a) (own b) h h (λ e. refl) (λ e. has)
 
--- resources of different holders are different
+-- Resources that have different holders are different.
 pub given_apart : (own now : Thing → Holder) (o q : Option Thing) (h k new : Holder) → Owns own h o → Owns own k q → h ≢ k → Owns now k o → Owns (given q new now) k o
 given_apart own now None q h k new has its apart is = tt
 given_apart own now (Some a) None h k new has its apart is = is
 given_apart own now (Some a) (Some b) h k new has its apart is = by_test (same_thing a b) (now a) new k (λ e. absurd (apart (sym has ∙ ap own (the_same a b e) ∙ its))) (λ e. is)
 
--- a resource without a holder has none after the transfer
+-- A resource without a holder has no holder after the transfer either.
 pub nobody_before : (own : Thing → Holder) (o : Option Thing) (old new : Holder) (a : Thing) → Owns own old o → IsHeld old → own a ≡ Nobody → given o new own a ≡ Nobody
 nobody_before own None old new a has held none = none
 nobody_before own (Some b) old new a has held none = by_test (same_thing a b) (own a) new Nobody (λ e. absurd (subst (λ h. IsHeld h) (sym has ∙ ap own (sym (the_same a b e)) ∙ none) held)) (λ e. none)
@@ -77,7 +77,7 @@ marked_other object b here n apart = other_number n object b (here n) apart
 pub marked_before : (object : ℕ) (b : Standing) (here : ℕ → Standing) (n : ℕ) (s : Standing) → n ≢ object → marked object b here n ≡ s → here n ≡ s
 marked_before object b here n s apart e = sym (marked_other object b here n apart) ∙ e
 
--- a variable that receives content keeps its standing, if it had content before
+-- A variable that receives content and already had content keeps its standing `Here`.
 pub marked_keeps : (object : ℕ) (here : ℕ → Standing) (n : ℕ) → here n ≡ Here → marked object Here here n ≡ Here
 marked_keeps object here n is = by_test (n == object) (here n) Here Here (λ e. refl) (λ e. is)
 
@@ -105,7 +105,7 @@ lent_no_hand i m j e = let k : Lent i m ≡ Hand j = e in absurd (cc)
 pub lent_not_at : (i m n o : ℕ) → Lent i m ≢ At n o
 lent_not_at i m n o e = let k : Lent i m ≡ At n o = e in absurd (cc)
 
--- a variable whose content is lent does not hold it
+-- A variable whose content is lent does not hold its content.
 pub away_not_here : (a : Standing) (j : ℕ) → a ≡ Away j → a ≡ Here → ⊥
 away_not_here a j away here = let k : Away j ≡ Here = sym away ∙ here in absurd (cc)
 
@@ -123,8 +123,8 @@ at_some m n e = let k : At m n ≡ Nobody = e in absurd (cc)
 
 -- ---- the change relation
 
--- The resources of one holder go to another. Nothing else changes, except that facts are added and variables receive content, unless they
--- have lent theirs.
+-- The resources of one holder go to another holder. Nothing else changes, except that facts are added and that variables receive content,
+-- unless they have lent their content.
 pub record Changed (old : Holder) (g h : Typing) : Type 0 where
   pub grows : Grows g h
   pub own : (a : Thing) → g.own a ≢ old → h.own a ≡ g.own a
@@ -167,7 +167,7 @@ same_grows g own here = record { objects = λ n u is. is; filled = λ n count is
 pub giving_changed : (g : Typing) (o : Option Thing) (old new : Holder) → Owns g.own old o → Changed old g (giving g o new)
 giving_changed g o old new has = record { grows = same_grows g (given o new g.own) g.here; own = λ a apart. given_other g.own o old new a has apart; here = λ object is apart. is; away = λ object j hides is apart other. is; pending = refl; depth = refl; loans = refl }
 
--- a resource moves out of a variable, or into one
+-- A resource moves out of a variable, or into a variable.
 pub handing_changed : (g : Typing) (o : Option Thing) (old new : Holder) (object : ℕ) (b : Standing) → Owns g.own old o → (b ≡ Here → (j : ℕ) → g.here object ≡ Away j → Lent j object ≡ old) → ((b ≡ Here → ⊥) → old ≡ At object 0)
     → Changed old g (handing g o new object b)
 handing_changed g o old new object b has back from = record {
@@ -196,12 +196,11 @@ handing_changed g o old new object b has back from = record {
     away Gone back from n j hides is apart other = marked_other object Gone g.here n (apart_from n (from (λ e. let k : Gone ≡ Here = e in absurd (cc))) apart) ∙ is
     away (Away i) back from n j hides is apart other = marked_other object (Away i) g.here n (apart_from n (from (λ e. let k : Away i ≡ Here = e in absurd (cc))) apart) ∙ is
 
--- a variable loses its content
+-- A variable loses its content to a new holder.
 pub gone_changed : (g : Typing) (o : Option Thing) (new : Holder) (object : ℕ) → Owns g.own (At object 0) o → Changed (At object 0) g (handing g o new object Gone)
 gone_changed g o new object has = handing_changed g o (At object 0) new object Gone has (λ e. let k : Gone ≡ Here = e in absurd (cc)) (λ other. refl)
 
--- A variable receives content. Receiving content does not affect holders that have lent other resources, nor a variable that pointers may
--- lead to.
+-- A variable receives content. This affects neither holders that have lent other resources nor a variable to which pointers may point.
 pub marked_changed : (g : Typing) (object : ℕ) → Changed (At object 0) g (record g { here = marked object Here g.here })
 marked_changed g object = record {
   grows = same_grows g g.own (marked object Here g.here);
@@ -225,7 +224,7 @@ shown_changed g object y there shown = record {
   loans = refl;
 }
 
--- facts about locals stay true if full locals keep their contents
+-- Facts about locals stay true if all full locals keep their contents.
 module _ (g h : Typing) (grows : Grows g h) (depth : h.depth ≡ g.depth) where
   one_here : (f : flow.State) (b : InScope) → ((n object : ℕ) → IsFullIn f n → IsHere g g.depth n object → IsHere h g.depth n object) → HoldsIts g f b → HoldsIts h f b
   one_here f (Variable b) now (set, full) = (λ s. grows.filled b.object 1 (set s), λ s. subst (λ d. IsHere h d b.number b.object) (sym depth) (now b.number b.object s (full s)))
@@ -291,11 +290,11 @@ module _ (old : Holder) (g h : Typing) (changed : Changed old g h) where
   one_kept (Instance these live) none is = λ n. (life_grown g h changed.grows (these n) (is n).0, λ e. open_kept (these n) none ((is n).1 e))
   one_kept b none is = tt
 
-  -- if all loans are kept, the variables in scope stay typed
+  -- If all loans are preserved, then the variables in scope stay typed.
   pub variables_kept : (bs : List InScope) → is_lent_by g.loans old ≡ false → AreVariables g bs → AreVariables h bs
   variables_kept [] none are = tt
   variables_kept (b ∷ bs) none (is, are) = (one_kept b none is, variables_kept bs none are)
 
-  -- facts about locals stay true if none of the locals was the old holder
+  -- Facts about locals stay true if none of these locals was the old holder of the resource.
   pub holds_kept : (f : flow.State) (bs : List InScope) → ((n object : ℕ) → IsFullIn f n → IsHere g g.depth n object → At object 0 ≢ old) → Holds g f bs → Holds h f bs
   holds_kept f bs other holds = holds_here g h changed.grows changed.depth f bs (λ n object full here. here_kept g.depth n object (other n object full here) here) holds

@@ -1,4 +1,4 @@
--- A waiting entry keeps its types whoever claims the resource, and an entry that waits for no value is only dropped.
+-- A stack entry keeps its types for every holder of the resource, and an entry that awaits no value is only dropped.
 use Rattle.std.proofs.Common.{◌≡◌, ◌≢◌, inl, inr, ℕ, ◌≤◌, ◌<◌, ◌+◌, Bool, true, false, List, [], ◌∷◌, Option, Some, None, slice_get, refl, sym, ap, subst, ◌∙◌, arith}
 use Rattle.std.specs.Prelude.{if◌then◌else◌, suc, length, get_or}
 use Rattle.std.proofs.lemmas.Option.{same_Some}
@@ -28,7 +28,7 @@ use Rattle.cyc_soundness.proofs.states.Hands.{Changed, stays_changed, owns_kept,
 use Rattle.cyc_soundness.proofs.states.StackLemmas.{relied_if, IsAboveBy, IsAbove, above_by, hand_other, lent_other, looked_other, none_lent, operands_long, above_to, statement_spared, ends_relied}
 use Rattle.cyc_soundness.proofs.states.StackLemmas.{no_fewer, part_spared, waits_whole, place_whole, goes_relied, above_after, above_outside, relied_other, only_full, lender_other, outer_other, array_grown, full_at_grown}
 
--- the local with a pending peek into which a stored operand points
+-- The local with an unused peek into which a stored operand points.
 abbrev held_peek : Awaiting → Option ℕ
 held_peek (ApplyPointer peek operator left) = peek
 held_peek (StoreCell peek place) = peek
@@ -46,7 +46,7 @@ looked_unspared (Some m) q n e spared =
     let one : is_full (get_or (only m) n Vacant) ≡ false = spared.0 in
     let z : true ≡ false = sym (ap is_full (ap (λ i. get_or (only i) n Vacant) same ∙ only_full n)) ∙ one in absurd (cc)
 
--- an enclosing state relies on the local with the pending peek
+-- An enclosing flow state relies on the local whose peek is not yet used.
 unspared : (a : Awaiting) (q r : Relied) (n : ℕ) → held_peek a ≡ Some n → IsSpared (relied_by (part a) q r) n → ⊥
 unspared (ApplyPointer peek operator left) q r n e spared = looked_unspared peek r n e spared
 unspared (StoreCell peek place) q r n e spared = looked_unspared peek r n e spared
@@ -122,7 +122,7 @@ changed_outside old g h d changed = record {
   loans = changed.loans;
 }
 
--- variables keep their contents and their loans
+-- Says that all variables keep their contents and their loans.
 abbrev pub AreStill : Typing → Typing → Type 0
 AreStill g h = (object : ℕ) → h.here object ≡ g.here object
 
@@ -130,12 +130,12 @@ clauses_spared : (empties : Bool) (f : flow.State) (q : Relied) (n : ℕ) → Is
 clauses_spared false f q n spared = tt
 clauses_spared true f q n spared = spared.1
 
--- facts about locals stay true if no local is emptied, or if the emptied locals are others
+-- Facts about locals stay true if no local is emptied, or if the emptied locals are other locals.
 holds_by : (empties : Bool) (old : Holder) (g h : Typing) (f : flow.State) (bs : List InScope) → (empties ≡ false → AreStill g h) → Changed old g h → (empties ≡ true → (n object : ℕ) → IsFullIn f n → IsHere g g.depth n object → At object 0 ≢ old) → Holds g f bs → Holds h f bs
 holds_by false old g h f bs still changed other holds = holds_here g h changed.grows changed.depth f bs (λ n object full here. (still refl object ∙ here.0, slot_kept old g h changed g.depth n object here.1)) holds
 holds_by true old g h f bs still changed other holds = holds_kept old g h changed f bs (other refl) holds
 
--- a variable that has lent its content has still lent it
+-- A variable that has lent its content before a step has still lent it after the step.
 lent_still : (empties : Bool) (old : Holder) (g h : Typing) (x y : Exits) (k : List Entry) (lent j : ℕ) (t : RunTy) (object : ℕ) → (empties ≡ false → AreStill g h) → Changed old g h → x ≡ lending y lent → IsAboveBy empties x g (EndLoan lent ∷ k) old → j < g.loans
     → IsLentOut g lent j t object → IsLentOut h lent j t object
 lent_still empties old g h x y k lent j t object still changed same above less (l, there, away) = (
@@ -149,7 +149,8 @@ lent_still empties old g h x y k lent j t object still changed same above less (
     go true still above = changed.away object j (variable_type t l true (OfLocal g.depth lent), there, refl) away
         (lender_other x y g k lent old object same above (variable_type t l true (OfLocal g.depth lent), there, refl)) (lent_other true x g (EndLoan lent ∷ k) j object old above less)
 
--- A stack stays typed when a resource changes its holder, if nothing on the stack claims that resource.
+-- A stack stays typed when a resource changes its holder, if no entry of the stack claims this
+-- resource.
 pub stack_by : (empties : Bool) (p : Program) (old : Holder) (g h : Typing) (x : Exits) (bs : List InScope) (w : Want) (k : List Entry) → (empties ≡ false → AreStill g h) → Changed old g h → IsAboveBy empties x g k old → IsStack p g x bs w k → IsStack p h x bs w k
 stack_by empties p old g h x bs Nothing [] still changed above is = changed.pending ∙ is
 stack_by empties p old g h x bs (Val r f) (Needs a ∷ k) still changed above (ts, cs, next, waits, are, rest) = (
@@ -235,7 +236,7 @@ stack_by empties p old g h x bs w k still changed above is = absurd is
 pub stack_changed : (p : Program) (old : Holder) (g h : Typing) (x : Exits) (bs : List InScope) (w : Want) (k : List Entry) → Changed old g h → IsAbove x g k old → IsStack p g x bs w k → IsStack p h x bs w k
 stack_changed p old g h x bs w k changed above is = stack_by true p old g h x bs w k (λ e. (let z : true ≡ false = e in absurd (cc))) changed (above_by x g k old above) is
 
--- a stack that is typed has no pending swap
+-- A stack that is typed has no incomplete swap.
 pub settled : (p : Program) (g : Typing) (x : Exits) (bs : List InScope) (w : Want) (k : List Entry) → IsStack p g x bs w k → g.pending ≡ Settled
 settled p g x bs Nothing [] is = is
 settled p g x bs (Val r f) (Needs a ∷ k) (ts, cs, next, waits, are, rest) = settled p g x cs next k rest
@@ -253,7 +254,7 @@ settled p g x bs (Go f) (Caller e ∷ k) (y, cs, end, d, depth, loop, blocked, g
 settled p g x bs (Go f) (Main ∷ k) (loop, int, gives, blocked, rest) = settled p g x bs Nothing k rest
 settled p g x bs w k is = absurd is
 
--- a stack stays typed when the typing grows and no resource changes its holder
+-- A stack stays typed when the typing grows and no resource changes its holder.
 pub stack_grown : (p : Program) (g h : Typing) → Stays g h → (x : Exits) (bs : List InScope) (w : Want) (k : List Entry) → IsStack p g x bs w k → IsStack p h x bs w k
 stack_grown p g h same x bs w k is = stack_changed p Nobody g h x bs w k (stays_changed Nobody g h same) tt is
 
@@ -272,7 +273,7 @@ void_converts c (types.Handle r) conv = conv
 void_converts c (types.Key r) conv = conv
 void_converts c (types.Struct n rs) conv = conv
 
--- an operator on pointers has no operand without a value
+-- The left operand of a pointer operator is never `void`.
 pub pointer_left : {c : Context} {o : PointerOperator} {u v w : ValueType} → PointerOperation c o u v w → u ≡ types.Void → ⊥
 pointer_left (adds t r other) e = let k : types.Value (types.Pointer marks.Fat t r) ≡ types.Void = e in absurd (cc)
 pointer_left (subtracts t r other) e = let k : types.Value (types.Pointer marks.Fat t r) ≡ types.Void = e in absurd (cc)

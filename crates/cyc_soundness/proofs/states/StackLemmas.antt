@@ -1,4 +1,5 @@
--- The typing of stacks: it is kept when the typing of the world grows. Facts about the locals in scope.
+-- This file is about the typing of stacks, which is preserved when the typing of the world grows, and
+-- about the locals in scope.
 use Rattle.std.proofs.Common.{◌≡◌, ◌≢◌, inl, inr, ℕ, ◌≤◌, ◌<◌, ◌+◌, Bool, true, false, List, [], ◌∷◌, Option, Some, None, slice_get, refl, sym, ap, subst, ◌∙◌, arith}
 use Rattle.std.specs.Prelude.{if◌then◌else◌, nat_lt, ◌⊎◌, zero, suc, length, get_or}
 use Rattle.std.proofs.lemmas.Bool.{ltb-true, false_from_ne_true}
@@ -21,7 +22,7 @@ use Rattle.cyc_soundness.specs.inside.Stacks.{IsStack}
 use Rattle.cyc_soundness.proofs.flow.FlowLemmas.{full_put}
 use Rattle.cyc_soundness.proofs.states.Hands.{hand_same, at_same, at_no_hand, at_not_lent, at_some, lent_same, lent_some, lent_no_hand, lent_not_at}
 
--- each function of the program is accepted by the rules
+-- Says that the flow rules accept each function of the program.
 abbrev pub AreAccepted : Program → Type 0
 AreAccepted p = (number : ℕ) (h : Function) → slice_get p.functions number ≡ Some h → (end : flow.State) × IsAccepted p h end
 
@@ -41,17 +42,17 @@ module _ (p : Program) (g h : Typing) (grows : Grows g h) where
 
 -- ---- transfer of a resource
 
--- the states relied on, or none if no variable is emptied
+-- The flow states on which stack entries rely, or none if no variable is emptied.
 abbrev pub relied_if : (empties : Bool) → Relied → Relied
 relied_if false q = []
 relied_if true q = q
 
--- no state relies on the content of this variable
+-- Says that no flow state relies on the content of this variable.
 abbrev IsLoose : (empties : Bool) → Exits → Typing → List Entry → (object : ℕ) → Type 0
 IsLoose empties x g k object = (d n : ℕ) × IsSlot g d n object × (((d ≡ g.depth) × IsSpared (relied_at (relied_if empties x.relied) k) n) ⊎ (g.depth < d))
 
--- Nothing waiting on this stack claims a resource of this holder. The holder is a variable that is emptied, or a cell that is refilled at
--- once and that pointers may lead to.
+-- Says that no entry of this stack claims a resource of this holder. The holder is a variable that is emptied, or a cell that is refilled
+-- at once and to which pointers may point.
 abbrev pub IsAboveBy : (empties : Bool) → Exits → Typing → List Entry → Holder → Type 0
 IsAboveBy empties x g k Nobody = Unit {0}
 IsAboveBy empties x g k (Hand i) = operands_in k ≤ i
@@ -73,7 +74,7 @@ above_by x g k (Lent j object) above = above
 local_same : (c d m n : ℕ) → OfLocal c m ≡ OfLocal d n → (c ≡ d) × (m ≡ n)
 local_same c d m n e = let k : OfLocal c m ≡ OfLocal d n = e in (cc, cc)
 
--- an object is the variable of at most one local
+-- An object is the variable of at most one local.
 pub slot_same : (g : Typing) (c d m n object : ℕ) → IsSlot g c m object → IsSlot g d n object → (c ≡ d) × (m ≡ n)
 slot_same g c d m n object (x, there, one) (y, stands, two) =
     let same : x ≡ y = same_Some x y (sym there ∙ stands) in
@@ -91,7 +92,7 @@ lent_other empties x g k i object (Hand j) above less = lent_no_hand i object j
 lent_other empties x g k i object (At other offset) above less = lent_not_at i object other offset
 lent_other empties x g k i object (Lent j other) above less = λ e. (let same : i ≡ j = (lent_same i object j other e).0 in absurd (omega (arith, above, less, same)))
 
--- the variable differs from that of each relied local
+-- If a local differs from a relied local, then their variables differ too.
 slot_other : (g : Typing) (n object other : ℕ) → IsSlot g g.depth n object → (d m : ℕ) → IsSlot g d m other → (d ≡ g.depth → m ≡ n → ⊥) → At object 0 ≢ At other 0
 slot_other g n object other slot d m its apart e =
     let (depth, number) = slot_same g g.depth d n m other (subst (λ i. IsSlot g g.depth n i) (at_same object 0 other 0 e).0 slot) its in
@@ -110,7 +111,7 @@ variable_other x g k n object (At other (suc i)) above slot relied = λ e. (let 
 variable_other x g k n object (At other zero) (inl loose) slot relied = loose_other true x g k n object other loose slot relied
 variable_other x g k n object (At other zero) (inr (filling, shown)) slot relied = let z : true ≡ false = filling in absurd (cc)
 
--- a cell that pointers lead to differs from a variable that is peeked at
+-- A cell to which pointers point differs from a variable at which a peek looks.
 hiding_other : (g : Typing) (object other : ℕ) → IsHiding g object true → IsHiding g other false → At object 0 ≢ At other 0
 hiding_other g object other (y, there, hidden) (z, stands, shown) e =
     let same : y ≡ z = same_Some y z (sym there ∙ ap (λ n. slice_get g.objects n) (at_same object 0 other 0 e).0 ∙ stands) in
@@ -124,7 +125,7 @@ looked_other empties x g k n object (At other (suc i)) above slot hidden relied 
 looked_other empties x g k n object (At other zero) (inl loose) slot hidden relied = loose_other empties x g k n object other loose slot relied
 looked_other empties x g k n object (At other zero) (inr (filling, shown)) slot hidden relied = hiding_other g object other hidden shown
 
--- lent resources stay lent
+-- If no entry of a stack claims the resources of a holder, then no current loan holds them.
 pub none_lent : (empties : Bool) (x : Exits) (g : Typing) (k : List Entry) (old : Holder) → IsAboveBy empties x g k old → is_lent_by g.loans old ≡ false
 none_lent empties x g k Nobody above = refl
 none_lent empties x g k (Hand i) above = refl
@@ -140,7 +141,7 @@ operands_long g [] (v ∷ vs) are = absurd are
 operands_long g (t ∷ ts) [] are = absurd are
 operands_long g (t ∷ ts) (v ∷ vs) (is, are) = ap suc (operands_long g ts vs are)
 
--- the stored operands of an entry, and their claims
+-- The stored operands of a stack entry, and the resources that they claim.
 pub keeps_fields : (g : Typing) (i : ℕ) (owner : Owner) (before : List Operand) (rest : Arguments) (ts : List RunTy) → AreOperands g ts before → AreClaimed g.own i ts before → Keeps g i (MakeFields owner before rest) ts
 keeps_fields g i owner before rest [] are claims = are
 keeps_fields g i owner before rest (t ∷ ts) are claims = (are, claims)
@@ -157,14 +158,14 @@ pub passed_kept : (g : Typing) (i : ℕ) (callee : Callee) (before : List Operan
 passed_kept g i callee before rest [] are = (are, tt)
 passed_kept g i callee before rest (t ∷ ts) (are, claims) = (are, claims)
 
--- a value for an entry without stored operands
+-- A value reaches a stack entry that stores no operands.
 pub comes_alone : (g : Typing) (k : List Entry) (r : RunValue) (v : values.Value) → ClaimsBy g (0 + operands_in k) r v → ClaimsBy g (operands_in k) r v
 comes_alone g k r v is = let same : 0 + operands_in k ≡ operands_in k = omega arith in subst (λ i. ClaimsBy g i r v) same is
 
 pub part_alone : (g : Typing) (k : List Entry) (peek : Option ℕ) (o : Option Thing) → ClaimsPart g (0 + operands_in k) peek o → ClaimsPart g (operands_in k) peek o
 part_alone g k peek o is = let same : 0 + operands_in k ≡ operands_in k = omega arith in subst (λ i. ClaimsPart g i peek o) same is
 
--- one more operand, above the stored ones
+-- One more operand, and its claim, is added above the stored operands.
 pub claimed_next : (g : Typing) (i : ℕ) (t : RunTy) (v : values.Value) (ts : List RunTy) (vs : List Operand) → AreOperands g ts vs → Claims g.own (Hand (length vs + i)) t v → Claims g.own (Hand (i + length ts)) t v
 claimed_next g i t v ts vs are is =
     let long : length ts ≡ length vs = operands_long g ts vs are in
@@ -181,7 +182,7 @@ above_to empties x y g b k (At object zero) fewer less (inl (d, n, slot, inr dee
 above_to empties x y g b k (At object zero) fewer less (inr shown) = inr shown
 above_to empties x y g b k (Lent j object) fewer less above = above
 
--- at the end of a statement, no peek is pending
+-- At the end of a statement, every peek has been used.
 pub statement_relied : (p : Program) (g : Typing) (x : Exits) (bs : List InScope) (f : flow.State) (k : List Entry) (q : Relied) → IsStack p g x bs (Go f) k → relied_at q k ≡ q
 statement_relied p g x bs f [] q is = absurd is
 statement_relied p g x bs f (Needs a ∷ k) q is = absurd is
@@ -211,7 +212,7 @@ looked_less : (peek : Option ℕ) (q : Relied) (n : ℕ) → IsSpared (and_looke
 looked_less None q n spared = spared
 looked_less (Some m) q n spared = spared.1
 
--- after a part of an expression, no further states are relied on
+-- After a part of an expression, the set of flow states on which entries rely does not grow.
 pub part_spared : (w : Part) (q r : Relied) (n : ℕ) → ((peek : Option ℕ) → w ≡ Whole peek → r ≡ q) → IsSpared (relied_by w q r) n → IsSpared r n
 part_spared (Whole peek) q r n same spared = subst (λ z. IsSpared z n) (sym (same peek refl)) (looked_less peek q n spared)
 part_spared (PartOf peek) q r n same spared = looked_less peek r n spared
@@ -219,7 +220,7 @@ part_spared (PartOf peek) q r n same spared = looked_less peek r n spared
 part_whole : {A : Type 0} (o peek : Option ℕ) → PartOf o ≡ Whole peek → A
 part_whole o peek e = let k : PartOf o ≡ Whole peek = e in absurd (cc)
 
--- a statement continues only after a whole expression
+-- A statement continues only after a complete expression, not after a part of it.
 pub waits_whole : {p : Program} {x : Exits} {q : Relied} {bs cs : List InScope} {a : Awaiting} {ts : List RunTy} {r : RunValue} {f : flow.State} {next : Want} → Waits p x q bs a ts r f cs next → (peek : Option ℕ) → part a ≡ Whole peek → (h : flow.State) × (next ≡ Go h)
 waits_whole (awaited.converts c v t f agrees keeps conv from to target) peek e = part_whole None peek e
 waits_whole (awaited.negates f) peek e = part_whole None peek e
@@ -287,7 +288,7 @@ not_full : (f : flow.State) (n : ℕ) → is_reached f ≡ true → IsSparedBy f
 not_full Unreached n reached one = absurd (let k : false ≡ true = reached in cc)
 not_full (Reached as') n reached one = one
 
--- a variable that clauses rely on differs from the old holder
+-- A variable on which clauses rely differs from the old holder of the resource.
 pub relied_other : (x y : Exits) (g : Typing) (cs : Clauses) (k : List Entry) (f : flow.State) (old : Holder) (m object : ℕ) → x ≡ relying y f → is_reached f ≡ true → IsAboveBy true x g (Handler cs ∷ k) old → IsFullIn f m → IsSlot g g.depth m object → At object 0 ≢ old
 relied_other x y g cs k f old m object same reached above full slot = variable_other x g (Handler cs ∷ k) m object old above slot
     (λ spared. (let one : IsSparedBy f m = (subst (λ (z : Exits). IsSpared z.relied m) same spared).0 in let z : true ≡ false = sym full ∙ not_full f m reached one in absurd (cc)))
@@ -296,7 +297,7 @@ pub only_full : (n : ℕ) → get_or (only n) n Vacant ≡ Full
 only_full zero = refl
 only_full (suc n) = only_full n
 
--- a variable that has lent its content differs from the old holder
+-- A variable that has lent its content differs from the old holder of the resource.
 pub lender_other : (x y : Exits) (g : Typing) (k : List Entry) (lent : ℕ) (old : Holder) (object : ℕ) → x ≡ lending y lent → IsAboveBy true x g (EndLoan lent ∷ k) old → IsSlot g g.depth lent object → At object 0 ≢ old
 lender_other x y g k lent old object same above slot = variable_other x g (EndLoan lent ∷ k) lent object old above slot
     (λ spared. (let one : is_full (get_or (only lent) lent Vacant) ≡ false = (subst (λ (z : Exits). IsSpared z.relied lent) same spared).0 in
@@ -313,7 +314,7 @@ outer_other x g caller k d (At other zero) m object same (inl (e, n, its, inr de
     (let (depth, number) = slot_same g d e m n other (subst (λ i. IsSlot g d m i) (at_same object 0 other 0 q).0 slot) its in absurd (omega (arith, depth, deeper, same)))
 outer_other x g caller k d (At other zero) m object same (inr (filling, shown)) slot = let z : true ≡ false = filling in absurd (cc)
 
--- a local that is not full differs from the full ones
+-- A local that is not full differs from every full local.
 pub emptied_other : (g : Typing) (a : flow.Fullness) (f : flow.State) (n m object other : ℕ) → is_full a ≡ false → is_reached f ≡ true → IsFullIn (with_fullness a f n) m → IsSlot g g.depth n object → IsSlot g g.depth m other → At other 0 ≢ At object 0
 emptied_other g a f n m object other empty reached full slot its e =
     let (depth, same) = slot_same g g.depth g.depth m n object (subst (λ i. IsSlot g g.depth m i) (at_same other 0 object 0 e).0 its) slot in

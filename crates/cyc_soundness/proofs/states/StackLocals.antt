@@ -1,4 +1,4 @@
--- Facts about the locals in scope, their loans, and the regions still to be closed.
+-- This file is about the locals in scope, their loans, and the regions that are yet to be closed.
 use Rattle.std.proofs.Common.{◌≡◌, ◌≢◌, inl, inr, ℕ, ◌≤◌, ◌<◌, Bool, true, false, List, [], ◌∷◌, Option, Some, None, slice_get, eqb, refl, sym, ap, subst, ◌∙◌, arith}
 use Rattle.std.specs.Prelude.{if◌then◌else◌}
 use Rattle.std.proofs.lemmas.Bool.{eqb-true, eq-eqb, false_from_ne_true}
@@ -85,7 +85,7 @@ pub among_set : {b : Bound} {bs : List InScope} (g : Typing) (f : flow.State) �
 among_set g f (first cs) (is, are) s = is.0 s
 among_set g f (later c cs among) (is, are) s = among_set g f among are s
 
--- a full local holds its own content
+-- A full local holds the resource of its content.
 pub among_own : {b : Bound} {bs : List InScope} (g : Typing) (f : flow.State) → IsAmong (Variable b) bs → AreSet g f bs → IsFullIn f b.number → IsHere g g.depth b.number b.object
 among_own g f (first cs) (is, are) s = is.1 s
 among_own g f (later c cs among) (is, are) s = among_own g f among are s
@@ -94,7 +94,7 @@ pub among_level : {l : ℕ} {bs : List InScope} (e : Environment) → IsAmong (L
 among_level e (first cs) (is, are) = is
 among_level e (later c cs among) (is, are) = among_level e among are
 
--- an outer scope has fewer facts
+-- An outer scope has at most the facts of an inner scope.
 pub within_bound : (e : Environment) (cs bs : List InScope) → Within cs bs → IsBound e.locals e.counters bs → IsBound e.locals e.counters cs
 within_bound e cs bs (itself _) are = are
 within_bound e cs bs (older b _ ds inner within) (is, are) = within_bound e cs ds within are
@@ -152,7 +152,7 @@ set_with_fullness g a f number (Variable b ∷ bs) (less, below) ((set, full), a
     ((λ s. set (other_set a f number b.number apart s), λ s. full (other_full a f number b.number apart s)), set_with_fullness g a f number bs below are)
 set_with_fullness g a f number (b ∷ bs) (less, below) (is, are) = (tt, set_with_fullness g a f number bs below are)
 
--- the locals of one number have one object
+-- All locals in scope with one number have the same object.
 one_object : (e : Environment) (number object : ℕ) (b : Bound) → e.locals number ≡ Some object → e.locals b.number ≡ Some b.object → b.number ≡ number → b.object ≡ object
 one_object e number object b there here same =
     let k : Some object ≡ Some b.object = sym there ∙ ap e.locals (sym same) ∙ here in
@@ -184,7 +184,7 @@ set_stored g e a f number object (b ∷ bs) (here, bound) one full reached own (
 pub none_among : {A B : Type 0} {a : A} → IsAmong a [] → B
 none_among among = elim among [ ]
 
--- the content of this local is in a single object
+-- The content of a local is in only one object.
 pub full_here : (g : Typing) (e : Environment) (n object : ℕ) (bs : List InScope) → IsBound e.locals e.counters bs → e.locals n ≡ Some object → IsFull g object → AreFullAt g n object bs
 full_here g e n object [] bound one full = tt
 full_here g e n object (Variable b ∷ bs) (here, bound) one full =
@@ -210,7 +210,7 @@ module _ (old : Holder) (g h : Typing) (changed : Changed old g h) (n object : �
       ]
   refilled_set f (b ∷ bs) (here, at) (is, are) = (tt, refilled_set f bs at are)
 
-  -- a lent local is full again when its loan ends
+  -- When the loan of a local ends, the local is full again.
   pub given_back : (f : flow.State) (bs : List InScope) → AreFullAt g n object bs → Holds g f bs → Holds h (with_fullness Full f n) bs
   given_back f bs at (reached, are) = (reached_with Full f n reached, refilled_set f bs at are)
 
@@ -234,7 +234,7 @@ globals_among (CloseRegion region home ∷ k) = later region (ends_of k) (global
 globals_among (CloseLexical region ∷ k) = later region (ends_of k) (globals_among k)
 globals_among (entry ∷ k) = globals_among k
 
--- the heap is not among the regions to be closed
+-- The heap is not one of the regions that stack entries close.
 pub above_globals : (bound : ℕ) (k : List Entry) → nesting.AreBelow bound (ends_of k) → globals_number < bound
 above_globals bound [] (less, are) = less
 above_globals bound (CloseRegion region home ∷ k) (less, are) = let past : globals_number < region = above_globals region k are in omega (arith, less, past)
@@ -247,24 +247,24 @@ lexical_not_heap region k e w nests same = let past : globals_number < region = 
 pub not_heap : (region home : ℕ) (k : List Entry) (e : Environment) (w : World) → IsNested (CloseRegion region home ∷ k) e w → heap_number ≢ region
 not_heap region home k e w nests same = let past : globals_number < region = above_globals region k nests.1.1 in absurd (omega (arith, past, same))
 
--- the region that contains the variables is that of the innermost open block
+-- The region that contains the variables is the region of the innermost open block.
 pub home_is : (home : ℕ) (k : List Entry) → IsHome home k → home ≡ home_in k
 home_is home [] is = is
 home_is home (CloseRegion region outer ∷ k) is = is.0
 home_is home (Caller outer ∷ k) is = is.0
 home_is home (entry ∷ k) is = home_is home k is
 
--- a region still to be closed is open
+-- A region that a stack entry will close is open.
 end_among : (m : ℕ) (ms ns : List ℕ) → IsEndOf (m ∷ ms) ns → IsAmong m ns
 end_among m ms ns whole = first ms
 end_among m ms ns (following n os end) = later n os (end_among m ms os end)
 
--- the dynamic region of this lifetime is open
+-- Says that the dynamic region of a lifetime is open.
 abbrev pub IsKeptOpen : List Region → Life → Type 0
 IsKeptOpen regions (Kept (KeyOf number)) = is_open (slice_get regions number) ≡ true
 IsKeptOpen regions l = Unit {0}
 
--- a lent resource has a holder
+-- A resource that is lent has a holder.
 pub lent_held : (count : ℕ) (h : Holder) → is_lent_by count h ≡ true → IsHeld h
 lent_held count Nobody e = absurd (let k : false ≡ true = e in cc)
 lent_held count (Hand i) e = tt
@@ -277,7 +277,7 @@ kept_open g regions objects (Kept (PointerTo object)) typed known opens = tt
 kept_open g regions objects (OfRegion number ns us) typed known opens = tt
 kept_open g regions objects Owned typed known opens = tt
 
--- the lifetime has not ended
+-- Says that a lifetime has not ended.
 abbrev pub IsPresent : Typing → List ℕ → Life → Type 0
 IsPresent g ns Owned = Unit {0}
 IsPresent g ns l = IsLasting ns l × IsOpenIn g l
@@ -310,7 +310,7 @@ around_heap n ns us e = ap around_of e
     around_of (OfRegion n ns us) = ns
     around_of l = []
 
--- a lifetime that outlasts an open lifetime is open
+-- If a lifetime outlasts an open lifetime, then it is open too.
 pub open_outlasting : (g : Typing) (l m : Life) → Outlasts l m → IsCommonLife m → IsOpenIn g m → IsOpenIn g l
 open_outlasting g l m (alike _) common opens = opens
 open_outlasting g l m (for_ever _) common opens = λ r e. absurd (let k : false ≡ true = e in cc)
@@ -319,7 +319,7 @@ open_outlasting g l m (stays a n ns us has) common opens = opens a has
 open_outlasting g l m (borrows object) common opens = absurd common
 open_outlasting g l m (encloses a b as' bs us vs end more) common opens = λ r e. opens r (more r e)
 
--- an object whose lifetime outlasts one that has not ended is live
+-- If the lifetime of an object outlasts a lifetime that has not ended, then the object is live.
 pub outlasting_open : (regions : List Region) (ns : List ℕ) (l m : Life) → AreOpen regions ns → is_open (slice_get regions heap_number) ≡ true → is_open (slice_get regions globals_number) ≡ true → IsKeptOpen regions l → Outlasts l m
     → IsLasting ns m → IsOpenLife regions l
 outlasting_open regions ns l m opens heap globals kept (alike _) is = lasting_open regions ns l opens heap kept is

@@ -1,4 +1,5 @@
--- NO RESOURCE CHANGES ITS HOLDER, and the world is unchanged: typed parts stay typed.
+-- This file is about steps in which no resource changes its holder and the world is unchanged:
+-- typed parts stay typed.
 use Rattle.std.proofs.Common.{◌≡◌, ◌≢◌, ℕ, Bool, true, false, List, set, Option, Some, None, slice_get, refl, sym, ap, subst, ◌∙◌, inl, inr, ◌⊎◌}
 use Rattle.std.specs.Prelude.{if◌then◌else◌, ◌==◌}
 use Rattle.std.proofs.lemmas.Bool.{eqb-true}
@@ -18,7 +19,7 @@ use Rattle.cyc_soundness.proofs.states.WorldLemmas.{object_grown}
 use Rattle.cyc_soundness.proofs.states.Hands.{given_other, held_before, given_too, nobody_before, marked_before, at_same, at_no_hand, at_not_lent, lent_same, lent_some, lent_no_hand, lent_not_at, away_not_here, away_not_gone, away_same, at_some, Changed, stays_changed, same_grows, giving_changed}
 use Rattle.cyc_soundness.proofs.states.Hands.{claims_kept, hiding_kept, variables_kept, holds_kept}
 
--- the typing grows, and variables may receive content
+-- Says that the typing grows, and that variables may receive content.
 pub record Raises (g h : Typing) : Type 0 where
   pub grows : Grows g h
   pub own : h.own ≡ g.own
@@ -56,7 +57,8 @@ module _ (g h : Typing) (stays : Stays g h) where
 
 -- ---- the world is unchanged
 
--- A resource moves to another holder. The contents of all cells were their own before, and are different resources.
+-- A resource moves to another holder. Each cell held its own content before, and the contents of different cells
+-- are different resources.
 pub hands_typed : (g : Typing) (o : Option Thing) (old new : Holder) (here : ℕ → Standing) (regions : List Region) (objects : List Object) → Owns g.own old o → IsHeld old
     → ((object i : ℕ) (t : ObjectType) (x : Object) → slice_get g.objects object ≡ Some t → slice_get objects object ≡ Some x → IsKept (record g { own = given o new g.own; here = here }) object i t.is_hidden
     → (IsKept g object i t.is_hidden × (At object i ≢ old)) ⊎ ((u : RunTy) (c : Cell) (v : values.Value) → slice_get t.cells i ≡ Some u → slice_get x.cells i ≡ Some c → c.content ≡ Some v → Claims (given o new g.own) (At object i) u v))
@@ -84,9 +86,9 @@ hands_typed g o old new here regions objects has held before away typed = record
 pub given_typed : (g : Typing) (o : Option Thing) (old new : Holder) (regions : List Region) (objects : List Object) → Owns g.own old o → IsHeld old → ((object i : ℕ) → At object i ≢ old) → ((object j : ℕ) → Lent j object ≢ old) → IsTyped g regions objects → IsTyped (giving g o new) regions objects
 given_typed g o old new regions objects has held apart other typed = hands_typed g o old new g.here regions objects has held (λ object i t x there stands kept. inl (kept, apart object i)) (λ object j t x there stands now hides. inl (now, other object j)) typed
 
--- the resource moves out of a hidden variable
+-- A resource moves out of a hidden variable, that is, a variable to which no pointer points.
 module _ (g : Typing) (o : Option Thing) (object : ℕ) (new : Holder) (y : ObjectType) (regions : List Region) (objects : List Object) (has : Owns g.own (At object 0) o) (there : slice_get g.objects object ≡ Some y) (hidden : y.is_hidden ≡ true) (typed : IsTyped g regions objects) where
-  -- the variable no longer holds its content
+  -- After a resource moves out of a variable, the variable no longer holds its content.
   taken_kept : (a : Standing) → (a ≡ Here → ⊥) → (n i : ℕ) (u : ObjectType) (x : Object) → slice_get g.objects n ≡ Some u → slice_get objects n ≡ Some x → IsKept (handing g o new object a) n i u.is_hidden
       → (IsKept g n i u.is_hidden × (At n i ≢ At object 0)) ⊎ ((r : RunTy) (c : Cell) (v : values.Value) → slice_get u.cells i ≡ Some r → slice_get x.cells i ≡ Some c → c.content ≡ Some v → Claims (given o new g.own) (At n i) r v)
   taken_kept a none n i u x found stands kept = elim (same_or_other n object) [
@@ -106,7 +108,7 @@ module _ (g : Typing) (o : Option Thing) (object : ℕ) (new : Holder) (y : Obje
         | inr apart ↦ inl (marked_before object Gone g.here n (Away j) apart now, lent_not_at j n object 0)
       ]
 
-  -- the variable has lent its content
+  -- The variable has lent its content to a loan.
   pub lent_typed : (j : ℕ) → new ≡ Lent j object → ((x : Object) → slice_get objects object ≡ Some x → (i : ℕ) (u : RunTy) (c : Cell) (v : values.Value) → slice_get y.cells i ≡ Some u → slice_get x.cells i ≡ Some c → c.content ≡ Some v → Claims (given o new g.own) (Lent j object) u v)
       → IsTyped (handing g o new object (Away j)) regions objects
   lent_typed j new_is claims = hands_typed g o (At object 0) new (marked object (Away j) g.here) regions objects has tt (taken_kept (Away j) (λ e. let k : Away j ≡ Here = e in absurd (cc))) away typed
@@ -121,7 +123,7 @@ module _ (g : Typing) (o : Option Thing) (object : ℕ) (new : Holder) (y : Obje
         | inr apart ↦ inl (marked_before object (Away j) g.here n (Away i) apart now, lent_not_at i n object 0)
       ]
 
--- a further resource of a lending variable still belongs to it, or is lent too
+-- A further resource of a lending variable still belongs to the variable, or is lent too.
 pub also_lent : (own : Thing → Holder) (o also : Option Thing) (old new : Holder) → Owns own old also → Owns (given o new own) old also ⊎ Owns (given o new own) new also
 also_lent own o None old new has = inl tt
 also_lent own None (Some b) old new has = inl has
@@ -131,7 +133,7 @@ also_lent own (Some a) (Some b) old new has = go (same_thing b a)
     go true = inr refl
     go false = inl has
 
--- a further resource with the content of a lent one is lent too
+-- If a further resource has the same content as a lent one, then it is lent too.
 pub also_typed : (g : Typing) (o : Option Thing) (object j : ℕ) (y : ObjectType) (regions : List Region) (objects : List Object) → slice_get g.objects object ≡ Some y → y.is_hidden ≡ true → g.here object ≡ Away j
     → Owns g.own (At object 0) o ⊎ Owns g.own (Lent j object) o → IsTyped g regions objects → IsTyped (giving g o (Lent j object)) regions objects
 also_typed g o object j y regions objects there hidden lent (inl has) typed = hands_typed g o (At object 0) (Lent j object) g.here regions objects has tt before (λ n i t x found stands now hides. inl (now, lent_not_at i n object 0)) typed
@@ -159,7 +161,7 @@ also_typed g o object j y regions objects there hidden lent (inr has) typed =
       | inr apart ↦ inl (now, λ e. apart (lent_same i n j object e).1)
     ]
 
--- no further resource changes its holder
+-- No resource except the two transferred ones changes its holder.
 pub also_changed : (old new : Holder) (g h : Typing) (o : Option Thing) → Owns g.own old o → Changed old g h → Changed old g (giving h o new)
 also_changed old new g h o has changed = record {
   grows = record { objects = changed.grows.objects; filled = changed.grows.filled; fields = changed.grows.fields; kept = changed.grows.kept };
@@ -179,7 +181,7 @@ also_changed old new g h o has changed = record {
     other None has a apart = changed.own a apart
     other (Some b) has a apart = twice (same_thing a b) (h.own a) (g.own a) (given_other g.own (Some b) old new a has apart) (changed.own a apart)
 
--- a variable receives back the content that it had lent
+-- A variable receives back the content that it has lent.
 pub returned_typed : (g : Typing) (o : Option Thing) (object j : ℕ) (y : ObjectType) (regions : List Region) (objects : List Object) → Owns g.own (Lent j object) o → slice_get g.objects object ≡ Some y
     → ((x : Object) → slice_get objects object ≡ Some x → (i : ℕ) (u : RunTy) (c : Cell) (v : values.Value) → slice_get y.cells i ≡ Some u → slice_get x.cells i ≡ Some c → c.content ≡ Some v → Claims (given o (At object 0) g.own) (At object i) u v)
     → IsTyped g regions objects → IsTyped (handing g o (At object 0) object Here) regions objects
@@ -201,7 +203,7 @@ returned_typed g o object j y regions objects has there claims typed = hands_typ
       | inr apart ↦ inl (marked_before object Here g.here n (Away i) apart now, λ e. apart (lent_same i n j object e).1)
     ]
 
--- the pointer to a unique object receives a holder
+-- The pointer to a unique object receives a holder.
 pub pointed_typed : (g : Typing) (object : ℕ) (new : Holder) (regions : List Region) (objects : List Object) → g.own (PointerTo object) ≡ Nobody → IsUniqueObject g objects object → IsTyped g regions objects → IsTyped (giving g (Some (PointerTo object)) new) regions objects
 pointed_typed g object new regions objects none is typed = record {
   count = typed.count;
@@ -221,7 +223,7 @@ pointed_typed g object new regions objects none is typed = record {
     go n true same held = subst (λ i. IsUniqueObject g objects i) (sym (eqb-true n object same)) is
     go n false other held = typed.unique n held
 
--- a unique object is freed, and its pointer has no holder afterwards
+-- A unique object is freed; afterwards its pointer has no holder.
 pub freed_typed : (g : Typing) (object i : ℕ) (x : Object) (regions : List Region) (objects : List Object) → g.own (PointerTo object) ≡ Hand i → slice_get objects object ≡ Some x → IsTyped g regions objects
     → IsTyped (giving g (Some (PointerTo object)) Nobody) regions (set objects object (record x { owner = Unique false }))
 freed_typed g object i x regions objects has stands typed =
@@ -286,7 +288,7 @@ freed_typed g object i x regions objects has stands typed =
       | inr apart ↦ now.lent n u z found (sym (slice_get-set_other objects object n gone apart) ∙ is)
     ]
 
--- without a pending swap, each cell holds its own content
+-- If no swap is incomplete, then each cell holds its own content.
 pub not_awaited : (g : Typing) (object i : ℕ) → g.pending ≡ Settled → g.pending ≢ Awaits object i
 not_awaited g object i settled e = let k : Settled ≡ Awaits object i = sym settled ∙ e in absurd (cc)
 

@@ -150,7 +150,7 @@ object_typed g regions objects t n x here typed is before own none = record {
       )
     ]
 
-    -- lookups of older objects are unchanged
+    -- Adding an object does not change the lookup of older objects.
     same_object : (number : ℕ) (y z : Object) → slice_get (objects ++ x ∷ []) number ≡ Some y → slice_get objects number ≡ Some z → z ≡ y
     same_object number y z found before = same_Some z y (sym (slice_get_front objects (x ∷ []) number z before) ∙ found)
 
@@ -176,7 +176,7 @@ object_typed g regions objects t n x here typed is before own none = record {
 
 -- ---- regions
 
--- the heap and the dynamic regions stay open, whatever other regions open or close
+-- The heap and the dynamic regions stay open when other regions open or close.
 pub typed_beside : (g : Typing) (regions others : List Region) (objects : List Object) → IsTyped g regions objects → is_open (slice_get others heap_number) ≡ true
     → ((number : ℕ) → IsAmong number g.kept → IsHeld (g.own (KeyOf number)) → IsDynamic (slice_get others number)) → length regions ≤ length others → IsTyped g others objects
 typed_beside g regions others objects typed heap kept more = record {
@@ -191,19 +191,19 @@ typed_beside g regions others objects typed heap kept more = record {
   lent = typed.lent;
 }
 
--- an open dynamic region is also found in the longer list
+-- An open dynamic region is also found after the list of regions has grown.
 dynamic_there : (o p : Option Region) → ((r : Region) → o ≡ Some r → p ≡ Some r) → IsDynamic o → IsDynamic p
 dynamic_there None p same is = absurd is
 dynamic_there (Some r) p same is = subst (λ z. IsDynamic z) (sym (same r refl)) is
 
--- a dynamic region is not closed by any scope
+-- A dynamic region is never closed by the end of a scope.
 never_scoped : (o : Option Region) → IsDynamic o → IsFound (found_region o) → ⊥
 never_scoped None is found = is
 never_scoped (Some r) (sort, opens) found =
     let now : IsFound (Found r) = subst (λ (b : Bool). IsFound (if b then Found r else Closed)) opens found in
     subst (λ s. IsScoped s) sort now
 
--- a dynamic region with a holder of its key is open
+-- If a key has a holder, then the key's dynamic region is open.
 pub dynamic_open : (o : Option Region) → IsDynamic o → is_open o ≡ true
 dynamic_open None is = absurd is
 dynamic_open (Some r) (sort, opens) = opens
@@ -231,7 +231,7 @@ content_there : (g : Typing) (t : RunTy) (o : Option values.Value) → IsContent
 content_there g t None is = absurd (let e : true ≡ false = is in cc)
 content_there g t (Some v) is = (v, refl, is)
 
--- a cell of an object whose first n cells hold values
+-- A cell of an object whose first n cells hold values.
 pub record CellAt (g : Typing) (n : ℕ) (t : RunTy) (offset : ℕ) (cells : List Cell) : Type 0 where
   pub cell : Cell
   pub at : slice_get cells offset ≡ Some cell
@@ -253,7 +253,7 @@ typed_cell g (u ∷ ts) (c ∷ cs) (suc n) (suc i) t (one, are) found =
     let rest = typed_cell g ts cs n i t are found in
     record { cell = rest.cell; at = rest.at; kind = rest.kind; content = λ less. rest.content (let e : i < n = omega (arith, less) in e) }
 
--- an object is live if its lifetime says so
+-- An object is live if its lifetime has not ended.
 pub live_object : (g : Typing) (w : World) (number : ℕ) (x : ObjectType) (y : Object) → IsTyped g w.regions w.objects → slice_get g.objects number ≡ Some x → slice_get w.objects number ≡ Some y → IsOwner x.life y.owner → IsOpenObject g w.regions number x.life → is_live w y.owner ≡ true
 live_object g w number x y typed there stands owner opens = go x.life refl y.owner refl owner opens
   where
@@ -270,7 +270,7 @@ live_object g w number x y typed there stands owner opens = go x.life refl y.own
         let owner_is : o ≡ Unique true = sym f ∙ ap (λ (z : Object). z.owner) (sym same) ∙ live in
         ap (λ z. is_live w z) owner_is
 
--- the object of a number, and its cell of this type
+-- The object with a number, and its cell of this type.
 pub record HasCell (g : Typing) (w : World) (number offset : ℕ) (x : ObjectType) (t : RunTy) : Type 0 where
   pub object : Object
   pub filled : ℕ
@@ -302,7 +302,7 @@ cell_there g w number offset t x typed at cells opens =
 
 -- ---- writing a cell
 
--- the number of filled cells after this cell was written
+-- The number of filled cells after the cell at this offset was written.
 abbrev pub risen : (offset filled : ℕ) → ℕ
 risen zero zero = 1
 risen zero (suc n) = suc n
@@ -337,7 +337,7 @@ filled_grows g number m n flag more = record { objects = λ other u there. there
       | inr apart ↦ (k, slice_get-set_other g.filled number other n apart ∙ is, enough)
     ]
 
--- the cell of the given kind with this value
+-- The cell with the kind of c that contains this value.
 abbrev filled_with : Cell → values.Value → Cell
 filled_with c v = record c { content = Some v }
 
@@ -378,7 +378,8 @@ module _ (g : Typing) (w : World) (number offset : ℕ) (x : ObjectType) (t : Ru
           (type_grown g now_typed now_grows t v has);
     }
 
-    -- Other cells keep their resources, and this one receives its value. Resources without a holder have none afterwards.
+    -- Writing a cell leaves the resources of all other cells unchanged, and the written cell receives its value.
+    -- Resources without a holder have no holder afterwards.
     pub cell_written : ((a : Thing) → IsHeld (own a) → IsHeld (g.own a)) → ((a : Thing) → g.own a ≡ Nobody → own a ≡ Nobody)
         → ((object i : ℕ) (hidden : Bool) → (object ≡ number → i ≢ offset) → IsKept now_typed object i hidden → (a : Thing) → g.own a ≡ At object i → own a ≡ At object i) → ((object i : ℕ) (hidden : Bool) → object ≢ number → IsKept now_typed object i hidden → IsKept g object i hidden)
         → ((i : ℕ) (u : RunTy) → slice_get x.cells i ≡ Some u → i ≢ offset → IsKept now_typed number i x.is_hidden → IsKept g number i x.is_hidden) → (IsKept now_typed number offset x.is_hidden → Claims own (At number offset) t v)
@@ -457,7 +458,7 @@ module _ (g : Typing) (w : World) (number offset : ℕ) (x : ObjectType) (t : Ru
               (still (At object i) (thing_of r z) (stays object i u.is_hidden (λ same. absurd (apart same)) kept) owns, start))
         ]
 
-        -- the written cell is not lent
+        -- The cell that is written is not lent.
         lent : (object : ℕ) (u : ObjectType) (y : Object) → slice_get g.objects object ≡ Some u → slice_get (set w.objects number with_value) object ≡ Some y → AreLent now_typed object u y.cells
         lent object u y there stands = elim (same_or_other object number) [
           | inl same ↦ λ i j r d z now hides. (let type_is : x ≡ u = same_Some x u (sym at ∙ ap (λ n. slice_get g.objects n) (sym same) ∙ there) in

@@ -1,4 +1,5 @@
--- CALLS: arguments become parameters and the body of the function begins; and the clauses of a `try` begin.
+-- This file is about calls, in which arguments become parameters and the body of the function begins, and
+-- about the start of the clauses of a `try`.
 use Rattle.std.proofs.Common.{◌≡◌, ℕ, suc, ◌+◌, ◌<◌, ◌≤◌, ◌%◌, Bool, true, false, List, [], ◌∷◌, ◌++◌, length, map, reverse, Option, Some, None, refl, sym, ap, subst, ◌∙◌, arith}
 use Rattle.std.specs.Prelude.{if◌then◌else◌, ◌==◌}
 use Rattle.std.proofs.lemmas.Bool.{eq-eqb}
@@ -60,7 +61,7 @@ turned_length (a ∷ as') bs =
     let r : length (turned as' (a ∷ bs)) ≡ suc (length as') + length bs = omega (arith, e) in
     r
 
--- the arguments after one that becomes a parameter keep their claims
+-- When an argument becomes a parameter, the arguments after it keep the resources that they claim.
 given_later : (g h : Typing) (i j : ℕ) (ts : List RunTy) (vs : List Operand) → Changed (Hand i) g h → i < j → AreGiven g.own j ts vs → AreGiven h.own j ts vs
 given_later g h i j [] vs changed less are = tt
 given_later g h i j (t ∷ ts) [] changed less are = tt
@@ -69,13 +70,13 @@ given_later g h i j (t ∷ ts) (v ∷ vs) changed less (is, are) = (
   given_later g h i (suc j) ts vs changed (let more : i < suc j = omega (arith, less) in more) are,
 )
 
--- earlier parameters keep their contents
+-- When an argument becomes a parameter, earlier parameters keep their contents.
 own_kept : (g h : Typing) (i : ℕ) (bs : List InScope) → Changed (Hand i) g h → AreOwn g bs → AreOwn h bs
 own_kept g h i [] changed are = tt
 own_kept g h i (Variable b ∷ bs) changed (is, are) = (subst (λ d. IsHere h d b.number b.object) (sym changed.depth) (here_kept (Hand i) g h changed g.depth b.number b.object (at_no_hand b.object 0 i) is), own_kept g h i bs changed are)
 own_kept g h i (b ∷ bs) changed (is, are) = (tt, own_kept g h i bs changed are)
 
--- open lifetimes stay open inside a call
+-- Lifetimes that are open at a call stay open inside the call.
 open_inside : (g : Typing) (d : ℕ) (l : Life) → IsOpenIn g l → IsOpenIn (record g { depth = d }) l
 open_inside g d (OfRegion number ns us) opens = opens
 open_inside g d (Kept region) opens = opens
@@ -87,7 +88,7 @@ known_inside g d (Kept (KeyOf region)) known = known
 known_inside g d (Kept (PointerTo object)) known = known
 known_inside g d lives.Owned known = known
 
--- the caller's typing is unchanged
+-- A call leaves the typing of its caller unchanged.
 same_around : (g : Typing) → Stays g (record g { depth = g.depth })
 same_around g = record {
   grows = record { objects = λ n u is. is; filled = λ n count is. is; fields = λ n ls ts is. is; kept = λ n is. is };
@@ -123,7 +124,7 @@ result_given : (o : Option Ty) (n : Lives) → HasResult o (value_at n (result_t
 result_given None n = refl
 result_given (Some t) n = tt
 
--- the region of a block is live in the block
+-- The region of a block is live inside the block.
 block_region : (c : Context) → IsLive (in_block c) (regions.Variable c.next_region)
 block_region c = (0, (let e : 0 < suc (length (live_regions c.regions.live c.regions.opened)) = omega arith in e), refl)
 
@@ -155,7 +156,7 @@ module _ (p : Program) (accepted : AreAccepted p) where
     read_on (t ∷ ts) vs k f live holds same are stack =
         let e1 : length (turned ts (t ∷ [])) ≡ length ts + 1 = turned_length ts (t ∷ []) in let e2 : length (turned ts (t ∷ [])) ≡ 0 = ap length same in absurd (omega (arith, e1, e2))
 
-    -- the lifetimes that are live in a callee have not ended
+    -- The lifetimes that are live in a called function have not ended.
     instance_lasting : (k : List Entry) (h : Function) (these : ℕ → Life) (alive : ℕ → Bool) → LiveIn k bs → IsInstance bs h these alive → (n : ℕ) → alive n ≡ true → IsLasting (ends_of k) (these n)
     instance_lasting k h these alive live instance n is =
         let (r, plain, there, same) = instance.lasting n is in

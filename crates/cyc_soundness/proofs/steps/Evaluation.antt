@@ -1,4 +1,4 @@
--- EVALUATION of a typed expression: each step leads to a typed state.
+-- This file is about the evaluation of a typed expression: each step yields a typed state.
 use Rattle.std.proofs.Common.{◌≡◌, ◌⊎◌, inl, inr, ℕ, Bool, true, List, [], ◌∷◌, map, Some, slice_get, refl, sym, ap, subst, ◌∙◌}
 use Rattle.std.specs.Prelude.{if◌then◌else◌, option_map}
 use Rattle.std.proofs.lemmas.Bool.{not-true}
@@ -60,7 +60,7 @@ left_typed q well c a v (ThenTest o b os) kept is = is
 left_typed q well c a v (ThenPointer o b os) kept is = inl is
 left_typed q well c a v (ThenPointerPeek n o b os) kept is = inr is.0
 
--- the semantics agrees that the expression is a peek of this local
+-- The semantics agrees with the typing rules on which expression is a peek of a local.
 peek_is : (n : ℕ) (a : Expression) → IsPeekOf n a → peek_of a ≡ Some n
 peek_is n (Peek p m u) is = ap (λ i. Some i) (sym is)
 peek_is n a is = absurd is
@@ -72,12 +72,13 @@ left_chained q well c a v (ThenTest o b os) kept is r = tt
 left_chained q well c a v (ThenPointer o b os) kept is r = refl
 left_chained q well c a v (ThenPointerPeek n o b os) kept is r = inl (peek_is n a is.1)
 
--- no state relies on a local to which a unique pointer or a key is assigned
+-- No flow state relies on a local to which a unique pointer or a key is assigned.
 moved_spared : (q : Relied) (place : Place) (n : ℕ) (v : Ty) (u : ValueType) → u ≡ assigned_type v → is_moved v ≡ true → SparesAssigned q (Local place n) u → IsSpared q n
 moved_spared q place n v u gives moved spared = subst (λ z. SparesAssigned q (Local place n) z) (gives ∙ ap (λ (b : Bool). if b then types.Void else types.Value v) moved) spared
 
 module _ (p : Program) where
-  -- a callee takes and returns these types, if its region variables are instantiated with these lifetimes
+  -- If the region variables of a called function are instantiated with these lifetimes, then the function
+  -- takes and returns these types.
   called_is : (x : Exits) (bs : List InScope) (c : Context) (callee : Callee) (s : Signature) (m : List Region) → IsContext p x bs c → IsCallee c callee s → AreNotUnique m → ((number : ℕ) (h : Function) → slice_get p.functions number ≡ Some h → AreConstraints h.variables h.constraints) → AreLive c (instantiated m s).effect
       → AreOutliving c (instantiated m s).constraints
       → IsCalled p bs callee (map (read bs) (map (substituted_ty m) s.parameters)) (read_value bs (result_type (option_map (substituted_ty m) s.result)))
@@ -96,7 +97,7 @@ module _ (p : Program) where
     on : (focus : Focus) (k : List Entry) → LiveIn k bs → IsFocus p g x bs focus k → IsWell p (Running focus k e w)
     on focus k live stands = running p g x bs e w typed globals bound variables focus k live stands
 
-    -- passing on a value leads to a typed state
+    -- Passing a value to its stack entry yields a typed state.
     pub hands : (k : List Entry) (r s : RunValue) (v : Operand) (f h : flow.State) → LiveIn k bs → Holds g f bs → h ≡ f → r ≡ s → IsResult g s v → awaited.Comes g s v k → IsStack p g x bs (Val r h) k
         → IsWell p (Running (Given v) k e w)
     hands k r s v f h live holds same_flow same_type is comes stack =

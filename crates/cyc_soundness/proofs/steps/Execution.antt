@@ -1,4 +1,4 @@
--- STATEMENTS and the items of blocks: each step leads to a typed state.
+-- This file is about statements and the items of blocks: each step yields a typed state.
 use Rattle.std.proofs.Common.{◌≡◌, inl, ℕ, suc, ◌+◌, ◌≤◌, ◌<◌, Bool, true, false, List, [], ◌∷◌, length, Option, Some, None, refl, sym, ap, subst, ◌∙◌, arith}
 use Rattle.std.proofs.lemmas.Bool.{not-true}
 use Rattle.cyc_words.proofs.Members.{Contains-tail}
@@ -59,7 +59,7 @@ use Rattle.cyc_soundness.proofs.steps.Swapping.{swap_on}
 use Rattle.cyc_types.specs.flow.Touched.{touched_statement}
 use Rattle.cyc_types.proofs.typing.TestLemmas.{kept_append}
 
--- a scope with higher next numbers follows the given one
+-- A scope with higher next numbers of locals and regions may follow a scope.
 pub context_following : (p : Program) (x : Exits) (bs : List InScope) (c : Context) (locals regions : ℕ) → IsContext p x bs c
     → IsContext p x bs (record c { next_local = c.next_local + locals; next_region = c.next_region + regions })
 context_following p x bs c locals regions stands = record {
@@ -77,7 +77,7 @@ context_following p x bs c locals regions stands = record {
   home = stands.home;
 }
 
--- the context inside the body of a `try`
+-- The typing context inside the body of a `try`.
 context_relying : (p : Program) (x : Exits) (bs : List InScope) (c : Context) (f : flow.State) → IsContext p x bs c → IsContext p (relying x f) bs c
 context_relying p x bs c f stands = record {
   globals = stands.globals;
@@ -97,7 +97,7 @@ context_relying p x bs c f stands = record {
 pub context_after : (p : Program) (x : Exits) (bs : List InScope) (c : Context) (s : Statement) → IsContext p x bs c → IsContext p x bs (following c s)
 context_after p x bs c s stands = context_following p x bs c (length (declared_types s)) (declared_regions s) stands
 
--- the type of a handle of an opened region is declarable
+-- The type of the handle of an opened region may be declared in the scope.
 new_handle : (n r : ℕ) → r ≡ n → IsDeclarable (suc n) (types.Handle (regions.Variable r))
 new_handle n r same = let e : r < suc n = omega (arith, same) in e
 
@@ -109,7 +109,7 @@ alias_kind r (types.Handle s) = refl
 alias_kind r (types.Key s) = refl
 alias_kind r (types.Struct n rs) = refl
 
--- weaker facts at earlier breaks
+-- Facts that hold at breaks also hold at earlier breaks if they are weakened.
 pub breaks_before : (l : Option LoopExit) (a b : flow.State) → Implies a b → AreBreaks l b → AreBreaks l a
 breaks_before None a b i are = tt
 breaks_before (Some l) a b i are = implies_after a b l.breaks i are
@@ -167,14 +167,14 @@ module _ (p : Program) (g : Typing) (x : Exits) (bs : List InScope) (e : Environ
 
   -- ---- blocks
 
-  -- the scope of a block whose region is open
+  -- The scope of a block whose region is open.
   abbrev pub block_scope : Context → List Entry → List InScope
   block_scope c k = Home (length w.regions) ∷ Names c.next_region (OfRegion (length w.regions) (ends_of k) (lent_now g)) true ∷ bs
 
   pub block_live : (c : Context) (k : List Entry) → LiveIn k bs → LiveIn (region_end e w ∷ k) (block_scope c k)
   block_live c k live = ((tt, ((λ is. opened_lasting (length w.regions) (ends_of k) (lent_now g)), live_more (length w.regions) (ends_of k) bs live.0)), refl)
 
-  -- the end of a block
+  -- The stack at the end of a block is typed.
   pub block_stack : (c : Context) (k : List Entry) (f h : flow.State) → LiveIn k bs → Implies f h → IsStack p g x bs (Go h) k → IsStack p g x (block_scope c k) (Go f) (region_end e w ∷ k)
   block_stack c k f h live implies stack = (bs, c.next_region, OfRegion (length w.regions) (ends_of k) (lent_now g), true, h, refl, implies, live, stack)
 
@@ -306,7 +306,7 @@ module _ (p : Program) (g : Typing) (x : Exits) (bs : List InScope) (e : Environ
 
   -- ---- items
 
-  -- the rest of a block after an item that lends this local
+  -- The rest of a block after an item that lends a local.
   lent_rest : (lent : ℕ) (js : Items) (c : Context) (f before following' ending : flow.State) → lent < c.next_local → IsLockedIn lent f → AreScoped c.locals c.next_local → WellTypedItems c js
       → Derives (rule_items (around (lending x lent)) js (record { now = f; breaks = before })) (record { now = ending; breaks = following' }) → AreBreaks x.loop following' → InItems x.relied c.next_region js
       → Continues (lending x lent) c js f (with_each Full (locks_of js) ending)

@@ -1,4 +1,5 @@
--- LOANS to the end of a block: dynamic regions that are opened by keys, and unique objects that are shared by aliases.
+-- This file is about loans to the end of a block: dynamic regions that are opened by keys, and unique objects that are
+-- shared by aliases.
 use Rattle.std.proofs.Common.{◌≡◌, inl, inr, set, ℕ, suc, ◌+◌, ◌≤◌, ◌<◌, Bool, true, false, List, [], ◌∷◌, length, Option, Some, None, slice_get, refl, sym, ap, subst, ◌∙◌, arith, zero}
 use Rattle.std.specs.Prelude.{if◌then◌else◌}
 use Rattle.std.proofs.lemmas.Bool.{eq-eqb}
@@ -57,7 +58,7 @@ use Rattle.cyc_soundness.proofs.states.Cells.{pointer_plain, plain_claims, runni
 
 -- ---- types
 
--- the type of a local mentions regions that were declared before
+-- The type of a local mentions only regions that were declared before the local.
 pub local_type_known : (c : Context) (n : ℕ) (t : Ty) (r : ℕ) → AreKnown c.next_region c.regions c.locals c.result → HasLocal c.locals n t r → AllIn (IsKnown c.next_region) t
 local_type_known c n t r known has = go c.locals known.locals has
   where
@@ -75,7 +76,7 @@ alias_known n (types.Handle r) unique known = absurd (let z : false ≡ true = u
 alias_known n (types.Key r) unique known = absurd (let z : false ≡ true = unique in cc)
 alias_known n (types.Struct s rs) unique known = absurd (let z : false ≡ true = unique in cc)
 
--- a unique type is a pointer type with the unique region
+-- A unique type is a pointer type whose region is the unique region.
 unique_is : (u : Ty) → is_unique u ≡ true → (k : PointerKind) × (t : Ty) × (u ≡ types.Pointer k t regions.Unique)
 unique_is (types.Pointer k t regions.Unique) unique = (k, t, refl)
 unique_is (types.Pointer k t regions.Heap) unique = absurd (let z : false ≡ true = unique in cc)
@@ -86,7 +87,8 @@ unique_is (types.Handle r) unique = absurd (let z : false ≡ true = unique in c
 unique_is (types.Key r) unique = absurd (let z : false ≡ true = unique in cc)
 unique_is (types.Struct s rs) unique = absurd (let z : false ≡ true = unique in cc)
 
--- the lifetime of a shared object: while it is lent, or for ever if the pointer is null
+-- The lifetime of a shared object: it lasts while the object is lent, or for ever if the pointer is
+-- null.
 abbrev shared_life : values.Value → Life
 shared_life (values.Thin object offset) = Kept (PointerTo object)
 shared_life (values.Fat object start count index) = Kept (PointerTo object)
@@ -100,7 +102,7 @@ alias_read bs n l k t known =
     (all_in_weaker (IsKnown n) (λ r. lives_in bs r ≡ lives_in inner r) (λ r is. other_life n l true bs r (known_other n r is)) t known)) in
     ap (λ z. lives.Pointer k z (life_named inner n)) same ∙ ap (λ m. lives.Pointer k (read bs t) m) (same_name n l (life_named bs n))
 
--- the resource, if any, is lent now
+-- Says that a resource, if there is one, is lent in this typing.
 abbrev IsLentNow : Typing → Option Thing → Type 0
 IsLentNow g None = Unit {0}
 IsLentNow g (Some a) = lent_now g a ≡ true
@@ -115,7 +117,7 @@ lent_by_now : (g : Typing) (object j : ℕ) (o : Option Thing) → g.loans ≡ s
 lent_by_now g object j None loans is = tt
 lent_by_now g object j (Some a) loans is = subst (λ h. is_lent_by g.loans h ≡ true) (sym is) (subst (λ n. is_lent_by n (Lent j object) ≡ true) (sym loans) (lent_last j object))
 
--- a lent pointer has a type with the lifetime of the loan
+-- A lent pointer has a type with the lifetime of its loan.
 module _ (g : Typing) (regions : List state.Region) (objects : List state.Object) (typed : IsTyped g regions objects) where
   shared_target : (t : lives.RunTy) (object offset : ℕ) → IsTarget g t lives.Owned object offset → lent_now g (PointerTo object) ≡ true → IsTarget g t (Kept (PointerTo object)) object offset
   shared_target t object offset (x, there, shown, lasts, part) lent =
@@ -160,7 +162,8 @@ module _ (g : Typing) (regions : List state.Region) (objects : List state.Object
   shared_typed k t (values.Handle n) is lent = shared_other k t lives.Owned (values.Handle n) tt is
   shared_typed k t (values.Key n) is lent = shared_other k t lives.Owned (values.Key n) tt is
 
--- a property that the lifetimes of the heap and of all lent objects have is also a property of the shared lifetime
+-- If a property holds for the lifetimes of the heap and of all lent objects, then it holds for the lifetime of a
+-- shared value.
 shared_by : (v : values.Value) (P : Life → Type 0) → P heap_life → ((object : ℕ) → P (Kept (PointerTo object))) → P (shared_life v)
 shared_by values.Null P heap lent = heap
 shared_by (values.Thin object offset) P heap lent = lent object
@@ -184,7 +187,7 @@ dynamic_found : (o : Option state.Region) → IsDynamic o → (r : state.Region)
 dynamic_found None is = absurd is
 dynamic_found (Some r) (sort, opens) = (r, ap (λ (b : Bool). if b then Found r else Closed) opens, ap is_dynamic sort)
 
--- the context while a local is lent
+-- The typing context while a local is lent.
 context_lending : (p : Program) (x : Exits) (bs : List InScope) (c : Context) (n : ℕ) → IsContext p x bs c → IsContext p (lending x n) bs c
 context_lending p x bs c n stands = record {
   globals = stands.globals;
@@ -202,11 +205,11 @@ context_lending p x bs c n stands = record {
 }
 
 module _ (p : Program) (g : Typing) (x : Exits) (bs : List InScope) (e : Environment) (w : World) (typed : IsTyped g w.regions w.objects) (globals : KnowsProgram g p) (bound : IsBound e.locals e.counters bs) (variables : AreVariables g bs) where
-  -- the typing after a local has lent its content
+  -- The typing after a local has lent its content.
   abbrev lent_content : Bound → values.Value → Typing
   lent_content b v = handing g (thing_of b.of_type v) (Lent g.loans b.object) b.object (Away g.loans)
 
-  -- the typing after the copy that was read is lent too
+  -- The typing after a local has lent its content and the copy that was read.
   abbrev lent_out : Bound → values.Value → Option Thing → Typing
   lent_out b v also = giving (lent_content b v) also (Lent g.loans b.object)
 
@@ -216,7 +219,7 @@ module _ (p : Program) (g : Typing) (x : Exits) (bs : List InScope) (e : Environ
   lending_grows : (b : Bound) (v : values.Value) (also : Option Thing) → Grows g (lending_typing b v also)
   lending_grows b v also = record { objects = λ n u is. is; filled = λ n count is. is; fields = λ n ls ts is. is; kept = λ n is. is }
 
-  -- the facts while the local is lent
+  -- The facts that hold while a local is lent.
   record IsLent (also : Option Thing) (b : Bound) (lent : ℕ) (f h : flow.State) (cs : List InScope) (k : List Entry) : Type 0 where
     value : values.Value
     claims : Claims g.own (At b.object 0) b.of_type value
@@ -226,7 +229,7 @@ module _ (p : Program) (g : Typing) (x : Exits) (bs : List InScope) (e : Environ
     holds : Holds (lending_typing b value also) (with_fullness Locked f lent) bs
     stack : IsStack p (lending_typing b value also) (lending x lent) cs (Go h) (EndLoan lent ∷ k)
 
-  -- the content of a local's variable
+  -- The content of the variable of a local.
   record Content (b : Bound) : Type 0 where
     value : values.Value
     claims : Claims g.own (At b.object 0) b.of_type value
@@ -304,7 +307,7 @@ module _ (p : Program) (g : Typing) (x : Exits) (bs : List InScope) (e : Environ
         );
       }
 
-  -- opening the region of a key that was read
+  -- The step that opens the region of a key.
   pub opens_on : (number lent : ℕ) (js : Items) (v : values.Value) (k : List Entry) (cs : List InScope) (c : Context) (b : Bound) (r : ℕ) (f h i : flow.State) → LiveIn k bs → Holds g f bs → Within cs bs
       → IsContext p x bs c → IsAmong (Variable b) bs → b.number ≡ lent → b.of_type ≡ lives.Key (life_named bs r) → b.is_hidden ≡ true → IsSpared x.relied lent → IsFullIn f lent → r < c.next_region → IsLive c (regions.Variable c.region) → number ≡ c.next_local
       → Continues (lending x lent) (with_local false (types.Handle (regions.Variable r)) (with_key_opened r c)) js (with_fullness Full (with_fullness Locked f lent) number) h → Implies (with_fullness Full h lent) i
@@ -353,7 +356,7 @@ module _ (p : Program) (g : Typing) (x : Exits) (bs : List InScope) (e : Environ
       by_life lives.Owned is_kept same = absurd same
   opens_on number lent js v k cs c b r f h i live holds within stands among number_of of_type hides spared full less alive number_is next again is stack = absurd is
 
-  -- sharing a unique pointer by an alias
+  -- The step that shares a unique pointer by an alias.
   pub aliases_on : (number lent : ℕ) (js : Items) (v : Operand) (k : List Entry) (cs : List InScope) (c : Context) (b : Bound) (u t : Ty) (f h i : flow.State) → LiveIn k bs → Holds g f bs → Within cs bs
       → IsContext p x bs c → IsAmong (Variable b) bs → b.number ≡ lent → b.of_type ≡ read bs u → b.is_hidden ≡ true → IsSpared x.relied lent → IsFullIn f lent → is_unique u ≡ true → AllIn (IsKnown c.next_region) u → t ≡ with_region_of (regions.Variable c.next_region) u
       → IsLive c (regions.Variable c.region) → number ≡ c.next_local
@@ -397,7 +400,7 @@ module _ (p : Program) (g : Typing) (x : Exits) (bs : List InScope) (e : Environ
         z.stack,
       )
 
-  -- opening a new dynamic region whose key becomes a local
+  -- The step that opens a new dynamic region whose key becomes a local.
   pub keys_on : (number r : ℕ) (js : Items) (k : List Entry) (cs : List InScope) (c : Context) (f h : flow.State) → IsNested k e w → LiveIn k bs → Holds g f bs → Within cs bs → IsContext p x bs c → r ≡ c.next_region
       → IsLive c (regions.Variable c.region) → number ≡ c.next_local → Continues x (with_local true (types.Key (regions.Variable r)) (with_region c)) js (with_fullness Full f number) h
       → IsStack p g x cs (Go h) k → IsWell p (opens_dynamic number js k e w)
@@ -436,7 +439,7 @@ module _ (p : Program) (g : Typing) (x : Exits) (bs : List InScope) (e : Environ
         stack_changed p Nobody g i x cs (Go h) k changed tt stack,
       )
 
-  -- freeing a key closes its region
+  -- The step that frees a key and closes its region.
   pub closes_on : (v : values.Value) (k : List Entry) (r : Region') (f : flow.State) → LiveIn k bs → Holds g f bs → HasType g (lives.Key (lives_in bs r)) v → Claims g.own (Hand (operands_in k)) (lives.Key (lives_in bs r)) v
       → IsStack p g x bs (Go f) k → IsWell p (closes_with v k e w)
   closes_on (values.Key region) k r f live holds is has stack = by_life (lives_in bs r) refl is has
@@ -463,7 +466,7 @@ module _ (p : Program) (g : Typing) (x : Exits) (bs : List InScope) (e : Environ
 
   -- ---- unique objects
 
-  -- freeing a unique object
+  -- The step that frees a unique object.
   pub frees_on : (m : PointerKind) (t : lives.RunTy) (v : values.Value) (k : List Entry) (f : flow.State) → LiveIn k bs → Holds g f bs → HasType g (lives.Pointer m t lives.Owned) v → Claims g.own (Hand (operands_in k)) (lives.Pointer m t lives.Owned) v → IsStack p g x bs (Go f) k
       → IsWell p (frees v k e w)
   frees_on m t v k f live holds is claims stack = go v is claims

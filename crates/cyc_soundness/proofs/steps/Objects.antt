@@ -1,4 +1,5 @@
--- OBJECTS are created with empty cells, which are then written one by one.
+-- This file is about the creation of objects: an object is created with empty cells, which are then
+-- written one by one.
 use Rattle.std.proofs.Common.{◌≡◌, ◌≢◌, ℕ, zero, suc, ◌+◌, ◌≤◌, ◌<◌, true, false, List, [], ◌∷◌, length, map, reverse, Some, slice_get, refl, sym, ap, subst, ◌∙◌, arith, None}
 use Rattle.std.specs.Prelude.{if◌then◌else◌}
 use mathlib.Core.List.{reverse_aux}
@@ -38,7 +39,8 @@ blank_cells g h [] (v ∷ vs) are = absurd are
 blank_cells g h (t ∷ ts) [] are = absurd are
 blank_cells g h (t ∷ ts) (v ∷ vs) (is, are) = ((is.0, refl), blank_cells g h ts vs are)
 
--- operands on the stack keep their claims as arguments in order
+-- Operands on the stack, which has the last operand first, keep their claims when they become
+-- arguments in order.
 pub given_turned : (g : Typing) (i : ℕ) (ts us : List RunTy) (vs ws : List Operand) → AreOperands g ts vs → AreClaimed g.own i ts vs → AreGiven g.own (i + length ts) us ws → AreGiven g.own i (turned ts us) (reverse_aux vs ws)
 given_turned g i [] us [] ws operands are more = let e : i + 0 ≡ i = omega arith in subst (λ j. AreGiven g.own j us ws) e more
 given_turned g i [] us (v ∷ vs) ws operands are more = absurd operands
@@ -47,7 +49,7 @@ given_turned g i (t ∷ ts) us (v ∷ vs) ws operands (is, are) more =
     let e : i + suc (length ts) ≡ suc (i + length ts) = omega arith in
     given_turned g i ts (t ∷ us) vs (v ∷ ws) operands.1 are (is, subst (λ j. AreGiven g.own j us ws) e more)
 
--- the operands after one that moves elsewhere keep their claims
+-- When an operand moves elsewhere, the operands after it keep their claims.
 module _ (old : Holder) (g h : Typing) (changed : Changed old g h) where
   pub given_kept : (j : ℕ) (ts : List RunTy) (vs : List Operand) → ((i : ℕ) → j ≤ i → Hand i ≢ old) → AreGiven g.own j ts vs → AreGiven h.own j ts vs
   given_kept j [] vs other are = tt
@@ -70,14 +72,14 @@ next_grown g h grows zero ts vs are = operands_grown g h grows ts vs are
 next_grown g h grows (suc i) [] vs are = absurd are
 next_grown g h grows (suc i) (t ∷ ts) vs are = next_grown g h grows i ts vs are
 
--- the next operand of a form, and the operands after it
+-- The next operand of an object or call, and the operands after it.
 pub next_one : (g : Typing) (i : ℕ) (ts : List RunTy) (v : Operand) (vs : List Operand) → AreNext g i ts (v ∷ vs) → (t : RunTy) × (slice_get ts i ≡ Some t) × IsResult g (Value t) v × AreNext g (suc i) ts vs
 next_one g zero [] v vs are = absurd are
 next_one g zero (t ∷ ts) v vs (is, are) = (t, refl, is, are)
 next_one g (suc i) [] v vs are = absurd are
 next_one g (suc i) (t ∷ ts) v vs are = next_one g i ts v vs are
 
--- the next operand claims its resource
+-- The next operand of an object or call claims its resource.
 pub next_claims : (own : Thing → Holder) (g : Typing) (place i : ℕ) (ts : List RunTy) (v : Operand) (vs : List Operand) (t : RunTy) → slice_get ts i ≡ Some t → AreNextGiven own place i ts (v ∷ vs) → Claims own (Hand place) t v.value × AreNextGiven own (suc place) (suc i) ts vs
 next_claims own g place zero [] v vs t at are = absurd (let k : None ≡ Some t = at in cc)
 next_claims own g place zero (u ∷ ts) v vs t at (is, are) = (subst (λ z. Claims own (Hand place) z v.value) (same_Some u t at) is, are)
@@ -103,7 +105,7 @@ whole_grown g h grows y (Struct n ls) is = grows.fields n ls y.cells is
 abbrev pub new_type : List RunTy → Life → ObjectType
 new_type ts l = record { cells = ts; life = l; is_hidden = false; slot = NoLocal }
 
--- an object of one value
+-- An object with one value is complete.
 pub whole_of : (g : Typing) (l : Life) (t : RunTy) (v : values.Value) → HasType g t v → IsWhole g (new_type (t ∷ []) l) t
 whole_of g l Int v has = refl
 whole_of g l Char v has = refl
@@ -134,7 +136,7 @@ pub plain_each : (n : Lives) (ts : List Ty) → ((field : ℕ) (t : Ty) → slic
 plain_each n [] plain = tt
 plain_each n (t ∷ ts) plain = (plain_keyless n t (plain 0 t refl), plain_each n ts (λ i u there. plain (suc i) u there))
 
--- a new object has empty cells
+-- Says that all cells of a new object are empty.
 abbrev pub AreEmpty : List Cell → Type 0
 AreEmpty cs = (i : ℕ) (c : Cell) → slice_get cs i ≡ Some c → c.content ≡ None
 
@@ -162,7 +164,7 @@ new_is_owner l (InRegion n) is = is
 new_is_owner l (Unique true) is = is
 new_is_owner l (Unique false) is = absurd is
 
--- the pointer to an object that does not exist yet has no holder
+-- The pointer to an object that does not exist yet has no holder.
 pub unheld_new : (g : Typing) (regions : List Region) (objects : List Object) → IsTyped g regions objects → g.own (PointerTo (length objects)) ≡ Nobody
 unheld_new g regions objects typed = go (g.own (PointerTo (length objects))) refl
   where
@@ -180,7 +182,7 @@ unheld_at g (OfRegion number ns us) object none = tt
 unheld_at g (Kept region) object none = tt
 unheld_at g Owned object none = none
 
--- the pointer to a new object is held by an operand
+-- An operand holds the pointer to a new object.
 pub claimed_new : (g : Typing) (l : Life) (object : ℕ) (new : Holder) (t : ObjectType) (x : Object) (regions : List Region) (objects : List Object) → IsNewOwner l x.owner → t.life ≡ l → g.own (PointerTo object) ≡ Nobody → slice_get g.objects object ≡ Some t
     → slice_get objects object ≡ Some x → IsTyped g regions objects → IsTyped (giving g (pointer_at l object) new) regions objects
 claimed_new g (OfRegion number ns us) object new t x regions objects owned life none there stands typed = typed

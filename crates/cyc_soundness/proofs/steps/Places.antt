@@ -1,4 +1,5 @@
--- PLACES that a pointer leads to, the entries that wait for them, and operators on pointers.
+-- This file is about the cells to which a pointer points, the stack entries that await such a cell,
+-- and operators on pointers.
 use Rattle.std.proofs.Common.{◌≡◌, ◌⊎◌, inl, inr, ℕ, zero, suc, ◌+◌, ◌<◌, ◌≤◌, Bool, true, false, List, [], ◌∷◌, length, map, Option, Some, None, slice_get, refl, sym, ap, subst, ◌∙◌, arith}
 use Rattle.std.specs.Prelude.{if◌then◌else◌, nat_lt, ◌==◌, ◌&&◌}
 use Rattle.std.proofs.lemmas.Bool.{eq-eqb, ltb-true, and_from}
@@ -59,7 +60,7 @@ use Rattle.cyc_soundness.proofs.states.Cells.{plain_claims, pointer_plain, part_
 
 -- ---- pointers
 
--- a thin pointer is null, or leads to a cell
+-- Says that a thin pointer is null, or points to a cell.
 data IsThin (g : Typing) (t : RunTy) (l : Life) : values.Value → Type 0 where
   is_null : IsThin g t l values.Null
   leads : (object offset : ℕ) → IsTarget g t l object offset → IsThin g t l (values.Thin object offset)
@@ -110,7 +111,7 @@ fat_kind marks.Nullable fat = absurd (let e : true ≡ false = fat in cc)
 fat_kind marks.NonNull fat = absurd (let e : true ≡ false = fat in cc)
 fat_kind marks.Fat fat = refl
 
--- an operator accepts its left operand
+-- The left operand of a well-typed pointer operator has a kind that the operator accepts.
 pub takes_left : (n : Lives) (g : Typing) {c : Context} {o : PointerOperator} {u v w : ValueType} (left : Operand) → PointerOperation c o u v w → IsResult g (value_at n u) left → takes_kind o left.kind ≡ true
 takes_left n g left (adds t r other) is = is_kind_same left.kind kinds.Fat is.0
 takes_left n g left (subtracts t r other) is = is_kind_same left.kind kinds.Fat is.0
@@ -156,7 +157,7 @@ through_part : (g : Typing) (i : ℕ) (peek : Option ℕ) (t : RunTy) (r : RunVa
 through_part g i peek t r v (inl same) is = looked_part g i peek t v (subst (λ z. ClaimsBy g i z v) same is)
 through_part g i peek t r v (inr same) is = subst (λ z. ClaimsBy g i z v) same is
 
--- an assignment passes on no linear resource
+-- The value that an assignment passes on is not a linear resource.
 pub moved_comes : (g : Typing) (i : ℕ) (bs : List InScope) (t : Ty) (v : values.Value) → AreVariables g bs → ClaimsBy g i (read_value bs (assigned_type t)) v
 moved_comes g i bs t v variables = go (tests.is_moved t) refl
   where
@@ -164,7 +165,7 @@ moved_comes g i bs t v variables = go (tests.is_moved t) refl
     go true e = tt
     go false e = plain_claims g.own (Hand i) (read bs t) v (plain_read g bs variables t e)
 
--- a pointer moved by arithmetic leads into the object of the original pointer
+-- Pointer arithmetic yields a pointer into the object of the original pointer.
 moved_thing : (t : RunTy) (l : Life) (change : ℕ → ℕ) (v z : values.Value) → moved change v ≡ Gives z → thing_of (lives.Pointer marks.Fat t l) z ≡ thing_of (lives.Pointer marks.Fat t l) v
 moved_thing t l change values.Null z same = ap (λ k. thing_of (lives.Pointer marks.Fat t l) k) (sym (gives_same values.Null z same))
 moved_thing t l change (values.Fat object start count index) z same = ap (λ k. thing_of (lives.Pointer marks.Fat t l) k) (sym (gives_same (values.Fat object start count (change index)) z same))
@@ -183,7 +184,7 @@ added_thing t l left (values.Key n) z same = absurd (let k : Misfits ≡ Gives z
 
 -- ---- structs
 
--- cells of these types have these kinds
+-- Cells of these types have the kinds of these types.
 kinds_typed : (l : Lives) (g : Typing) (ts : List Ty) (cs : List Cell) (n : ℕ) → AreCells g (map (at l) ts) cs n → are_kinds (kinds_of cs) (map values.kind_of ts) ≡ true
 kinds_typed l g [] [] n are = refl
 kinds_typed l g [] (c ∷ cs) n are = absurd are
@@ -198,7 +199,7 @@ leads_nowhere (lives.Pointer k t l) = ⊥
 leads_nowhere t = Unit {0}
 
 module _ (g : Typing) (w : World) (typed : IsTyped g w.regions w.objects) where
-  -- the cell has the type that the tree states
+  -- The cell of an object has the type that the typed tree states.
   value_there : (l : Lives) (y : ObjectType) (t : Ty) (offset : ℕ) (z : Object) (n : ℕ) → IsObject g n y z → slice_get y.cells offset ≡ Some (at l t)
       → is_target (Some (values.kind_of t)) offset (slice_get z.cells offset) ≡ true
   value_there l y t offset z n is here =
@@ -239,7 +240,7 @@ module _ (g : Typing) (w : World) (typed : IsTyped g w.regions w.objects) where
   no_pointer (lives.Pointer k t l) target v plain has = absurd plain
   no_pointer t target v plain has = absurd has
 
-  -- the target of a pointer, also as the source of a conversion
+  -- The target of a pointer, which may also be the source of a conversion.
   pub converted_leads : (l : Lives) (c : Context) (s : ValueType) (t : Ty) (v : Operand) → Converts c s t → IsResult g (value_at l s) v → leads_to w (target_of_value s) (followed v.value) ≡ true
   converted_leads l c (types.Value types.Int) t v conv is = no_pointer lives.Int None v.value tt is.1
   converted_leads l c (types.Value types.Char) t v conv is = no_pointer lives.Char None v.value tt is.1
@@ -259,21 +260,21 @@ module _ (p : Program) (g : Typing) (x : Exits) (bs : List InScope) (e : Environ
   on : (focus : Focus) (k : List Entry) → LiveIn k bs → IsFocus p g x bs focus k → IsWell p (Running focus k e w)
   on focus k live stands = running p g x bs e w typed globals bound variables focus k live stands
 
-  -- passing on a computed value
+  -- Passing on a computed value yields a typed state.
   pub gives_by : (k : List Entry) (kind : Kind) (t : RunTy) (f : flow.State) (r : Result) → LiveIn k bs → Holds g f bs → kind ≡ kind_at t → Fits g t r → ((v : values.Value) → r ≡ Gives v → Claims g.own (Hand (awaited.operands_in k)) t v)
       → IsStack p g x bs (Val (Value t) f) k → IsWell p (computed kind r k e w)
   gives_by k kind t f (Gives v) live holds same fits comes stack = on (Given (record { kind = kind; value = v })) k live (Value t, f, holds, (same, fits), comes v refl, stack)
   gives_by k kind t f (Raises tag) live holds same fits comes stack = on (Throwing tag 0) k live (Val (Value t) f, stack)
   gives_by k kind t f Misfits live holds same fits comes stack = absurd fits
 
-  -- a pointer into an object that is peeked at or held by an operand
+  -- The result is a pointer into an object at which a peek looks or that an operand holds.
   gives_into : (k : List Entry) (peek : Option ℕ) (kind : Kind) (t : RunTy) (f : flow.State) (r : Result) → LiveIn k bs → Holds g f bs → kind ≡ kind_at t → Fits g t r → ((v : values.Value) → r ≡ Gives v → ClaimsPart g (awaited.operands_in k) peek (thing_of t v))
       → IsStack p g x bs (Val (lives.Into peek t) f) k → IsWell p (computed kind r k e w)
   gives_into k peek kind t f (Gives v) live holds same fits comes stack = on (Given (record { kind = kind; value = v })) k live (lives.Into peek t, f, holds, (same, fits), comes v refl, stack)
   gives_into k peek kind t f (Raises tag) live holds same fits comes stack = on (Throwing tag 0) k live (Val (lives.Into peek t) f, stack)
   gives_into k peek kind t f Misfits live holds same fits comes stack = absurd fits
 
-  -- a computed value that is not a linear resource
+  -- The result is a computed value that is not a linear resource.
   pub gives : (k : List Entry) (kind : Kind) (t : RunTy) (f : flow.State) (r : Result) → LiveIn k bs → Holds g f bs → IsPlain t → kind ≡ kind_at t → Fits g t r → IsStack p g x bs (Val (Value t) f) k
       → IsWell p (computed kind r k e w)
   gives k kind t f r live holds plain same fits stack = gives_by k kind t f r live holds same fits (λ v given. plain_claims g.own (Hand (awaited.operands_in k)) t v plain) stack
@@ -376,7 +377,7 @@ module _ (p : Program) (g : Typing) (x : Exits) (bs : List InScope) (e : Environ
 
   -- ---- fields
 
-  -- the field of an object that is a struct
+  -- A field of an object that is a struct is found.
   field_found : (n : ℕ) (ls : List Life) (s : StructType) (t : Ty) (u : RunTy) (l : Life) (field object offset : ℕ) (peek : Option ℕ) (k : List Entry) (f : flow.State) → LiveIn k bs → Holds g f bs
       → slice_get p.structs n ≡ Some s → slice_get s.fields field ≡ Some t → (length ls ≡ s.parameters → at (lives_among ls) t ≡ u) → IsTarget g (lives.Struct n ls) l object offset
       → ClaimsPart g (awaited.operands_in k) peek (pointer_at l object) → IsStack p g x bs (PlaceOf peek u l f) k → IsWell p (arrives (member_of w (At object offset) (map values.kind_of s.fields) field) k e w)

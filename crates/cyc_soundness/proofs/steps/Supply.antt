@@ -1,4 +1,5 @@
--- A VALUE IS PASSED to the entry that waits for it, which leads to a typed state.
+-- This file is about passing a value to the stack entry that awaits it: the step yields a typed
+-- state.
 use Rattle.std.proofs.Common.{◌≡◌, ap, ℕ, zero, suc, ◌<◌, ◌≤◌, Bool, true, false, List, [], ◌∷◌, length, Option, Some, None, slice_get, refl, sym, subst, ◌∙◌, arith, ◌+◌}
 use Rattle.std.specs.Prelude.{if◌then◌else◌}
 use Rattle.std.proofs.lemmas.Option.{same_Some}
@@ -60,7 +61,7 @@ use Rattle.cyc_soundness.proofs.steps.Variables.{writes_local, writes_global}
 use Rattle.cyc_soundness.proofs.steps.Evaluation.{pass_on}
 use Rattle.cyc_soundness.proofs.steps.Chains.{chain_on, converted_on, denied_on, decided_on}
 
--- a scope with one more local
+-- The typing context of a scope with one more local.
 pub context_more : (p : Program) (x : Exits) (bs : List InScope) (c : Context) (is_place : Bool) (t : Ty) (b : Bound) → IsContext p x bs c → IsNew c t → b.number ≡ c.next_local → b.of_type ≡ read bs t
     → b.is_hidden ≡ is_moved t → IsHomed (lives_in bs) c.region b.life → IsContext p x (Variable b ∷ bs) (with_local is_place t c)
 context_more p x bs c is_place t b stands new number of_type hidden life = record {
@@ -78,7 +79,7 @@ context_more p x bs c is_place t b stands new number of_type hidden life = recor
   home = stands.home;
 }
 
--- the lifetime of the next local: that of its block
+-- The lifetime of the local that is declared next is the lifetime of its block.
 pub record NewLife (bs : List InScope) (region home : ℕ) (k : List Entry) : Type 0 where
   pub life : Life
   pub number : IsNumber life home
@@ -103,14 +104,14 @@ owner_is (Kept (PointerTo object)) region is = absurd is
 
 -- ---- declaring a local
 
--- the local with its new object
+-- The local that is declared, with its new object.
 abbrev new_local : World → List InScope → (number : ℕ) → Ty → Life → Bound
 new_local w bs number t l = record { number = number; object = length w.objects; of_type = read bs t; life = l; is_hidden = is_moved t }
 
 abbrev new_type : (depth number : ℕ) → List InScope → Ty → Life → ObjectType
 new_type d number bs t l = variable_type (read bs t) l (is_moved t) (OfLocal d number)
 
--- the resource that is put into the local, if any
+-- The resource that a declaration puts into the local, if any.
 abbrev its_thing : RunTy → Option values.Value → Option Thing
 its_thing t None = None
 its_thing t (Some v) = thing_of t v
@@ -127,13 +128,13 @@ content_given : (own : Thing → Holder) (h new : Holder) (t : RunTy) (content :
 content_given own h new t None v is same = absurd (let k : None ≡ Some v = same in cc)
 content_given own h new t (Some u) v is same = subst (λ z. Claims (given_to (thing_of t u) new own) new t z) (same_Some u v same) (given_now own (thing_of t u) new, is.1)
 
--- the single cell of a new variable holds its own content
+-- The single cell of a new variable holds the resource of its own content.
 one_owned : (g : Typing) (object : ℕ) (t : RunTy) (l : Life) (hidden : Bool) (s : Slot) (c : Cell) → ((v : values.Value) → c.content ≡ Some v → Claims g.own (At object 0) t v) → AreOwned g object (variable_type t l hidden s) (c ∷ [])
 one_owned g object t l hidden s c has zero u d v kept found at content =
     subst (λ z. Claims g.own (At object 0) z v) (same_Some t u found) (has v (ap (λ (z : Cell). z.content) (same_Some c d at) ∙ content))
 one_owned g object t l hidden s c has (suc i) u d v kept found at content = absurd (let k : None ≡ Some u = found in cc)
 
--- the typing of the world with the new local, which holds its initial content
+-- The typing of the world with the new local, which holds its initial content.
 abbrev new_typing : Typing → List InScope → (number : ℕ) → Ty → Life → (filled object : ℕ) → Option Thing → Typing
 new_typing g bs number t l n object o = with_variable (giving g o (At object 0)) (new_type g.depth number bs t l) n (marked object Here g.here)
 
@@ -174,7 +175,7 @@ module _ (p : Program) (g : Typing) (x : Exits) (bs : List InScope) (e : Environ
   on : (focus : Focus) (k : List Entry) → LiveIn k bs → IsFocus p g x bs focus k → IsWell p (Running focus k e w)
   on focus k live stands = running p g x bs e w typed globals bound variables focus k live stands
 
-  -- declaring a local with a value, followed by the rest of its block
+  -- The step that declares a local with a value and continues with the rest of its block.
   pub declares_full : (number : ℕ) (kind : Kind) (v : values.Value) (is_place : Bool) (t : Ty) (js : Items) (cs : List InScope) (c : Context) (f h : flow.State) (k : List Entry) → IsNested k e w → LiveIn k bs
       → Within cs bs → IsContext p x bs c → Holds g f bs → IsNew c t → number ≡ c.next_local → kind ≡ kind_at (read bs t) → HasType g (read bs t) v → ClaimsBy g (operands_in k) (Value (read bs t)) v
       → Continues x (with_local is_place t c) js (with_fullness Full f number) h → IsStack p g x cs (Go h) k → IsWell p (declared (region_at w e.home) Proceeding number kind (Some v) (Rest js ∷ k) e w)
@@ -199,7 +200,7 @@ module _ (p : Program) (g : Typing) (x : Exits) (bs : List InScope) (e : Environ
         ),
       )))
 
-  -- declaring a local without a value
+  -- The step that declares a local without a value.
   pub declares_blank : (number : ℕ) (kind : Kind) (t : Ty) (js : Items) (cs : List InScope) (c : Context) (f h : flow.State) (k : List Entry) → IsNested k e w → LiveIn k bs
       → Within cs bs → IsContext p x bs c → Holds g f bs → IsNew c t → number ≡ c.next_local → kind ≡ kind_at (read bs t) → Continues x (with_local true t c) js (with_fullness Vacant f number) h
       → IsStack p g x cs (Go h) k → IsWell p (declared (region_at w e.home) Proceeding number kind None (Rest js ∷ k) e w)
@@ -267,7 +268,7 @@ module _ (p : Program) (g : Typing) (x : Exits) (bs : List InScope) (e : Environ
   thrown_on tag (values.Int word) k h live is stack = on (Throwing tag word) k live (Go h, stack)
   thrown_on tag v k h live is stack = absurd is
 
-  -- allocating in the region of a handle
+  -- The step that allocates an object in the region of a handle.
   placed_by : (i : Initial) (v : values.Value) (k : List Entry) (c : Context) (m : PointerKind) (t : Ty) (r : Region) (f h : flow.State) (q : List ℕ) → AreOpen w.regions (ends_of k) → LiveIn k bs → IsContext p x bs c → Holds g f bs
       → IsThere bs r → IsMade c i m t → Derives (rule_initial q i f) h → InInitial (relied_at x.relied k) i → HasType g (lives.Handle (lives_in bs r)) v
       → IsStack p g x bs (Val (Value (lives.Pointer m (read bs t) (lives_in bs r))) h) k → IsWell p (makes_by i v k e w)
@@ -276,7 +277,7 @@ module _ (p : Program) (g : Typing) (x : Exits) (bs : List InScope) (e : Environ
       ([], bs, Val (Value (lives.Pointer m (read bs t) (lives_in bs r))) h, awaited.beside_handle (lives.Pointer m (read bs t) (lives_in bs r)) h, tt, stack)
   placed_by i v k c m t r f h q opens live stands holds alive made flows kept has stack = absurd has
 
-  -- the next element of an array is filled, and the counter leaves the scope
+  -- The next element of an array is filled, and the counter of the array leaves the scope.
   filled_on : (object count index level : ℕ) (kind : Kind) (element : Expression) (v : Operand) (k : List Entry) (cs : List InScope) (c : Context) (t : Ty) (r : Region) (f h : flow.State) → bs ≡ Level level ∷ cs
       → AreOpen w.regions (ends_of k) → LiveIn k bs → IsThere cs r → IsContext p x cs c → Holds g h bs → Repeats (relied_at x.relied k) c level kind element t f → Implies h f → index < count
       → IsArray g (read cs t) (lives_in cs r) object count index → Owns g.own (Hand (operands_in k)) (pointer_at (lives_in cs r) object) → IsResult g (Value (read cs t)) v → Claims g.own (Hand (1 + operands_in k)) (read cs t) v.value → IsStack p g x cs (Val (Value (lives.Pointer marks.Fat (read cs t) (lives_in cs r))) f) k

@@ -1,4 +1,5 @@
--- UNWINDING THE CONTROL STACK entry by entry: normally, by `break`, `continue` and `return`, and by an exception.
+-- This file is about unwinding the control stack entry by entry: normally, by `break`, `continue` and `return`,
+-- and by an exception.
 use Rattle.std.proofs.Common.{◌≡◌, ◌≤◌, ℕ, zero, suc, arith, Bool, true, false, List, [], ◌∷◌, Option, Some, None, refl, sym, ap, subst, ◌∙◌, slice_get}
 use Rattle.std.proofs.lemmas.Option.{same_Some}
 use Rattle.cyc_types.specs.Types.{Ty, ValueType}
@@ -42,7 +43,7 @@ module _ (p : Program) (g : Typing) (e : Environment) (w : World) (typed : IsTyp
     on : (focus : Focus) (k : List Entry) → LiveIn k bs → IsFocus p g x bs focus k → IsWell p (Running focus k e w)
     on focus k live stands = running p g x bs e w typed globals bound variables focus k live stands
 
-    -- a region is closed, and its name leaves the scope
+    -- A region is closed, and the name of the region leaves the scope.
     closes : (focus : Focus) (region home number : ℕ) (l : Life) (alive : Bool) (k : List Entry) (cs : List InScope) → bs ≡ Home region ∷ Names number l alive ∷ cs → IsNested (CloseRegion region home ∷ k) e w → LiveIn k cs
         → IsFocus p g x cs focus k → IsWell p (closing (region_at w region) focus region home k e w)
     closes focus region home number l alive k cs same nests live stands =
@@ -61,7 +62,7 @@ module _ (p : Program) (g : Typing) (e : Environment) (w : World) (typed : IsTyp
         subst (λ a. IsWell p (closing_lexical a focus region k e w)) (sym found)
         (running p g x bs e (closed w region r) (closed_typed g w.regions region (record r { is_open = false }) w.objects (lexical_not_heap region k e w nests) nests.0.0 typed) globals bound variables focus k live stands)
 
-    -- a loop's condition is evaluated again
+    -- The condition of a loop is evaluated again.
     tests_again : (condition : Expression) (body : Statement) (k : List Entry) (y : Exits) (l : LoopExit) (v : ValueType) (u h : flow.State) → LiveIn k bs → IsLoop p y bs l condition body v u h → Holds g l.head bs → IsStack p g y bs (Go h) k
         → IsWell p (Running (Evaluating condition) (Needs (Test condition body) ∷ k) e w)
     tests_again condition body k y l v u h live loop holds stack =
@@ -70,7 +71,7 @@ module _ (p : Program) (g : Typing) (e : Environment) (w : World) (typed : IsTyp
 
     -- ---- the end of a loan
 
-    -- the typing after the loan: the resource belongs to its local again
+    -- The typing after a loan has ended: the resource belongs to its local again.
     abbrev ended_typing : (j : ℕ) → Option Thing → (object : ℕ) → Typing
     ended_typing j o object = handing (record g { loans = j }) o (At object 0) object Here
 
@@ -83,7 +84,7 @@ module _ (p : Program) (g : Typing) (e : Environment) (w : World) (typed : IsTyp
       scope : AreVariables (ended_typing j what object) bs
       stack : IsStack p (ended_typing j what object) y bs (Go h) k
 
-    -- the content of the variable, if any, is the lent resource
+    -- The content of the lending variable, if there is any, is the lent resource.
     lent_content : (lent j : ℕ) (t : RunTy) (object : ℕ) → IsLentOut g lent j t object
         → (o : Option Thing) × Owns g.own (Lent j object) o × ((own : Thing → Holder) → Owns own (At object 0) o → (x : Object) → slice_get w.objects object ≡ Some x → (c : Cell) (v : values.Value) → slice_get x.cells 0 ≡ Some c → c.content ≡ Some v → Claims own (At object 0) t v)
     lent_content lent j t object (l, there, away) =
@@ -136,14 +137,14 @@ module _ (p : Program) (g : Typing) (e : Environment) (w : World) (typed : IsTyp
         variable_claims own t x claims zero u c v found at content = subst (λ e. Claims own (At object 0) e v) (same_Some t u found) (claims c v at content)
         variable_claims own t x claims (suc i) u c v found at content = absurd (let e : None ≡ Some u = found in cc)
 
-    -- after the end of a loan the local is full
+    -- After the end of its loan, a local is full.
     ended_holds : (f : flow.State) (lent j object : ℕ) (y : Exits) (h : flow.State) (k : List Entry) (z : HasEnded lent j object y h k) → AreFullAt g lent object bs → Holds g f bs → Holds (ended_typing j z.what object) (with_fullness Full f lent) bs
     ended_holds f lent j object y h k z full holds =
         let m = record g { loans = j } in
         given_back (Lent j object) m (ended_typing j z.what object) z.changed lent object (λ i. at_not_lent i 0 j object) z.here f bs
         (full_at_grown p g m (moment_grows g g.depth j) lent object bs full) (holds_lent g j f bs holds)
 
-    -- a returned value keeps its holder
+    -- A value that is returned keeps its holder when a loan ends.
     return_other : (i j object : ℕ) (what : Option Thing) (o : Option Ty) (r : RunValue) (v : Option Operand) → Changed (Lent j object) (record g { loans = j }) (ended_typing j what object) → IsReturn g i o r v → IsReturn (ended_typing j what object) i o r v
     return_other i j object what None r None changed is = tt
     return_other i j object what None r (Some v) changed is = absurd is

@@ -1,4 +1,5 @@
--- VARIABLES: the content of a local or a global is copied, peeked at, moved or replaced; each such step leads to a typed state.
+-- This file is about variables: the content of a local or a global is copied, peeked at, moved or replaced; each of these steps
+-- yields a typed state.
 use Rattle.std.proofs.Common.{◌≡◌, ◌≢◌, inl, ℕ, ◌≤◌, zero, suc, Bool, true, false, List, [], ◌∷◌, map, Option, Some, None, slice_get, refl, sym, ap, subst, ◌∙◌, arith}
 use Rattle.std.specs.Prelude.{if◌then◌else◌, ◌||◌}
 use Rattle.cyc_types.specs.declared.typed.Kind.{Kind}
@@ -39,7 +40,7 @@ use Rattle.cyc_soundness.proofs.steps.Places.{moved_comes}
 
 -- ---- reading a variable
 
--- a unique pointer is moved by its use
+-- Using a unique pointer moves it out of its variable.
 pub unique_moved : (u : Ty) → is_unique u ≡ true → is_moved u ≡ true
 unique_moved u unique = ap (λ (b : Bool). b || is_key u) unique
 
@@ -47,7 +48,7 @@ looked_at : (g : Typing) (n object : ℕ) (o : Option Thing) → IsHere g g.dept
 looked_at g n object None here hidden is = tt
 looked_at g n object (Some a) here hidden is = (object, here, hidden, is)
 
--- a variable has only one cell
+-- The object of a variable has only one cell.
 only_first : (t : lives.RunTy) (j : ℕ) (u : lives.RunTy) → slice_get (t ∷ []) j ≡ Some u → j ≢ 0 → ⊥
 only_first t zero u found apart = apart refl
 only_first t (suc j) u found apart = absurd (let k : None ≡ Some u = found in cc)
@@ -59,7 +60,7 @@ module _ (p : Program) (g : Typing) (x : Exits) (bs : List InScope) (e : Environ
       open_object g w.regions b.object b.life (lasting_common (ends_of k) b.life lasts) (lasting_open w.regions (ends_of k) b.life opens typed.heap
       (kept_open g w.regions w.objects b.life typed (object_known g w.regions w.objects b.object (local_type g.depth b) typed (among_variable g among variables)) (among_open g among variables)) lasts)
 
-  -- the content of a local's variable
+  -- The content of a local's variable, which a step reads.
   abbrev pub Held : Bound → Kind → Type 0
   Held b kind = Content p g x bs e w typed globals bound variables kind b.object 0 b.of_type
 
@@ -67,12 +68,12 @@ module _ (p : Program) (g : Typing) (x : Exits) (bs : List InScope) (e : Environ
   held_in k u b opens live among of_type full = content_of p g x bs e w typed globals bound variables (values.kind_of u) b.object 0 b.of_type (local_type g.depth b) (among_variable g among variables) refl (open_local k b opens live among) full
       (ap kind_at of_type ∙ kind_meant (lives_in bs) u)
 
-  -- the content of a full local is its own
+  -- A full local holds the resource of its content.
   pub its_own : (b : Bound) (kind : Kind) (c : Held b kind) → g.pending ≡ Settled → IsAmong (Variable b) bs → IsHere g g.depth b.number b.object → Claims g.own (At b.object 0) b.of_type c.value
   its_own b kind c still among here =
       typed.owned b.object (local_type g.depth b) c.object (among_variable g among variables) c.there 0 b.of_type c.cell c.value (kept_now g b.object 0 b.is_hidden here.0 still) refl c.at c.content
 
-  -- the value of a local, passed to the entry that waits for it
+  -- The value of a local is passed to the stack entry that awaits it.
   pub from_bound : (k : List Entry) (n : ℕ) (u : Ty) (b : Bound) (h : flow.State) (r : RunValue) → AreOpen w.regions (ends_of k) → LiveIn k bs → Holds g h bs → IsAmong (Variable b) bs → b.number ≡ n → b.of_type ≡ read bs u → IsFull g b.object
       → ((v : values.Value) → HasType g b.of_type v → IsResult g r (record { kind = values.kind_of u; value = v })) → ((c : Held b (values.kind_of u)) → ClaimsBy g (awaited.operands_in k) r c.value) → IsStack p g x bs (Val r h) k → IsWell p (loaded_from (values.kind_of u) (e.locals n) k e w)
   from_bound k n u b h r opens live holds among number of_type full fits comes stack =
@@ -81,7 +82,7 @@ module _ (p : Program) (g : Typing) (x : Exits) (bs : List InScope) (e : Environ
       (reads p g x bs e w typed globals bound variables k (values.kind_of u) b.object 0 b.of_type (local_type g.depth b) h live holds
       (among_variable g among variables) refl (open_local k b opens live among) full (ap kind_at of_type ∙ kind_meant (lives_in bs) u) r fits comes stack)
 
-  -- a peek of a full local
+  -- The step that peeks at a full local.
   pub looks_bound : (k : List Entry) (n : ℕ) (u : Ty) (b : Bound) (h : flow.State) → AreOpen w.regions (ends_of k) → LiveIn k bs → Holds g h bs → IsAmong (Variable b) bs → b.number ≡ n → b.of_type ≡ read bs u → IsFullIn h n
       → IsStack p g x bs (Val (Seen b.object (read bs u)) h) k → IsWell p (loaded_from (values.kind_of u) (e.locals n) k e w)
   looks_bound k n u b h opens live holds among number of_type full stack =
@@ -92,7 +93,7 @@ module _ (p : Program) (g : Typing) (x : Exits) (bs : List InScope) (e : Environ
       (λ v is. (sym (kind_meant (lives_in bs) u), subst (λ z. HasType g z v) of_type is))
       (λ c. (subst (λ t. Claims g.own (At b.object 0) t c.value) of_type (its_own b (values.kind_of u) c still among here)).0) stack
 
-  -- the value of a local moves to an operand
+  -- The step that moves the value of a local to an operand.
   pub moves : (k : List Entry) (c : Context) (n : ℕ) (u : Ty) (f : flow.State) → AreOpen w.regions (ends_of k) → LiveIn k bs → IsContext p x bs c → Holds g f bs → (r : ℕ) × HasLocal c.locals n u r → is_moved u ≡ true → IsFullIn f n → IsSpared (relied_at x.relied k) n
       → IsStack p g x bs (Val (Value (read bs u)) (with_fullness Vacant f n)) k → IsWell p (loaded_from (values.kind_of u) (e.locals n) k e w)
   moves k c n u f opens live stands holds (r, has) moved full spared stack =
@@ -125,7 +126,7 @@ module _ (p : Program) (g : Typing) (x : Exits) (bs : List InScope) (e : Environ
         stack_changed p (At b.object 0) g h x bs (Val (Value (read bs u)) f1) k changed (g.depth, n, slot, inl (refl, spared)) stack,
       )))
 
-  -- a global, whose type means the same in every scope as in the global one
+  -- A global is found; its type means the same in every scope as in the global scope.
   pub global_there : (n : ℕ) (u : Ty) (c : Context) → IsContext p x bs c → slice_get c.globals n ≡ Some u
       → (slice_get (map (λ (v : GlobalVariable). v.of_type) p.globals) n ≡ Some u) × (read bs u ≡ lives.at as_heap u)
   global_there n u c stands has =
@@ -133,7 +134,7 @@ module _ (p : Program) (g : Typing) (x : Exits) (bs : List InScope) (e : Environ
       let (at, full, closed) = globals.globals n u there in
       (there, global_means bs u closed)
 
-  -- a local that is read and keeps its content
+  -- A local is read and keeps its content.
   from_local : (k : List Entry) (c : Context) (n : ℕ) (u : Ty) (f h : flow.State) (r : RunValue) → AreOpen w.regions (ends_of k) → LiveIn k bs → IsContext p x bs c → Holds g f bs
       → (i : ℕ) × HasLocal c.locals n u i → IsSet f n → Implies f h → ((v : values.Value) → HasType g (read bs u) v → IsResult g r (record { kind = values.kind_of u; value = v }))
       → ((b : Bound) (v : values.Value) → b.number ≡ n → b.is_hidden ≡ is_moved u → (IsHere g g.depth b.number b.object → Claims g.own (At b.object 0) (read bs u) v) → IsAmong (Variable b) bs → ClaimsBy g (awaited.operands_in k) r v)
@@ -149,14 +150,14 @@ module _ (p : Program) (g : Typing) (x : Exits) (bs : List InScope) (e : Environ
       (λ v is. fits v (subst (λ z. HasType g z v) of_type is))
       (λ v. comes b v.value number l.hidden (λ here. subst (λ t. Claims g.own (At b.object 0) t v.value) of_type (its_own b (values.kind_of u) v (settled p g x bs (Val r h) k stack) among here)) among) stack
 
-  -- a copy of a local's value
+  -- The step that copies the value of a local.
   pub copies : (k : List Entry) (c : Context) (n : ℕ) (u : Ty) (t : ValueType) (f h : flow.State) → AreOpen w.regions (ends_of k) → LiveIn k bs → IsContext p x bs c → Holds g f bs
       → (i : ℕ) × HasLocal c.locals n u i → IsSet f n → is_moved u ≡ false → Implies f h → t ≡ types.Value u → IsStack p g x bs (Val (read_value bs t) h) k → IsWell p (loaded_from (values.kind_of u) (e.locals n) k e w)
   copies k c n u t f h opens live stands holds has is_set plain implies same stack =
       from_local k c n u f h (Value (read bs u)) opens live stands holds has is_set implies (λ v is. (sym (kind_meant (lives_in bs) u), is))
       (λ b v number hidden own among. plain_claims g.own (Hand (awaited.operands_in k)) (read bs u) v (plain_read g bs variables u plain)) (subst (λ z. IsStack p g x bs (Val z h) k) (ap (read_value bs) same) stack)
 
-  -- a peek of a local's value
+  -- The step that peeks at the value of a local.
   pub peeks : (k : List Entry) (c : Context) (n : ℕ) (u : Ty) (t : ValueType) (f h : flow.State) → AreOpen w.regions (ends_of k) → LiveIn k bs → IsContext p x bs c → Holds g f bs
       → (i : ℕ) × HasLocal c.locals n u i → is_unique u ≡ true → IsFullIn f n → Implies f h → t ≡ types.Value u → IsStack p g x bs (Val (looked (Some n) (read_value bs t)) h) k → IsWell p (loaded_from (values.kind_of u) (e.locals n) k e w)
   peeks k c n u t f h opens live stands holds has unique full implies same stack =
@@ -211,7 +212,7 @@ module _ (p : Program) (g : Typing) (x : Exits) (bs : List InScope) (e : Environ
         stack_changed p hand one h x bs (Val (read_value bs (assigned_type t)) (with_fullness Full f b.number)) k all (let le : awaited.operands_in k ≤ awaited.operands_in k = omega arith in le) stack_now,
       )))
     where
-      -- no state relies on the content of a hidden variable
+      -- No flow state relies on the content of a variable to which no pointer points.
       marked_stack : (hidden : Bool) → b.is_hidden ≡ hidden → IsStack p (record g { here = marked b.object Here g.here }) x bs (Val (read_value bs (assigned_type t)) (with_fullness Full f b.number)) k
       marked_stack true hides = stack_changed p (At b.object 0) g (record g { here = marked b.object Here g.here }) x bs (Val (read_value bs (assigned_type t)) (with_fullness Full f b.number)) k (marked_changed g b.object)
           (g.depth, b.number, (local_type g.depth b, among_variable g among variables, refl), inl (refl, spared hides)) stack

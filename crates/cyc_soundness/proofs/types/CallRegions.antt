@@ -1,5 +1,5 @@
--- The lifetimes that region variables denote in a call: for its loans, for the types in its function, and for its struct fields and
--- globals.
+-- This file is about the lifetimes that region variables denote in a call: for its loans, for the types in its function, and for
+-- its struct fields and globals.
 use Rattle.std.proofs.Common.{◌≡◌, ◌≢◌, inl, inr, ℕ, zero, suc, ◌≤◌, ◌<◌, Bool, true, false, List, [], ◌∷◌, length, map, Some, slice_get, refl, sym, ap, subst, ◌∙◌, arith}
 use Rattle.std.specs.Prelude.{Option, None, option_map, if◌then◌else◌, ◌==◌, Contains, slice_index_or}
 use Rattle.std.proofs.lemmas.Bool.{eqb-true, eq-eqb}
@@ -87,18 +87,18 @@ module _ (p : Program) (x : Exits) (bs : List InScope) (c : Context) (stands : I
       home_named c.region c.next_region l live bs (sym (other_name c.next_region c.region l (life_named bs c.region) apart))
       (λ there. other_name c.next_region c.region live (is_live_named bs c.region) apart ∙ there) stands.home
 
-  -- the context after the declaration of a key, whose region is not open
+  -- The typing context after the declaration of a key, whose region is not open.
   pub context_key : (l : Life) → IsContext p x (Names c.next_region l false ∷ bs) (with_region c)
   context_key l = context_named c.next_region l false (other_life c.next_region l false bs) (suc c.next_region) c.regions
       (known_after c.next_region (suc c.next_region) c.regions c.locals c.result (let most : c.next_region ≤ suc c.next_region = omega arith in most) stands.known) (stand_new l false) (home_new l false)
 
-  -- the context after the declaration of an alias
+  -- The typing context after the declaration of an alias.
   pub context_alias : (l : Life) → IsContext p x (Names c.next_region l true ∷ bs) (with_opened scopes.Alias c)
   context_alias l = context_named c.next_region l true (other_life c.next_region l true bs) (suc c.next_region) (with_scope scopes.Alias (regions.Variable c.next_region) c.regions)
       (known_opened c.next_region scopes.Alias c.regions c.locals c.result stands.known)
       (stand_also scopes.Alias c.next_region l c.regions bs refl (stand_new l true)) (home_new l true)
 
-  -- the context in which the region of a key is open
+  -- The typing context in which the region of a key is open.
   pub context_again : (r : ℕ) → r < c.next_region → IsContext p x (Names r (life_named bs r) true ∷ bs) (with_key_opened r c)
   context_again r less = context_named r (life_named bs r) true (λ s other. again_life r bs s) c.next_region (with_scope scopes.Dynamic (regions.Variable r) c.regions)
       (known_in_dynamic c.next_region r c.regions c.locals c.result less stands.known)
@@ -178,7 +178,7 @@ known_parameters k number (t ∷ ts) vs (one, named) known =
     known_parameters k (suc number) ts (record { number = number; of_type = t; region = 0; is_place = true } ∷ vs) named
     ((all_in_weaker (IsNamed k) (IsKnown (suc k)) (λ r is. named_known k r is) t (named_in k t one), (let e : 0 < suc k = omega arith in e)), known)
 
--- the regions known in a function's body are declared
+-- The regions that the typing context of a function's body knows are declared.
 pub known_body : (p : Program) (h : Function) → IsWellTypedFunction p h → AreKnown (suc h.variables) (body_context p h).regions (parameters_in_scope h.parameters 0 []) h.result
 known_body p h well = record {
   live = live;
@@ -205,7 +205,7 @@ field_lives bs rs regions.Heap known = refl
 field_lives bs rs regions.Unique known = refl
 field_lives bs rs (regions.Variable n) known = life_among (lives_in bs) rs n (regions.Variable n) known
 
--- a field's type, with the struct's parameters instantiated
+-- The type of a field after the struct's region parameters are instantiated.
 pub field_means : (bs : List InScope) (rs : List Region) (s : StructType) (t : Ty) → length rs ≡ s.parameters → IsDeclarable s.parameters t
     → at (lives_among (map (lives_in bs) rs)) t ≡ read bs (substituted_ty rs t)
 field_means bs rs s t count known = read_alike (lives_among (map (lives_in bs) rs)) (lives_by (lives_in bs) rs) t
@@ -234,7 +234,7 @@ global_means bs t known = read_alike (lives_in bs) as_heap t (all_in_weaker (IsK
     none regions.Unique is = refl
     none (regions.Variable n) less = absurd (omega (arith, less))
 
--- a place is in a live region
+-- The cell of a well-typed memory access is in a live region.
 pub cell_live : (c : Context) (d : Dereference) (t : Ty) (r : Region) → IsCell c d t r → IsLive c r
 cell_live c (Target k a u) t r (m, well, alive, kind, same) = alive
 cell_live c (Member k a n field u) t r (m, rs, s, v, well, thin, alive, kind, at, there, of, same) = alive
@@ -242,17 +242,18 @@ cell_live c (Element a i u) t r (well, index, alive, same) = alive
 
 -- ---- calls
 
--- the lifetimes that the region variables of a callee denote
+-- The lifetimes that the region variables of a called function denote.
 abbrev pub these_by : Lives → List Region → ℕ → Life
 these_by n m k = n (substituted_region m (regions.Variable k))
 
--- the region variables that are live in the callee
+-- The region variables that are live in a called function.
 abbrev pub is_among : ℕ → List Region → Bool
 is_among n [] = false
 is_among n (regions.Variable k ∷ rs) = if n == k then true else is_among n rs
 is_among n (r ∷ rs) = is_among n rs
 
--- the lifetimes of instantiated region variables
+-- The lifetime of an instantiated region is the lifetime of the region variable under the
+-- instantiation.
 these_are : (bs : List InScope) (m : List Region) (r : Region) → lives_by (lives_in bs) m r ≡ lives_of (these_by (lives_in bs) m) r
 these_are bs m regions.Heap = refl
 these_are bs m regions.Unique = refl
@@ -303,7 +304,7 @@ outliving c m (q ∷ ps) a b (is, are) has = elim (Contains-cons_cases q ps (a, 
   | inr old ↦ outliving c m ps a b are old
 ]
 
--- no region variable is instantiated with the unique region
+-- No region variable of a call is instantiated with the unique region.
 never_unique : (m : List Region) (n : ℕ) → AreNotUnique m → substituted_region m (regions.Variable n) ≢ regions.Unique
 never_unique [] n apart = λ e. (let k : regions.Variable n ≡ regions.Unique = e in absurd (cc))
 never_unique (r ∷ m) zero (one, apart) = one

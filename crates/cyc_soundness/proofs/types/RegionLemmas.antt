@@ -1,4 +1,5 @@
--- The lifetimes that region variables denote when a region is named, opened, or passed at a call.
+-- This file is about the lifetimes that region variables denote when a region is named, opened, or
+-- passed at a call.
 use Rattle.std.proofs.Common.{◌≡◌, ◌≢◌, inl, inr, ℕ, suc, ◌≤◌, ◌<◌, Bool, true, false, List, [], ◌∷◌, length, eqb, refl, sym, ap, subst, ◌∙◌, arith}
 use Rattle.std.specs.Prelude.{Option, if◌then◌else◌, ◌==◌, Contains}
 use Rattle.std.proofs.lemmas.Bool.{eqb-true, eq-eqb, false_from_ne_true}
@@ -78,7 +79,7 @@ name_open g (Home region ∷ bs) k (is, are) live = name_open g bs k are live
 name_open g (Instance these lives ∷ bs) k (is, are) live = (is k).1 live
 name_open g (Names number l alive ∷ bs) k (is, are) live = open_either g (k == number) l (life_named bs k) alive (is_live_named bs k) is.1 (λ e. name_open g bs k are e) live
 
--- a live region denotes an open lifetime
+-- A region that is live denotes an open lifetime.
 pub there_open : (g : Typing) (bs : List InScope) (r : Region) → AreVariables g bs → IsThere bs r → IsOpenIn g (lives_in bs r)
 there_open g bs regions.Heap are there = λ r e. absurd (let z : false ≡ true = e in cc)
 there_open g bs regions.Unique are there = tt
@@ -96,13 +97,13 @@ owner_known g (Kept (KeyOf region)) is = is
 owner_known g (Kept (PointerTo object)) is = tt
 owner_known g Owned is = tt
 
--- a region denotes a known owner, also for unique objects
+-- A region denotes a known owner of objects; the owner of unique objects is known too.
 pub region_owner : (g : Typing) (bs : List InScope) (r : Region) → AreVariables g bs → IsKnownOwner g (lives_in bs r)
 region_owner g bs regions.Heap are = tt
 region_owner g bs regions.Unique are = tt
 region_owner g bs (regions.Variable n) are = owner_known g (life_named bs n) (name_known g bs n are)
 
--- a live region denotes a lifetime that has not ended
+-- A region that is live denotes a lifetime that has not ended.
 pub there_lasting : (ns : List ℕ) (bs : List InScope) (r : Region) → AreLiveIn ns bs → r ≢ regions.Unique → IsThere bs r → IsLasting ns (lives_in bs r)
 there_lasting ns bs regions.Heap are plain there = inl refl
 there_lasting ns bs regions.Unique are plain there = absurd (plain refl)
@@ -127,7 +128,7 @@ known_other n regions.Heap known = tt
 known_other n regions.Unique known = tt
 known_other n (regions.Variable m) less = λ e. (let k : m ≡ n = e in absurd (omega (arith, less, k)))
 
--- another region keeps its lifetime
+-- Naming a region does not change the lifetime of any other region.
 pub other_life : (number : ℕ) (l : Life) (live : Bool) (bs : List InScope) (r : Region) → IsOther number r → lives_in bs r ≡ lives_in (Names number l live ∷ bs) r
 other_life number l live bs regions.Heap other = refl
 other_life number l live bs regions.Unique other = refl
@@ -143,7 +144,7 @@ other_there number l alive bs (regions.Variable n) other there = other_name numb
 opened_there : (number : ℕ) (l : Life) (bs : List InScope) (r : Region) → regions.Variable number ≡ r → IsThere (Names number l true ∷ bs) r
 opened_there number l bs r same = subst (λ z. IsThere (Names number l true ∷ bs) z) same (same_name number true (is_live_named bs number))
 
--- a region that outlives an opened one was live at its opening
+-- A region that outlives an opened region was live when this region was opened.
 at_opening : (live : List Region) (opened : List Scope) (a b : Region) → IsLiveAtOpening live opened a b → Contains (live_regions live opened) a × Contains (live_regions live opened) b
 at_opening live [] a b is = absurd is
 at_opening live (s ∷ earlier) a b (inl (kind, same, plain, has)) =
@@ -151,7 +152,7 @@ at_opening live (s ∷ earlier) a b (inl (kind, same, plain, has)) =
 at_opening live (s ∷ earlier) a b (inr is) =
     let (one, two) = at_opening live earlier a b is in (Contains-tail s.region (live_regions live earlier) a one, Contains-tail s.region (live_regions live earlier) b two)
 
--- when a scope opens, no other region outlives the unique region
+-- When a scope opens, no region except the unique one outlives the unique region.
 opened_plain : (kind : Kind) (number : ℕ) (c : RegionContext) → ((a : Region) → IsGiven c a regions.Unique → ⊥) → (a : Region) → IsGiven (with_scope kind (regions.Variable number) c) a regions.Unique → ⊥
 opened_plain kind number c plain a (inl (heap, other)) = other refl
 opened_plain kind number c plain a (inr (inl written)) = plain a (inr (inl written))
@@ -207,7 +208,7 @@ module _ (number : ℕ) (l : Life) (alive : Bool) (c : RegionContext) (bs : List
       agrees a b (inr (inl written)) = let (one, two) = pairs a b written in moved a b one two (names.agrees a b (inr (inl written)))
       agrees a b (inr (inr old)) = let (one, two) = at_opening c.live c.opened a b old in moved a b (others a one) (others b two) (names.agrees a b (inr (inr old)))
 
--- a scope whose region is older than the scope
+-- The scope of an alias or of an opened key has a region that is older than the scope.
 pub also_opened : (kind : Kind) (number : ℕ) (c : RegionContext) (these : ℕ → Life) (live : ℕ → Bool) → is_outlived_by_live kind ≡ false → live number ≡ true → AreNamed c these live
     → AreNamed (with_scope kind (regions.Variable number) c) these live
 also_opened kind number c these live older alive names = record { there = there; agrees = agrees; plain = opened_plain kind number c names.plain }
@@ -224,7 +225,7 @@ also_opened kind number c these live older alive names = record { there = there;
     agrees a b (inr (inr (inl (outlived, new, plain, has)))) = absurd (let z : true ≡ false = sym outlived ∙ older in cc)
     agrees a b (inr (inr (inr old))) = names.agrees a b (inr (inr old))
 
--- a region that is named again keeps its lifetime
+-- Naming a region again does not change its lifetime.
 pub again_life : (number : ℕ) (bs : List InScope) (r : Region) → lives_in bs r ≡ lives_in (Names number (life_named bs number) true ∷ bs) r
 again_life number bs regions.Heap = refl
 again_life number bs regions.Unique = refl
@@ -266,7 +267,7 @@ pub known_others : (n : ℕ) (vs : List LocalInScope) → AreKnownLocals n vs �
 known_others n [] known = tt
 known_others n (v ∷ vs) ((of_type, region), known) = ((all_in_weaker (IsKnown n) (IsOther n) (known_other n) v.of_type of_type, known_other n (regions.Variable v.region) region), known_others n vs known)
 
--- a scope stays valid if the regions that it mentions keep their lifetimes
+-- A scope stays valid if the regions that it mentions keep their lifetimes.
 pub scope_kept : (n : ℕ) (j k : Lives) (vs : List LocalInScope) (bs : List InScope) → ((r : Region) → IsOther n r → j r ≡ k r) → AreOthers n vs → IsScope j vs bs → IsScope k vs bs
 scope_kept n j k vs [] same others is = is
 scope_kept n j k vs (Variable b ∷ bs) same others (rest, (v, vs_are, number, of_type, hidden, homed), is) =
@@ -371,7 +372,7 @@ module _ (p : Program) (x : Exits) (bs : List InScope) (c : Context) (stands : I
     stand_here kind outlived = stand_opened g kind c.next_region region ns c.regions bs variables outlived live
         (known_live c.next_region c.regions c.locals c.result stands.known) (known_pairs c.next_region c.regions c.locals c.result stands.known) stands.regions
 
-    -- the context inside a block
+    -- The typing context inside a block.
     pub context_inside : IsContext p x (Home region ∷ here) (in_block c)
     context_inside = record {
       globals = stands.globals;
@@ -388,7 +389,7 @@ module _ (p : Program) (x : Exits) (bs : List InScope) (c : Context) (stands : I
       home = new_home c.next_region region ns (lent_now g) bs;
     }
 
-    -- the context after a lexical region
+    -- The typing context after a lexical region is opened.
     pub context_lexical : IsLive c (regions.Variable c.region) → IsContext p x here (with_opened scopes.Lexical c)
     context_lexical alive = record {
       globals = stands.globals;

@@ -1,4 +1,5 @@
--- LINEAR AND SHARED VALUES: the types whose values are linear resources.
+-- This file is about linear and shared values: it determines the types whose values are linear
+-- resources.
 use Rattle.std.proofs.Common.{◌≡◌, ◌≢◌, ℕ, true, false, List, refl, subst}
 use Rattle.cyc_syntax.specs.declared.tree.PointerKind.{PointerKind}
 use Rattle.cyc_types.specs.declared.region.Region.{Region}
@@ -23,7 +24,7 @@ known_common g Owned known = absurd known
 pub never_owned : {A : Type 0} (l : Life) → IsCommonLife l → l ≡ Owned → A
 never_owned l common same = absurd (subst (λ z. IsCommonLife z) same common)
 
--- a pointer to the first cell leads to its object's start
+-- A pointer to the first cell of an object points to the object's start.
 pub at_start : (l : Life) → AtStart l 0 0
 at_start (OfRegion number ns us) = tt
 at_start (Kept region) = tt
@@ -38,7 +39,7 @@ module _ (g : Typing) (bs : List InScope) (variables : AreVariables g bs) where
   region_common regions.Unique plain = absurd (plain refl)
   region_common (regions.Variable n) plain = name_common n
 
-  -- only the unique region denotes a unique lifetime
+  -- Only the unique region denotes the lifetime of a unique object.
   unique_given : (c : RegionContext) → ((a : Region) → IsGiven c a regions.Unique → ⊥) → (a b : Region) → OutlivesIn c a b → lives_in bs b ≡ Owned → lives_in bs a ≡ Owned
   unique_given c plain a b (itself _) same = same
   unique_given c plain a regions.Heap (given _ _ is) same = let k : heap_life ≡ Owned = same in absurd (cc)
@@ -56,7 +57,7 @@ module _ (g : Typing) (bs : List InScope) (variables : AreVariables g bs) where
   common_plain k t (Kept region) common = tt
   common_plain k t Owned common = absurd common
 
-  -- a copied value is not a linear resource
+  -- A value that is copied is not a linear resource.
   pub plain_read : (t : Ty) → is_moved t ≡ false → IsPlain (read bs t)
   plain_read types.Int plain = tt
   plain_read types.Char plain = tt
@@ -67,7 +68,7 @@ module _ (g : Typing) (bs : List InScope) (variables : AreVariables g bs) where
   plain_read (types.Key r) plain = absurd (let z : true ≡ false = plain in cc)
   plain_read (types.Struct n rs) plain = tt
 
-  -- a type that is not unique determines its claims
+  -- A type that is not unique determines which resources its values claim.
   pub unique_by_type : (t : Ty) → is_unique t ≡ false → IsByType (read bs t)
   unique_by_type types.Int plain = tt
   unique_by_type types.Char plain = tt
@@ -78,7 +79,7 @@ module _ (g : Typing) (bs : List InScope) (variables : AreVariables g bs) where
   unique_by_type (types.Key r) plain = tt
   unique_by_type (types.Struct n rs) plain = tt
 
--- a type that is not a key is read as a type that is not a key
+-- A type that is not the type of a key is not read as the type of a key.
 pub plain_keyless : (n : Lives) (t : Ty) → is_key t ≡ false → IsKeyless (at n t)
 plain_keyless n types.Int plain = tt
 plain_keyless n types.Char plain = tt

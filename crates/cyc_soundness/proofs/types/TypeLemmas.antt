@@ -1,4 +1,5 @@
--- Types in their two readings, their kinds, and conversions.
+-- This file is about types in their two forms (with regions and with lifetimes), their kinds, and
+-- conversions.
 use Rattle.std.proofs.Common.{◌≡◌, ◌⊎◌, inl, inr, true, List, [], ◌∷◌, map, Option, Some, None, refl, sym, ap, subst, ◌∙◌}
 use Rattle.std.specs.Prelude.{option_map}
 use Rattle.cyc_syntax.specs.declared.tree.PointerKind.{PointerKind}
@@ -36,7 +37,7 @@ mark_kinds marks.Nullable = refl
 mark_kinds marks.NonNull = refl
 mark_kinds marks.Fat = refl
 
--- a kind does not depend on lifetimes
+-- The kind of a type does not depend on the lifetimes of its regions.
 pub kind_read : (n : Lives) (t : Ty) → kind_at (at n t) ≡ tests.kind_of t
 kind_read n types.Int = refl
 kind_read n types.Char = refl
@@ -83,7 +84,8 @@ same_of : (m n : Lives) (rs : List Region) → AllOf (λ r. m r ≡ n r) rs → 
 same_of m n [] same = refl
 same_of m n (r ∷ rs) (one, same) = ap (λ l. l ∷ map m rs) one ∙ ap (λ ls. n r ∷ ls) (same_of m n rs same)
 
--- a type is read equally under lifetimes that agree on its regions
+-- If two assignments of lifetimes agree on the regions of a type, then the type is read equally
+-- under both.
 pub read_alike : (m n : Lives) (t : Ty) → AllIn (λ r. m r ≡ n r) t → at m t ≡ at n t
 read_alike m n types.Int same = refl
 read_alike m n types.Char same = refl
@@ -107,7 +109,8 @@ regions_by : (n : Lives) (m rs : List Region) → map n (map (substituted_region
 regions_by n m [] = refl
 regions_by n m (r ∷ rs) = ap (λ ls. lives_by n m r ∷ ls) (regions_by n m rs)
 
--- reading an instantiated type is reading the type under the instantiated lifetimes
+-- Reading a type after its regions are instantiated equals reading the type under the instantiated
+-- lifetimes.
 pub instance_by : (n : Lives) (m : List Region) (t : Ty) → at n (substituted_ty m t) ≡ at (lives_by n m) t
 instance_by n m types.Int = refl
 instance_by n m types.Char = refl
@@ -148,12 +151,12 @@ well_type c (Assign l d u) t (v, r, place, converted, gives_u, same) = same
 well_type c (Store d e u) t (v, r, cell, converted, gives_u, same) = same
 well_type c (New w i u) t (k, v, r, placement, made, u_is, same) = same
 
--- the type of a tree that may be a peek
+-- The type of an expression that may be a peek.
 seen_type : (c : Context) (a : Expression) (t : ValueType) → WellTyped c a t ⊎ IsPeek c a t → t ≡ type_of a
 seen_type c a t (inl well) = well_type c a t well
 seen_type c (Peek p n u) t (inr (variable, unique, same)) = same
 seen_type c a t (inr is) = absurd is
 
--- the target that the tree of a value states
+-- The pointer target that a typed tree states for a value.
 pub target_typed : (c : Context) (a : Expression) (t : ValueType) → WellTyped c a t ⊎ IsPeek c a t → target_by a ≡ target_of_value t
 target_typed c a t is = ap target_of_value (sym (seen_type c a t is))

@@ -1,5 +1,5 @@
--- AWAITED VALUES: the values and places that entries of the control stack wait for, the operands stored in the entries, and the
--- continuation after them.
+-- This file defines what the entries of the control stack await: the values and memory cells, the operands stored in the
+-- entries, and the continuation after them.
 use Rattle.std.specs.Prelude.{◌≡◌, ◌≢◌, ◌⊎◌, ℕ, suc, ◌+◌, ◌<◌, ◌≤◌, Bool, true, false, List, [], ◌∷◌, length, map, Option, Some, None, slice_get}
 use Rattle.cyc_syntax.specs.declared.tree.PointerKind.{PointerKind}
 use Rattle.cyc_syntax.specs.declared.tree.PointerKind.TheVariants as marks
@@ -36,19 +36,21 @@ use Rattle.cyc_soundness.specs.inside.Frames.{IsAmong, Bound, InScope, Variable,
 use Rattle.cyc_soundness.specs.inside.Judgements.{seen_by, Evaluates, EvaluatesWhole, Computes, Passes, Makes, Finds, Executes, Continues}
 
 pub data Want : Type 0 where
-  -- nothing is awaited: the run is over
+  -- Nothing is awaited, because the run is over.
   Nothing : Want
-  -- a value of this type (or none, if no value is used) is awaited, with this flow state after it
+  -- A value of this type (or none, if no value is used) is awaited; the flow state after it is
+  -- given.
   Val : RunValue → flow.State → Want
-  -- a place of this type and lifetime is awaited, reached through a peek of this local, or else by an operand on the stack
+  -- A cell of this type and lifetime is awaited, which is reached through a peek of this local or, without a peek, through
+  -- an operand on the stack.
   PlaceOf : (peek : Option ℕ) → RunTy → Life → flow.State → Want
-  -- the end of a statement is awaited
+  -- The end of a statement is awaited.
   Go : flow.State → Want
 
 abbrev pub place_operand : values.Value → Operand
 place_operand place = record { kind = kinds.NonNull; value = place }
 
--- the operands stored in an entry that waits for a value
+-- The operands that an entry stores while it awaits a value.
 abbrev pub held : Awaiting → List Operand
 held (Apply operator left) = left ∷ []
 held (ApplyPointer peek operator left) = left ∷ []
@@ -58,18 +60,20 @@ held (Advance peek target base) = base ∷ []
 held (MakeFields owner before rest) = before
 held a = []
 
--- the number of stored operands; the pointer to an array under construction counts as one
+-- The number of operands that an entry stores; the pointer to an array under construction counts as
+-- one operand.
 abbrev pub count_held : Awaiting → ℕ
 count_held (FillElement object count index level kind element) = 1
 count_held a = length (held a)
 
--- the number of operands of an entry that waits for a place; the left place of a swap counts as one
+-- The number of operands of an entry that awaits a cell; the left side of a swap counts as one
+-- operand.
 abbrev pub count_place : AwaitingPlace → ℕ
 count_place (SwapRight kind peek is_cell left) = 1
 count_place a = 0
 
--- The relation of an entry to its surroundings: the awaited expression is a whole one, or it is a part of a larger expression. The record
--- also names the local with a pending peek, if any.
+-- The relation of a stack entry to its context: the awaited expression is complete, or it is a part of a larger expression. The value
+-- also names the local whose peek is not yet used, if any.
 pub data Part : Type 0 where
   Whole : (peek : Option ℕ) → Part
   PartOf : (peek : Option ℕ) → Part
@@ -96,29 +100,32 @@ abbrev pub relied_by : Part → (around now : Relied) → Relied
 relied_by (Whole peek) around now = and_looked peek around
 relied_by (PartOf peek) around now = and_looked peek now
 
--- The flow states relied on above this stack, given those that clauses rely on: a local with a pending peek must not change.
+-- The flow states on which entries above this stack rely, given those on which clauses rely: a local whose peek is not yet
+-- used must not change.
 abbrev pub relied_at : Relied → List Entry → Relied
 relied_at q [] = q
 relied_at q (Needs a ∷ stack) = relied_by (part a) q (relied_at q stack)
 relied_at q (NeedsPlace a ∷ stack) = relied_by (part_of_place a) q (relied_at q stack)
 relied_at q (entry ∷ stack) = q
 
--- the operands of the first list, newest first, reversed onto the second list
+-- The elements of the first list, newest first, are put in reverse order before the second list.
 abbrev pub turned : {A : Type 0} → List A → List A → List A
 turned [] rest = rest
 turned (a ∷ before) rest = turned before (a ∷ rest)
 
--- the live regions and constraints at the start of a function, before its own region is open
+-- The live regions and constraints at the start of a function, before the function's own region is
+-- open.
 abbrev pub regions_at_call : Function → RegionContext
 regions_at_call h = record { written = h.constraints; live = regions.Heap ∷ regions.Unique ∷ h.effect; opened = [] }
 
--- The callee's region variables denote lifetimes of the caller's regions, and those that are live in the callee are live in the caller.
+-- Says that the region variables of a called function denote lifetimes of the caller's regions, and that those that are live in the
+-- called function are live in the caller.
 pub record IsInstance (bs : List InScope) (h : Function) (these : ℕ → Life) (live : ℕ → Bool) : Type 0 where
   pub stand : Stand (regions_at_call h) (Instance these live ∷ [])
   pub lasting : (n : ℕ) → live n ≡ true → (r : Region) × (r ≢ regions.Unique) × IsThere bs r × (lives_in bs r ≡ these n)
   pub named : (n : ℕ) → (r : Region) × (r ≢ regions.Unique) × (lives_in bs r ≡ these n)
 
--- a call of this callee with arguments of these types returns a value of this type
+-- Says that a call of this function with arguments of these types returns a value of this type.
 abbrev pub IsCalled : Program → List InScope → Callee → List RunTy → RunValue → Type 0
 IsCalled p bs callees.Putchar ts r = (ts ≡ lives.Int ∷ []) × (r ≡ Value lives.Int)
 IsCalled p bs callees.Getchar ts r = (ts ≡ []) × (r ≡ Value lives.Int)
@@ -126,22 +133,23 @@ IsCalled p bs (callees.Function number) ts r =
     (h : Function) × (these : ℕ → Life) × (live : ℕ → Bool) × (slice_get p.functions number ≡ Some h) × IsInstance bs h these live
     × (ts ≡ map (at (lives_of these)) h.parameters) × (r ≡ value_at (lives_of these) (result_type h.result))
 
--- these are the field types of a struct with these lifetimes as parameters, and no field type is a key
+-- Says that these are the field types of a struct with these lifetimes as parameters, and that no
+-- field type is a key.
 abbrev pub AreFields : Program → (struct : ℕ) → List Life → List RunTy → Type 0
 AreFields p n ls ts = (s : StructType) × (slice_get p.structs n ≡ Some s) × (length ls ≡ s.parameters) × (ts ≡ map (at (lives_among ls)) s.fields) × AreKeyless ts
 
--- a local of this type may be declared next
+-- Says that a local of this type may be declared next.
 abbrev pub IsNew : Context → Ty → Type 0
 IsNew c t = IsDeclarable c.next_region t × IsLive c (regions.Variable c.region)
 
 abbrev pub null : Operand
 null = record { kind = kinds.Nullable; value = values.Null }
 
--- the exits inside the body of this loop
+-- The exits inside the body of a loop.
 abbrev pub inside : Exits → LoopExit → Exits
 inside x l = record x { loop = Some l; locks = [] }
 
--- A well-typed loop: the condition has a value of this type and leads to the state `f`; after the loop the state is `exit`.
+-- Says that a loop is well-typed: the flow state after its condition is `f`, and the state after the loop is `exit`.
 pub record IsLoop (p : Program) (x : Exits) (bs : List InScope) (l : LoopExit) (condition : Expression) (body : Statement) (v : ValueType) (f exit : flow.State) : Type 0 where
   pub context : Context
   pub now : flow.State
@@ -153,7 +161,8 @@ pub record IsLoop (p : Program) (x : Exits) (bs : List InScope) (l : LoopExit) (
   pub fails : Implies f exit
   pub left : Implies l.breaks exit
 
--- The elements of an array of this type: evaluating one element leaves at least the state before it.
+-- Says that evaluating one element of an array of this type loses no facts of the state before the
+-- element.
 pub record Repeats (q : Relied) (c : Context) (level : ℕ) (kind : Kind) (element : Expression) (t : Ty) (f : flow.State) : Type 0 where
   pub now : flow.State
   pub level_is : level ≡ c.counters
@@ -163,36 +172,38 @@ pub record Repeats (q : Relied) (c : Context) (level : ℕ) (kind : Kind) (eleme
   pub back : Implies now f
   pub plain : is_key t ≡ false
 
--- a region that outlives a unique lifetime also denotes a unique lifetime
+-- Says that a region that outlives a region with a unique lifetime also denotes a unique lifetime.
 abbrev pub KeepsUnique : RegionContext → (Region → Life) → Type 0
 KeepsUnique c n = (a b : Region) → OutlivesIn c a b → n b ≡ Owned → n a ≡ Owned
 
--- the value is not a resource that has a single holder
+-- Says that a value is not a linear resource, which would have a single holder.
 abbrev pub IsPlainValue : RunValue → Type 0
 IsPlainValue (Value t) = IsPlain t
 IsPlainValue r = Unit {0}
 
--- The remaining operators of a chain may follow a peek of this local only if the next operator only looks at the operand.
+-- Says that the remaining operators of a chain fit the left operand. If the operand is a peek, then the next operator
+-- must only look at it.
 abbrev pub IsChained : Option ℕ → RunValue → Operations → Type 0
 IsChained peek r (ThenTest o a os) = Unit {0}
 IsChained peek r (ThenPointerPeek n o a os) = (peek ≡ Some n) ⊎ ((peek ≡ None) × IsPlainValue r)
 IsChained peek r os = peek ≡ None
 
--- a pointer of this type through which a place is reached
+-- Says that a pointer of this type is the value through which a cell is reached.
 abbrev pub IsThrough : Option ℕ → RunTy → RunValue → Type 0
 IsThrough peek t r = (r ≡ looked peek (Value t)) ⊎ (r ≡ Into peek t)
 
--- the lifetime is not that of a unique object, so others may share it
+-- Says that a lifetime is not that of a unique object, so other pointers may share it.
 abbrev pub IsCommonLife : Life → Type 0
 IsCommonLife Owned = ⊥
 IsCommonLife l = Unit {0}
 
--- the type alone determines whether a value claims a resource: it is not a unique pointer
+-- Says that the type alone determines if a value claims a resource: the type is not a unique
+-- pointer.
 abbrev pub IsByType : RunTy → Type 0
 IsByType (lives.Pointer k t l) = IsCommonLife l
 IsByType t = Unit {0}
 
--- The typing of an entry that waits for a value. The typing consists of the types of the entry's stored operands, the awaited value, the
+-- The typing of an entry that awaits a value. The typing consists of the types of the entry's stored operands, the awaited value, the
 -- value with which the run continues, and the scope.
 pub data Waits (p : Program) (x : Exits) (q : Relied) (bs : List InScope) : Awaiting → List RunTy → RunValue → flow.State → List InScope → Want → Type 0 where
   converts : {from to : Kind} {target : Option Kind} (c : Context) (v : ValueType) (t : Ty) (f : flow.State) → AgreesWith c.regions (lives_in bs) → KeepsUnique c.regions (lives_in bs) → Converts c v t → from ≡ kind_of_value v → to ≡ kind_of t → target ≡ target_of_value v
@@ -262,7 +273,7 @@ pub data Waits (p : Program) (x : Exits) (q : Relied) (bs : List InScope) : Awai
       → Continues (lending x lent) (with_local true t (with_opened scopes.Alias c)) js (with_fullness Full (with_fullness Locked f lent) number) h
       → Implies (with_fullness Full h lent) i → Waits p x q bs (AliasOf number lent js) [] (Seen b.object (read bs u)) f cs (Go i)
 
--- the typing of an entry that waits for a place of this type and lifetime, with the continuation after it
+-- The typing of an entry that awaits a cell of this type and lifetime, with the continuation after it.
 pub data WaitsPlace (p : Program) (x : Exits) (q : Relied) (bs : List InScope) : AwaitingPlace → Option ℕ → RunTy → Life → flow.State → Want → Type 0 where
   loads_from : {kind : Kind} (peek : Option ℕ) (t : Ty) (r : Region) (f : flow.State) → IsThere bs r → IsByType (read bs t) → is_struct t ≡ false → kind ≡ values.kind_of t
       → WaitsPlace p x q bs (LoadFrom kind) peek (read bs t) (lives_in bs r) f (Val (Value (read bs t)) f)
@@ -276,28 +287,31 @@ pub data WaitsPlace (p : Program) (x : Exits) (q : Relied) (bs : List InScope) :
 
 -- ---- arrays
 
--- the first `count` cells of the object have this type, and the first `index` cells hold a value; the object has this lifetime
+-- Says that the first `count` cells of an object have this type, that the first `index` cells hold a value, and that the
+-- object has this lifetime.
 abbrev pub IsArray : Typing → RunTy → Life → (object count index : ℕ) → Type 0
 IsArray g t l object count index =
     (y : ObjectType) × (slice_get g.objects object ≡ Some y) × (y.is_hidden ≡ false) × (y.life ≡ l)
     × ((i : ℕ) → i < count → slice_get y.cells i ≡ Some t) × IsFilled g object index × (index ≤ count)
 
--- an array under construction whose pointer is held by an operand on the stack
+-- Says that an array is under construction and that an operand on the stack holds the pointer to
+-- it.
 abbrev pub IsArrayOf : Typing → (hand : ℕ) → List RunTy → (object count index : ℕ) → Type 0
 IsArrayOf g i (lives.Pointer m t l ∷ []) object count index = (index < count) × IsArray g t l object count index × Owns g.own (Hand i) (pointer_at l object)
 IsArrayOf g i ts object count index = ⊥
 
--- operands stored on the stack (newest first), above this many others, claim their resources
+-- Says that operands stored on the stack (newest first), above `below` other operands, claim their
+-- resources.
 abbrev pub AreClaimed : (own : Thing → Holder) → (below : ℕ) → List RunTy → List Operand → Type 0
 AreClaimed own i (t ∷ ts) (v ∷ vs) = Claims own (Hand (i + length ts)) t v.value × AreClaimed own i ts vs
 AreClaimed own i ts vs = Unit {0}
 
--- arguments in order, from this position on, claim their resources
+-- Says that arguments in order, from position `place` on, claim their resources.
 abbrev pub AreGiven : (own : Thing → Holder) → (place : ℕ) → List RunTy → List Operand → Type 0
 AreGiven own i (t ∷ ts) (v ∷ vs) = Claims own (Hand i) t v.value × AreGiven own (suc i) ts vs
 AreGiven own i ts vs = Unit {0}
 
--- a single operand, which only has to claim the resource that it points into
+-- Says that a single operand claims the resource into which it points.
 abbrev pub IsHeldPart : Typing → (hand : ℕ) → (peek : Option ℕ) → List RunTy → Operand → Type 0
 IsHeldPart g i peek [] v = Unit {0}
 IsHeldPart g i peek (t ∷ ts) v = ClaimsPart g i peek (thing_of t v.value)
@@ -309,12 +323,12 @@ operands_in (Needs a ∷ stack) = count_held a + operands_in stack
 operands_in (NeedsPlace a ∷ stack) = count_place a + operands_in stack
 operands_in (entry ∷ stack) = operands_in stack
 
--- the value passed to this stack claims its resource, as the newest operand
+-- Says that the value passed to this stack claims its resource as the newest operand.
 abbrev pub Comes : Typing → RunValue → Operand → List Entry → Type 0
 Comes g r v stack = ClaimsBy g (operands_in stack) r v.value
 
--- The operands stored in an entry, above this many others, have these types. For an array under construction, this is the type of the
--- pointer to it.
+-- Says that the operands stored in an entry, above `below` other operands, have these types. For an array under construction, the
+-- type is that of the pointer to the array.
 abbrev pub Keeps : Typing → (below : ℕ) → Awaiting → List RunTy → Type 0
 Keeps g i (FillElement object count index level kind element) ts = IsArrayOf g i ts object count index
 Keeps g i (ApplyPointer peek operator left) ts = AreOperands g ts (left ∷ []) × IsHeldPart g i peek ts left
@@ -325,7 +339,8 @@ Keeps g i a (t ∷ ts) = AreOperands g (t ∷ ts) (held a) × AreClaimed g.own i
 
 -- ---- swaps
 
--- A side of a swap whose place is known: a variable that is full in this state, or a cell that a pointer leads to.
+-- One side of a swap after its evaluation: a variable that is full in this flow state, or a cell to which a
+-- pointer points.
 pub data IsSpot (p : Program) (g : Typing) (bs : List InScope) (t : Ty) (f : flow.State) : values.Value → Type 0 where
   of_local : (b : Bound) → IsAmong (Variable b) bs → b.of_type ≡ read bs t → IsFullIn f b.number → IsSpot p g bs t f (values.Thin b.object 0)
   of_global : (number : ℕ) → slice_get (map (λ (v : GlobalVariable). v.of_type) p.globals) number ≡ Some t → read bs t ≡ at as_heap t
@@ -333,39 +348,40 @@ pub data IsSpot (p : Program) (g : Typing) (bs : List InScope) (t : Ty) (f : flo
   of_cell : (place : values.Value) (r : Region) → IsThere bs r → HasType g (lives.Pointer marks.NonNull (read bs t) (lives_in bs r)) place → IsHad g (thing_of (lives.Pointer marks.NonNull (read bs t) (lives_in bs r)) place)
       → IsSpot p g bs t f place
 
--- The left place of a swap that waits for the right one. The left place is a variable, or a cell that is reached through a peek or by a
--- stored operand.
+-- The left side of a swap, while the right side is evaluated. The left side is a variable, or a cell that is reached through a peek or
+-- through a stored operand.
 pub data IsLeftSpot (p : Program) (g : Typing) (hand : ℕ) (peek : Option ℕ) (bs : List InScope) (t : Ty) (f : flow.State) : values.Value → Type 0 where
   left_variable : (place : values.Value) → ((h : Typing) → IsSpot p h bs t f place) → IsLeftSpot p g hand peek bs t f place
   left_cell : (place : values.Value) (r : Region) → IsThere bs r → HasType g (lives.Pointer marks.NonNull (read bs t) (lives_in bs r)) place
       → ClaimsPart g hand peek (thing_of (lives.Pointer marks.NonNull (read bs t) (lives_in bs r)) place) → IsLeftSpot p g hand peek bs t f place
 
--- the left place stored in a swap that waits for the right place; both have this type
+-- Says that the left side is stored in the swap's entry while the right side is evaluated; both
+-- sides have this type.
 abbrev pub KeepsPlace : Program → Typing → (hand : ℕ) → List InScope → AwaitingPlace → RunTy → flow.State → Type 0
 KeepsPlace p g i bs (SwapRight kind peek is_cell left) r f = (t : Ty) × (r ≡ read bs t) × (is_struct t ≡ false) × IsLeftSpot p g i peek bs t f left
 KeepsPlace p g i bs a r f = Unit {0}
 
--- the value claims its resource as the content of this cell
+-- Says that a value claims its resource as the content of this cell.
 abbrev pub ClaimsAt : (own : Thing → Holder) → (place : values.Value) → RunTy → values.Value → Type 0
 ClaimsAt own (values.Thin object offset) t v = Claims own (At object offset) t v
 ClaimsAt own place t v = ⊥
 
--- the value read from the left side of a swap, if any, is still that cell's content
+-- Says that the value read from the left side of a swap, if any, is still the content of this cell.
 abbrev pub IsRead : Typing → (left : values.Value) → RunTy → Option Operand → Type 0
 IsRead g left t None = Unit {0}
 IsRead g left t (Some v) = IsResult g (Value t) v × ClaimsAt g.own left t v.value
 
--- a write of a value of the place's type
+-- Says that a write of a swap stores a value of the cell's type.
 abbrev pub IsWrite : Program → Typing → List InScope → flow.State → Ty → Write → Type 0
 IsWrite p g bs f t w = (is_struct t ≡ false) × IsSpot p g bs t f w.place × IsResult g (Value (read bs t)) w.operand
 
--- a swap still has to perform its second write, to this place
+-- Says that a swap has not yet performed its second write, to this cell.
 abbrev pub IsAwaited : Typing → (place : values.Value) → Type 0
 IsAwaited g (values.Thin object offset) = g.pending ≡ Awaits object offset
 IsAwaited g place = ⊥
 
--- The two writes of a swap. After the first write, the old value of the left place is held by the pending operand, and the right place
--- awaits its value.
+-- Says that the two writes of a swap are well-typed. After the first write, an operand holds the old value of the left side, and the
+-- right side awaits its value.
 abbrev pub AreSwapped : Program → Typing → (hand : ℕ) → List InScope → flow.State → List Write → Type 0
 AreSwapped p g i bs f [] = g.pending ≡ Settled
 AreSwapped p g i bs f (w ∷ []) = (t : Ty) × IsWrite p g bs f t w × IsAwaited g w.place × Claims g.own (Hand i) (read bs t) w.operand.value

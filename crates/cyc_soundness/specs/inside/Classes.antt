@@ -1,4 +1,5 @@
--- THE CLASS OF PROGRAMS that the proof covers: a predicate on typed trees. The trees that the typing rules derive from texts are in it.
+-- This file defines the class of programs that the proof covers: a predicate on typed trees. The trees that the typing rules derive
+-- from texts are in this class.
 use Rattle.std.specs.Prelude.{◌≡◌, ℕ, zero, suc, ◌+◌, Bool, true, false, List, [], ◌∷◌, Option, Some, None, get_or, ◌&&◌, ◌||◌}
 use Rattle.cyc_types.specs.Types.{Ty, ValueType, Void}
 use Rattle.cyc_types.specs.Declarations.{declared_regions, item_regions}
@@ -11,20 +12,21 @@ use Rattle.cyc_types.specs.flow.States as flow
 use Rattle.cyc_types.specs.flow.States.{Fullness, Vacant, Full, Unreached, Reached}
 use Rattle.cyc_soundness.specs.inside.Lives.{AllIn, IsKnown}
 
--- a type mentions only regions with numbers below this one
+-- Says that a type mentions only regions with numbers below n.
 abbrev pub IsDeclarable : ℕ → Ty → Type 0
 IsDeclarable n t = AllIn (IsKnown n) t
 
--- The states at the starts of the clauses of each enclosing `try`, on which the clauses rely.
+-- The flow states at the starts of the clauses of each enclosing `try`, on which these clauses
+-- rely.
 abbrev pub Relied : Type 0
 Relied = List flow.State
 
--- true if a local holds a value that is not lent
+-- Holds if a local holds a value that is not lent.
 abbrev pub is_full : Fullness → Bool
 is_full Full = true
 is_full a = false
 
--- the state does not rely on this local being full
+-- Says that a flow state does not rely on this local being full.
 abbrev pub IsSparedBy : flow.State → ℕ → Type 0
 IsSparedBy Unreached n = Unit {0}
 IsSparedBy (Reached as') n = is_full (get_or as' n Vacant) ≡ false
@@ -33,24 +35,24 @@ abbrev pub IsSpared : Relied → ℕ → Type 0
 IsSpared [] n = Unit {0}
 IsSpared (f ∷ q) n = IsSparedBy f n × IsSpared q n
 
--- the state in which only this local is known to be full
+-- The flow state in which only local n is known to be full.
 abbrev pub only : ℕ → List Fullness
 only zero = Full ∷ []
 only (suc n) = Vacant ∷ only n
 
--- the states relied on, extended by a local with a pending peek
+-- The flow states on which entries rely, extended by a local whose peek is not yet used.
 abbrev pub and_looked : Option ℕ → Relied → Relied
 and_looked None q = q
 and_looked (Some n) q = Reached (only n) ∷ q
 
--- no state relies on a local to which a unique pointer or key is assigned
+-- Says that no flow state relies on a local to which a unique pointer or a key is assigned.
 abbrev pub SparesAssigned : Relied → Lvalue → ValueType → Type 0
 SparesAssigned q (Local p n) Void = IsSpared q n
 SparesAssigned q l t = Unit {0}
 
 -- ---- unreachable code
 
--- control may reach the end of the statement
+-- Holds if control may reach the end of the statement.
 abbrev mutual
   pub may_end : Statement → Bool
   may_end (Block r js) = items_may_end js
@@ -79,7 +81,7 @@ abbrev mutual
   clauses_may_end (Default r js) = items_may_end js
   clauses_may_end (Case e v r js cs) = items_may_end js || clauses_may_end cs
 
--- the demand applies only to code that may be run
+-- Says that a requirement applies only to code that may be run.
 abbrev pub Asked : (run : Bool) → Type 0 → Type 0
 Asked false A = Unit {0}
 Asked true A = A
@@ -87,8 +89,8 @@ Asked true A = A
 -- ---- the class
 
 -- All forms of the language are in the class. Enclosing clauses do not rely on a local that is consumed, lent, or assigned a value with a
--- single owner. At the start of a function there are no clauses, and for the body of a `try` the condition is proved. At unreachable code,
--- the condition demands nothing.
+-- single owner. At the start of a function there are no clauses, and for the body of a `try` the condition is proved. For unreachable
+-- code, the condition requires nothing.
 abbrev mutual
   pub InExpression : Relied → Expression → Type 0
   InExpression q (Number n) = Unit {0}
@@ -152,7 +154,8 @@ abbrev pub InSide : Relied → Side → Type 0
 InSide q (VariableSide l t) = Unit {0}
 InSide q (CellSide d) = InPlace q d
 
--- Statements in which the next region has this number: the types of locals mention only regions declared before them.
+-- Says that statements in which the next region has number n are in the class: the types of locals mention only
+-- regions declared before them.
 abbrev mutual
   pub InStatement : Relied → ℕ → Statement → Type 0
   InStatement q n (Block r js) = InItems q (suc n) js
@@ -185,12 +188,12 @@ abbrev pub InFunctions : List Function → Type 0
 InFunctions [] = Unit {0}
 InFunctions (h ∷ hs) = InItems [] (suc h.variables) h.body × InFunctions hs
 
--- the types of globals mention no region variable
+-- Says that the types of globals mention no region variable.
 abbrev pub InGlobals : List GlobalVariable → Type 0
 InGlobals [] = Unit {0}
 InGlobals (v ∷ vs) = IsDeclarable 0 v.of_type × InGlobals vs
 
--- the types of fields mention only their struct's parameters, and none is a key
+-- Says that the types of fields mention only their struct's parameters, and that no field is a key.
 abbrev pub InFields : ℕ → List Ty → Type 0
 InFields n [] = Unit {0}
 InFields n (t ∷ ts) = IsDeclarable n t × (is_key t ≡ false) × InFields n ts
@@ -199,6 +202,6 @@ abbrev pub InStructs : List StructType → Type 0
 InStructs [] = Unit {0}
 InStructs (s ∷ ss) = InFields s.parameters s.fields × InStructs ss
 
--- the programs of the class
+-- Says that a program is in the class.
 abbrev pub IsInClass : Program → Type 0
 IsInClass p = InFunctions p.functions × InGlobals p.globals × InStructs p.structs

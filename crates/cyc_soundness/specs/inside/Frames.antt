@@ -1,4 +1,5 @@
--- THE LOCALS OF A CALL: the objects of the locals in scope, the facts of the flow rules about them, and the possible exits of control.
+-- This file defines the locals of a call: the objects of the locals in scope, the facts of the flow rules about them, and the possible
+-- exits of control.
 use Rattle.std.specs.Prelude.{◌≡◌, ◌⊎◌, ℕ, ◌<◌, ◌==◌, Bool, true, false, if◌then◌else◌, List, [], ◌∷◌, ◌++◌, length, map, Option, Some, None, Contains, slice_get, slice_index_or}
 use Rattle.cyc_syntax.specs.Symbols.{Place}
 use Rattle.cyc_types.specs.declared.region.Region.{Region}
@@ -18,34 +19,38 @@ pub use Rattle.cyc_soundness.specs.inside.Worlds.{IsAmong, first, later}
 use Rattle.cyc_soundness.specs.inside.Worlds.{OfLocal, ObjectType, Typing, IsHere, IsOpenIn, IsKnownLife, IsFull, variable_type, global_type, IsEndOf, Outlasts, IsNumber}
 use Rattle.cyc_soundness.specs.inside.Classes.{is_full, Relied, IsDeclarable, only}
 
--- a local in scope, with its object and the object's lifetime
+-- A local in scope, with its object and the lifetime of this object.
 pub record Bound : Type 0 where
   pub number : ℕ
   pub object : ℕ
   pub of_type : RunTy
   pub life : Life
-  -- true if no pointer may lead to the object
+  -- True if no pointer may point to the object.
   pub is_hidden : Bool
 
--- the type of a local's object, in a call with this many other calls around it
+-- The type of a local's object, in a call that `depth` other calls enclose.
 abbrev pub local_type : (depth : ℕ) → Bound → ObjectType
 local_type d b = variable_type b.of_type b.life b.is_hidden (OfLocal d b.number)
 
--- an entry of the scope
+-- An entry of a scope: a local, a counter, a region variable, the region variables of a call, or
+-- the region of a block.
 pub data InScope : Type 0 where
   Variable : Bound → InScope
-  -- the counter of an enclosing `for`
+  -- The counter of an enclosing array `for`.
   Level : (level : ℕ) → InScope
-  -- the lifetime that the region variable of this number denotes, and whether it is live
+  -- The lifetime that the region variable with this number denotes; the flag tells if the region is
+  -- live.
   Names : (number : ℕ) → Life → (is_live : Bool) → InScope
-  -- the lifetimes that all region variables of a call denote, and which lifetimes are live
+  -- The lifetimes that all region variables of a call denote; the second function tells which of
+  -- them are live.
   Instance : (ℕ → Life) → (ℕ → Bool) → InScope
   -- the region that contains the variables of the innermost block
   Home : (region : ℕ) → InScope
 
 -- ---- regions
 
--- the lifetime of a region variable; one without an entry in the scope denotes the heap
+-- The lifetime of a region variable; a region variable without an entry in the scope denotes the
+-- heap.
 abbrev pub life_named : List InScope → ℕ → Life
 life_named [] k = heap_life
 life_named (Variable b ∷ bs) k = life_named bs k
@@ -66,20 +71,20 @@ is_live_named (Home region ∷ bs) k = is_live_named bs k
 abbrev pub lives_in : List InScope → Lives
 lives_in bs = lives_of (λ n. life_named bs n)
 
--- the run-time type of a type in this scope
+-- The run-time type of a type when its regions are read in this scope.
 abbrev pub read : List InScope → Ty → RunTy
 read bs t = at (lives_in bs) t
 
 abbrev pub read_value : List InScope → ValueType → RunValue
 read_value bs t = value_at (lives_in bs) t
 
--- the region is live if these region variables are
+-- Says that a region is live, given which region variables are live.
 abbrev pub IsThereBy : (ℕ → Bool) → Region → Type 0
 IsThereBy live regions.Heap = Unit {0}
 IsThereBy live regions.Unique = Unit {0}
 IsThereBy live (regions.Variable n) = live n ≡ true
 
--- the lifetime that this region denotes has not ended
+-- Says that the lifetime that this region denotes has not ended.
 abbrev pub IsThere : List InScope → Region → Type 0
 IsThere bs r = IsThereBy (λ n. is_live_named bs n) r
 
@@ -91,22 +96,23 @@ home_of (b ∷ bs) = home_of bs
 
 -- ---- locals
 
--- the lifetime of a local is that of its block's region
+-- Says that the lifetime of a local is the lifetime of its block's region.
 abbrev pub IsHomed : Lives → (region : ℕ) → Life → Type 0
 IsHomed m region l = l ≡ m (regions.Variable region)
 
--- the scope entry is the newest local of the context, followed by the rest of the locals
+-- Says that the scope entry is the newest local of the typing context, followed by the rest of the
+-- locals.
 abbrev pub IsNewest : Lives → List LocalInScope → InScope → (rest : List LocalInScope) → Type 0
 IsNewest m vs (Variable b) rest =
     (v : LocalInScope) × (vs ≡ v ∷ rest) × (v.number ≡ b.number) × (at m v.of_type ≡ b.of_type) × (is_moved v.of_type ≡ b.is_hidden) × IsHomed m v.region b.life
 IsNewest m vs b rest = vs ≡ rest
 
--- the scope matches the locals of the tree's context
+-- Says that the scope matches the locals of the typing context.
 abbrev pub IsScope : Lives → List LocalInScope → List InScope → Type 0
 IsScope m vs [] = vs ≡ []
 IsScope m vs (b ∷ bs) = (rest : List LocalInScope) × IsNewest m vs b rest × IsScope m rest bs
 
--- the local's number is below this one
+-- Says that the number of a local is below n.
 abbrev pub IsBelow : ℕ → InScope → Type 0
 IsBelow n (Variable b) = b.number < n
 IsBelow n b = Unit {0}
@@ -115,7 +121,7 @@ abbrev pub AreBelow : ℕ → List InScope → Type 0
 AreBelow n [] = Unit {0}
 AreBelow n (b ∷ bs) = IsBelow n b × AreBelow n bs
 
--- locals map to their objects, and counters have values
+-- Says that each local has its object and each counter has a value.
 abbrev pub HasMeaning : (locals counters : ℕ → Option ℕ) → InScope → Type 0
 HasMeaning locals counters (Variable b) = locals b.number ≡ Some b.object
 HasMeaning locals counters (Level l) = (index : ℕ) × (counters l ≡ Some index)
@@ -125,7 +131,8 @@ abbrev pub IsBound : (locals counters : ℕ → Option ℕ) → List InScope →
 IsBound locals counters [] = Unit {0}
 IsBound locals counters (b ∷ bs) = HasMeaning locals counters b × IsBound locals counters bs
 
--- The objects of locals are variables of the right types. Lifetimes of regions are known, and live ones are open.
+-- Says that the objects of locals are variables of the right types. The lifetimes of regions are known, and live
+-- ones are open.
 abbrev pub IsOfVariable : Typing → InScope → Type 0
 IsOfVariable g (Variable b) = (slice_get g.objects b.object ≡ Some (local_type g.depth b)) × IsOpenIn g b.life
 IsOfVariable g (Names number life live) = IsKnownLife g life × (live ≡ true → IsOpenIn g life)
@@ -136,13 +143,14 @@ abbrev pub AreVariables : Typing → List InScope → Type 0
 AreVariables g [] = Unit {0}
 AreVariables g (b ∷ bs) = IsOfVariable g b × AreVariables g bs
 
--- the lifetime lasts to the end of one of the regions still to be closed, or for ever
+-- Says that a lifetime lasts to the end of one of the regions that stack entries will close, or for
+-- ever.
 abbrev pub IsLasting : List ℕ → Life → Type 0
 IsLasting regions (OfRegion number around lent) = (OfRegion number around lent ≡ heap_life) ⊎ IsEndOf (number ∷ around) regions
 IsLasting regions (Kept a) = Unit {0}
 IsLasting regions l = ⊥
 
--- a live entry's lifetime has not ended
+-- Says that the lifetime of a live scope entry has not ended.
 abbrev pub IsLiveIn : List ℕ → InScope → Type 0
 IsLiveIn regions (Variable b) = IsLasting regions b.life
 IsLiveIn regions (Names number life live) = live ≡ true → IsLasting regions life
@@ -153,34 +161,35 @@ abbrev pub AreLiveIn : List ℕ → List InScope → Type 0
 AreLiveIn regions [] = Unit {0}
 AreLiveIn regions (b ∷ bs) = IsLiveIn regions b × AreLiveIn regions bs
 
--- the region of the innermost block, as recorded on the stack
+-- The region of the innermost block, as the stack records it.
 abbrev pub home_in : List Entry → ℕ
 home_in [] = globals_number
 home_in (CloseRegion region outer ∷ stack) = region
 home_in (Caller outer ∷ stack) = globals_number
 home_in (entry ∷ stack) = home_in stack
 
--- the live entries of a scope above this stack have not ended by the stack
+-- Says that the lifetimes of the live entries of a scope last at least until this stack is reached
+-- again.
 abbrev pub LiveIn : List Entry → List InScope → Type 0
 LiveIn stack bs = AreLiveIn (ends_of stack) bs × (home_of bs ≡ home_in stack)
 
--- an entry that leaves the scope before its block ends
+-- Says that a scope entry may leave the scope before its block ends.
 abbrev pub IsInner : InScope → Type 0
 IsInner (Home region) = ⊥
 IsInner b = Unit {0}
 
--- the first scope is an outer scope of the second in one block
+-- Says that the first scope is an outer scope of the second scope in the same block.
 pub data Within : (outer inner : List InScope) → Type 0 where
   itself : (bs : List InScope) → Within bs bs
   older : (b : InScope) (bs cs : List InScope) → IsInner b → Within bs cs → Within bs (b ∷ cs)
 
 -- ---- flow
 
--- in this state, the local is known to hold a value
+-- Says that a local is known to hold a value in this flow state.
 abbrev pub IsSet : flow.State → ℕ → Type 0
 IsSet f n = is_vacant (fullness f n) ≡ false
 
--- in this state, the local is known to hold a value that is not lent
+-- Says that a local is known to hold a value that is not lent in this flow state.
 abbrev pub IsFullIn : flow.State → ℕ → Type 0
 IsFullIn f n = is_full (fullness f n) ≡ true
 
@@ -192,11 +201,11 @@ abbrev pub AreSet : Typing → flow.State → List InScope → Type 0
 AreSet g f [] = Unit {0}
 AreSet g f (b ∷ bs) = HoldsIts g f b × AreSet g f bs
 
--- the facts of this state hold, so the state is reached
+-- Says that the facts of a flow state hold, so the state is reachable.
 abbrev pub Holds : Typing → flow.State → List InScope → Type 0
 Holds g f bs = (is_reached f ≡ true) × AreSet g f bs
 
--- the facts of the first state imply those of the second
+-- Says that the facts of the first flow state imply those of the second.
 pub record Implies (f h : flow.State) : Type 0 where
   pub reached : is_reached f ≡ true → is_reached h ≡ true
   pub set : (n : ℕ) → IsSet h n → IsSet f n
@@ -204,7 +213,7 @@ pub record Implies (f h : flow.State) : Type 0 where
 
 -- ---- exits of control
 
--- an enclosing loop: the states at its head, and at the breaks that leave it
+-- An enclosing loop: the flow states at its head, and at the breaks that leave it.
 pub record LoopExit : Type 0 where
   pub place : Place
   pub head : flow.State
@@ -212,16 +221,16 @@ pub record LoopExit : Type 0 where
 
 pub record Exits : Type 0 where
   pub loop : Option LoopExit
-  -- the result type of the function
+  -- The result type of the enclosing function.
   pub result : Option Ty
-  -- the result as the caller reads its type
+  -- The result type of the function as the caller reads it.
   pub gives : RunValue
   -- the locals that items have lent since the start of the enclosing loop's body
   pub locks : List ℕ
-  -- the states that enclosing clauses and ends of loans rely on, innermost first
+  -- The flow states on which enclosing clauses and ends of loans rely, innermost first.
   pub relied : Relied
 
--- a function without a result returns no value
+-- Says that a function without a result returns no value.
 abbrev pub HasResult : Option Ty → RunValue → Type 0
 HasResult None r = r ≡ Void
 HasResult (Some t) r = Unit {0}
@@ -233,15 +242,15 @@ loop_of (Some l) = Some (record { place = l.place; head = l.head })
 abbrev pub around : Exits → Around
 around x = record { loop = loop_of x.loop; locks = x.locks }
 
--- the exits while one more local is lent; the end of the loan relies on that local
+-- The exits while one more local is lent; the end of the loan relies on this local.
 abbrev pub lending : Exits → ℕ → Exits
 lending x n = record x { locks = x.locks ++ n ∷ []; relied = Reached (only n) ∷ x.relied }
 
--- the exits inside the body of a `try` whose clauses begin with this state
+-- The exits inside the body of a `try` whose clauses begin with this flow state.
 abbrev pub relying : Exits → flow.State → Exits
 relying x f = record x { relied = f ∷ x.relied }
 
--- the local of this number, if it is this entry, holds a value in this object
+-- Says that the local with this number, if it is this entry, holds a value in this object.
 abbrev pub IsFullAt : Typing → (number object : ℕ) → InScope → Type 0
 IsFullAt g n object (Variable b) = b.number ≡ n → IsFull g b.object × (b.object ≡ object)
 IsFullAt g n object b = Unit {0}
@@ -250,7 +259,7 @@ abbrev pub AreFullAt : Typing → (number object : ℕ) → List InScope → Typ
 AreFullAt g n object [] = Unit {0}
 AreFullAt g n object (b ∷ bs) = IsFullAt g n object b × AreFullAt g n object bs
 
--- the state at the breaks so far implies the state after the loop
+-- Says that the flow state at the breaks so far implies the state after the loop.
 abbrev pub AreBreaks : Option LoopExit → flow.State → Type 0
 AreBreaks None b = Unit {0}
 AreBreaks (Some l) b = Implies b l.breaks
@@ -261,18 +270,20 @@ is_loop (Some l) = true
 
 -- ---- lifetimes that the regions of a context denote
 
--- live regions denote lifetimes that have not ended, and outlives constraints hold between lifetimes
+-- Says that live regions denote lifetimes that have not ended, and that the outlives constraints
+-- hold between lifetimes.
 pub record AreNamed (c : RegionContext) (these : ℕ → Life) (live : ℕ → Bool) : Type 0 where
   pub there : (r : Region) → Contains (live_regions c.live c.opened) r → IsThereBy live r
   pub agrees : (a b : Region) → IsGiven c a b → Outlasts (lives_of these a) (lives_of these b)
-  -- no other region outlives the unique region
+  -- No region except the unique region outlives the unique region.
   pub plain : (a : Region) → IsGiven c a regions.Unique → ⊥
 
--- the region variables denote lifetimes that satisfy the region context
+-- Says that the region variables denote lifetimes that satisfy the region context.
 abbrev pub Stand : RegionContext → List InScope → Type 0
 Stand c bs = AreNamed c (λ n. life_named bs n) (λ n. is_live_named bs n)
 
--- the variables of the innermost block are in the region that this region variable denotes
+-- Says that the variables of the innermost block are in the region that this region variable
+-- denotes.
 abbrev pub IsHome : (region : ℕ) → List InScope → Type 0
 IsHome region bs = IsNumber (life_named bs region) (home_of bs) × (is_live_named bs region ≡ true)
 
@@ -280,14 +291,15 @@ abbrev pub AreKnownLocals : ℕ → List LocalInScope → Type 0
 AreKnownLocals n [] = Unit {0}
 AreKnownLocals n (v ∷ vs) = (AllIn (IsKnown n) v.of_type × (v.region < n)) × AreKnownLocals n vs
 
--- all mentioned regions have numbers below this one
+-- Says that all regions that a context mentions have numbers below n.
 pub record AreKnown (n : ℕ) (c : RegionContext) (vs : List LocalInScope) (result : Option Ty) : Type 0 where
   pub live : (r : Region) → Contains (live_regions c.live c.opened) r → IsKnown n r
   pub pairs : (a b : Region) → Contains c.written (a, b) → IsKnown n a × IsKnown n b
   pub locals : AreKnownLocals n vs
   pub gives : AllInValue (IsKnown n) (result_type result)
 
--- the context of a tree in a function of this program, with these exits and this scope
+-- Says that a typing context is that of a tree in a function of this program, with these exits and
+-- this scope.
 pub record IsContext (p : Program) (x : Exits) (bs : List InScope) (c : Context) : Type 0 where
   pub globals : c.globals ≡ map (λ (g : GlobalVariable). g.of_type) p.globals
   pub functions : c.functions ≡ map signature_of p.functions
@@ -308,17 +320,18 @@ pub record IsContext (p : Program) (x : Exits) (bs : List InScope) (c : Context)
 abbrev pub lives_among : List Life → Lives
 lives_among ls = lives_of (λ n. slice_index_or ls n heap_life)
 
--- The facts about a program: its globals are the first objects, and its structs have the cells of their fields.
+-- Says that the typing knows the program: its globals are the first objects, and its structs have the cells of
+-- their fields.
 pub record KnowsProgram (g : Typing) (p : Program) : Type 0 where
   pub globals : (number : ℕ) (t : Ty) → slice_get (map (λ (v : GlobalVariable). v.of_type) p.globals) number ≡ Some t
       → (slice_get g.objects number ≡ Some (global_type (at as_heap t))) × IsFull g number × IsDeclarable 0 t
   pub structs : (number : ℕ) (s : StructType) (ls : List Life) → slice_get p.structs number ≡ Some s → length ls ≡ s.parameters
       → g.fields number ls ≡ Some (map (at (lives_among ls)) s.fields)
-  -- the number of lifetimes equals the number of the struct's region parameters
+  -- The number of lifetimes of a struct equals the number of the struct's region parameters.
   pub counts : (number : ℕ) (s : StructType) (ls : List Life) (ts : List RunTy) → slice_get p.structs number ≡ Some s → g.fields number ls ≡ Some ts → length ls ≡ s.parameters
-  -- no field is a key
+  -- No field of a struct is a key.
   pub plain : (number : ℕ) (s : StructType) → slice_get p.structs number ≡ Some s → (field : ℕ) (t : Ty) → slice_get s.fields field ≡ Some t → is_key t ≡ false
-  -- no constraint mentions the unique region
+  -- No constraint of a function mentions the unique region.
   pub constraints : (number : ℕ) (h : Function) → slice_get p.functions number ≡ Some h → AreConstraints h.variables h.constraints
-  -- the field types mention only the struct's parameters
+  -- The field types of a struct mention only the struct's region parameters.
   pub fields : (number : ℕ) (s : StructType) → slice_get p.structs number ≡ Some s → (field : ℕ) (t : Ty) → slice_get s.fields field ≡ Some t → IsDeclarable s.parameters t

@@ -1,4 +1,5 @@
--- TYPED TREES with their flow states before and after: each entry of the control stack stores both its typing and its flow judgement.
+-- This file defines judgements of typed trees with their flow states before and after: each entry of the control stack stores both
+-- its typing and its flow judgement.
 use Rattle.std.specs.Prelude.{◌≡◌, ◌⊎◌, ℕ, suc, true, false, List, [], Option, Some, None}
 use mathlib.Core.Logic.{inl, inr}
 use Rattle.cyc_syntax.specs.declared.tree.PointerKind.{PointerKind}
@@ -15,19 +16,19 @@ use Rattle.cyc_types.specs.flow.Programs.{start_of, in_function}
 use Rattle.cyc_soundness.specs.inside.Classes.{Relied, InExpression, InPlace, InSide, InInitial, InArguments, InOperations, InStatement, InItems, InClauses}
 use Rattle.cyc_soundness.specs.inside.Frames.{Implies, Exits, around, AreBreaks}
 
--- the local that an expression peeks at, if it is a peek
+-- The local at which an expression peeks, if the expression is a peek.
 abbrev pub seen_by : {A B : Type 0} → Expression → A ⊎ B → Option ℕ
 seen_by a (inl well) = None
 seen_by a (inr peek) = peek_of a
 
--- the judgement of an expression, which may be a peek
+-- The typing and flow judgement of an expression, which may be a peek.
 pub record Evaluates (q : Relied) (c : Context) (a : Expression) (f : flow.State) (t : ValueType) (h : flow.State) : Type 0 where
   pub waiting : List ℕ
   pub typed : WellTyped c a t ⊎ IsPeek c a t
   pub flows : Derives (rule waiting a f) h
   pub kept : InExpression q a
 
--- the judgement of an expression whose value is used, not only peeked at
+-- The typing and flow judgement of an expression whose value is used, not only peeked at.
 abbrev pub EvaluatesWhole : Relied → Context → Expression → flow.State → ValueType → flow.State → Type 0
 EvaluatesWhole q c a f t h = (evaluates : Evaluates q c a f t h) × (seen_by a evaluates.typed ≡ None)
 
@@ -43,21 +44,24 @@ pub record Passes (q : Relied) (c : Context) (ts : List Ty) (as' : Arguments) (f
   pub flows : Derives (rule_arguments waiting as' f) h
   pub kept : InArguments q as'
 
--- the judgement of a place of this type, reached by a pointer into this region
+-- The typing and flow judgement of a memory access of this type, through a pointer into this
+-- region.
 pub record Locates (q : Relied) (c : Context) (d : Dereference) (f : flow.State) (t : Ty) (r : Region) (h : flow.State) : Type 0 where
   pub waiting : List ℕ
   pub typed : IsCell c d t r
   pub flows : Derives (rule_place waiting d f) h
   pub kept : InPlace q d
 
--- the judgement of the initial contents of an object of this type, whose pointer has this mark
+-- The typing and flow judgement of the initial contents of an object of this type; k is the kind of
+-- the pointer to it.
 pub record Makes (q : Relied) (c : Context) (i : Initial) (k : PointerKind) (t : Ty) (f h : flow.State) : Type 0 where
   pub waiting : List ℕ
   pub typed : IsMade c i k t
   pub flows : Derives (rule_initial waiting i f) h
   pub kept : InInitial q i
 
--- the judgement of a side of a swap of this type; the resulting state is that after both places were evaluated
+-- The typing and flow judgement of one side of a swap of this type; the resulting state is the state after
+-- both sides were evaluated.
 pub record Finds (q : Relied) (c : Context) (y : Side) (f : flow.State) (t : Ty) (h : flow.State) : Type 0 where
   pub waiting : List ℕ
   pub typed : IsSide c y t
@@ -65,7 +69,8 @@ pub record Finds (q : Relied) (c : Context) (y : Side) (f : flow.State) (t : Ty)
   pub used : AllKept (side_demanded waiting y h)
   pub kept : InSide q y
 
--- the judgement of a statement, with the state after it and the state at its breaks
+-- The typing and flow judgement of a statement, with the flow state after it and the state at its
+-- breaks.
 pub record Executes (x : Exits) (c : Context) (s : Statement) (f h : flow.State) : Type 0 where
   pub before : flow.State
   pub following : flow.State
@@ -74,7 +79,8 @@ pub record Executes (x : Exits) (c : Context) (s : Statement) (f h : flow.State)
   pub breaks : AreBreaks x.loop following
   pub kept : InStatement x.relied c.next_region s
 
--- the judgement of the rest of a block; at its end, the locals that these items have locked are full again
+-- The typing and flow judgement of the rest of a block; at its end, the locals that these items have
+-- locked are full again.
 pub record Continues (x : Exits) (c : Context) (js : Items) (f h : flow.State) : Type 0 where
   pub before : flow.State
   pub following : flow.State
@@ -85,7 +91,7 @@ pub record Continues (x : Exits) (c : Context) (js : Items) (f h : flow.State) :
   pub kept : is_reached f ≡ true → InItems x.relied c.next_region js
   pub ends : Implies (with_each Full (locks_of js) ending) h
 
--- the judgement of clauses that begin with this state
+-- The typing and flow judgement of clauses that begin with this flow state.
 pub record Catches (x : Exits) (c : Context) (start : flow.State) (cs : Clauses) (f h : flow.State) : Type 0 where
   pub before : flow.State
   pub following : flow.State
@@ -94,7 +100,7 @@ pub record Catches (x : Exits) (c : Context) (start : flow.State) (cs : Clauses)
   pub breaks : AreBreaks x.loop following
   pub kept : InClauses x.relied c.next_region cs
 
--- a function that the rules accept, with the state after its body
+-- Says that the rules accept a function; `end` is the flow state after the function's body.
 pub record IsAccepted (p : Program) (h : Function) (end : flow.State) : Type 0 where
   pub typed : IsWellTypedFunction p h
   pub breaks : flow.State

@@ -1,6 +1,6 @@
--- TYPES AT RUN TIME. Regions in trees have a meaning only in their function. States use lifetimes instead: the region of a number, or a
--- unique object. A type of a tree becomes a run-time type when each of its regions is replaced by the lifetime that it denotes. (One
--- language of types in two readings is this project's own choice.)
+-- This file defines types at run time. Regions in trees have a meaning only in their function. States of runs use lifetimes instead:
+-- the region with a number, or a unique object. A type of a tree becomes a run-time type when each of its regions is replaced by the
+-- lifetime that it denotes. (One language of types for trees and for runs is this project's own choice.)
 use Rattle.std.specs.Prelude.{◌≢◌, ℕ, Bool, false, List, [], map, Option, Some, None}
 use Rattle.cyc_syntax.specs.declared.tree.PointerKind.{PointerKind}
 use Rattle.cyc_types.specs.declared.region.Region.{Region}
@@ -17,14 +17,16 @@ pub data Thing : Type 0 where
   KeyOf : (region : ℕ) → Thing
   PointerTo : (object : ℕ) → Thing
 
--- The lifetime of an object: to the end of a region, or until it is freed. The lifetime of a scoped region lists the regions that were open
--- around its scope, innermost first, and the resources that were lent then. All of these regions and lent resources last at least as long
--- as the region.
+-- The lifetime of an object: it lasts to the end of a region, or until the object is freed. The lifetime of a scoped region lists the
+-- regions that were open around its scope, innermost first, and the resources that were lent when the scope began. All of these regions and
+-- lent resources last at least as long as the region.
 pub data Life : Type 0 where
   OfRegion : (region : ℕ) → (around : List ℕ) → (lent : Thing → Bool) → Life
-  -- until the holder of the unique pointer frees the object
+  -- The lifetime of a unique object: it lasts until the holder of the unique pointer frees the
+  -- object.
   Owned : Life
-  -- a lifetime that no scope ends: a dynamic region, or a unique object while it is lent
+  -- A lifetime that no scope ends: that of a dynamic region, or of a unique object while it is
+  -- lent.
   Kept : Thing → Life
 
 pub data RunTy : Type 0 where
@@ -41,9 +43,10 @@ pub data RunValue : Type 0 where
   Void : RunValue
   Null : RunValue
   Value : RunTy → RunValue
-  -- a value of this type that is only peeked at; the variable of this object keeps it
+  -- A value of this type that a peek reads; the variable of this object keeps the value.
   Seen : (object : ℕ) → RunTy → RunValue
-  -- a pointer into the object of a local with a pending peek, or else of an operand on the stack
+  -- A pointer into the object of the local at which a peek looks or, without a peek, of an operand
+  -- on the stack.
   Into : (peek : Option ℕ) → RunTy → RunValue
 
 -- the lifetimes that the regions of a function denote
@@ -63,13 +66,13 @@ value_at m types.Void = Void
 value_at m types.Null = Null
 value_at m (types.Value t) = Value (at m t)
 
--- the value type after a peek of this local, if it is one
+-- The type of a value after a peek of this local, if the value comes from a peek.
 abbrev pub looked : Option ℕ → RunValue → RunValue
 looked None r = r
 looked (Some n) (Value t) = Into (Some n) t
 looked (Some n) r = r
 
--- the kind of the cells of a run-time type
+-- The kind of a cell whose run-time type is given.
 abbrev pub kind_at : RunTy → Kind
 kind_at Int = kinds.Int
 kind_at Char = kinds.Char
@@ -84,25 +87,26 @@ kind_at (Struct n ls) = kinds.Int
 abbrev pub heap_life : Life
 heap_life = OfRegion 0 [] (λ a. false)
 
--- the lifetimes of all regions, given those of the region variables
+-- The lifetimes of all regions, given the lifetimes of the region variables.
 abbrev pub lives_of : (ℕ → Life) → Lives
 lives_of m regions.Heap = heap_life
 lives_of m regions.Unique = Owned
 lives_of m (regions.Variable n) = m n
 
--- the reading of a type without region variables, such as a global's: each variable is read as the heap
+-- The lifetimes for reading a type without region variables, such as a global's type: each variable is
+-- read as the heap.
 abbrev pub as_heap : Lives
 as_heap r = lives_of (λ n. heap_life) r
 
 -- ---- the regions that a type mentions
 
--- the predicate holds of all regions in the type of a value
+-- Says that a predicate holds of all regions in the type of a value.
 abbrev pub AllInValue : (Region → Type 0) → ValueType → Type 0
 AllInValue P types.Void = Unit {0}
 AllInValue P types.Null = Unit {0}
 AllInValue P (types.Value t) = AllIn P t
 
--- the region is not the variable of this number
+-- Says that a region is not the region variable with number n.
 abbrev pub IsOther : ℕ → Region → Type 0
 IsOther n regions.Heap = Unit {0}
 IsOther n regions.Unique = Unit {0}

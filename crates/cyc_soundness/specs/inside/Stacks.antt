@@ -1,5 +1,5 @@
--- THE TYPING OF STATES. Each entry of the control stack has a type from what it awaits to what it passes on. The scope is an index, from
--- which an entry may drop the newest locals.
+-- This file defines the typing of states. Each entry of the control stack has a type from what it awaits to what it passes on. The scope
+-- is an index of this typing, from which an entry may drop the newest locals.
 use Rattle.std.specs.Prelude.{◌≡◌, ℕ, zero, suc, ◌+◌, ◌≤◌, Bool, true, false, List, [], ◌∷◌, length, map, Option, Some, None, slice_get}
 use Rattle.cyc_syntax.specs.declared.tree.PointerKind.TheVariants as marks
 use Rattle.cyc_types.specs.declared.region.Region.{Region}
@@ -27,12 +27,12 @@ use Rattle.cyc_soundness.specs.inside.Awaited.{Want, Nothing, Val, PlaceOf, Go, 
 
 -- ---- the control stack
 
--- the end of a function with a result is unreachable
+-- Says that the end of a function with a result is unreachable.
 abbrev pub IsBlocked : Option Ty → flow.State → Type 0
 IsBlocked None f = Unit {0}
 IsBlocked (Some t) f = is_reached f ≡ false
 
--- the content of this hidden variable is lent by the newest loan
+-- Says that the content of this hidden variable is lent by the newest loan.
 abbrev pub IsLentOut : Typing → (lent loan : ℕ) → RunTy → (object : ℕ) → Type 0
 IsLentOut g lent j t object = (l : Life) × (slice_get g.objects object ≡ Some (variable_type t l true (OfLocal g.depth lent))) × (g.here object ≡ Away j)
 
@@ -43,24 +43,24 @@ IsStack p g x bs (Val r f) (Needs a ∷ k) =
 IsStack p g x bs (PlaceOf peek t l f) (NeedsPlace a ∷ k) = (next : Want) × WaitsPlace p x (relied_at x.relied k) bs a peek t l f next × KeepsPlace p g (operands_in k) bs a t f × IsStack p g x bs next k
 IsStack p g x bs (Val r f) (Discard ∷ k) = IsStack p g x bs (Go f) k
 IsStack p g x bs (Go f) (Discard ∷ k) = IsStack p g x bs (Go f) k
--- the locals that a block declares are out of scope after its items
+-- The locals that a block declares are out of scope after the items of the block.
 IsStack p g x bs (Go f) (Rest js ∷ k) =
     (cs : List InScope) × (c : Context) × (h : flow.State) × Within cs bs × IsContext p x bs c × Continues x c js f h × IsStack p g x cs (Go h) k
 IsStack p g x bs (Go f) (Join ∷ k) = (h : flow.State) × Implies f h × IsStack p g x bs (Go h) k
 IsStack p g x bs (Go f) (Loop condition body ∷ k) =
     (y : Exits) × (l : LoopExit) × (v : ValueType) × (u h : flow.State) × (x ≡ inside y l) × IsLoop p y bs l condition body v u h × Implies f l.head × IsStack p g y bs (Go h) k
--- the region of a block is out of scope after its end, and so is a lexical region
+-- The region of a block is out of scope after the end of the block, and so is a lexical region.
 IsStack p g x bs (Go f) (CloseRegion region home ∷ k) =
     (cs : List InScope) × (number : ℕ) × (l : Life) × (live : Bool) × (h : flow.State) × (bs ≡ Home region ∷ Names number l live ∷ cs) × Implies f h × LiveIn k cs × IsStack p g x cs (Go h) k
 IsStack p g x bs (Go f) (CloseLexical region ∷ k) = (h : flow.State) × Implies f h × LiveIn k bs × IsStack p g x bs (Go h) k
--- after the end of a loan, the resource is no longer lent
+-- After the end of a loan, its resource is no longer lent.
 IsStack p g x bs (Go f) (EndLoan lent ∷ k) =
     (y : Exits) × (h : flow.State) × (j : ℕ) × (t : RunTy) × (object : ℕ) × (x ≡ lending y lent) × (g.loans ≡ suc j) × IsLentOut g lent j t object × Implies (with_fullness Full f lent) h × AreFullAt g lent object bs
     × AreVariables (record g { loans = j }) bs
     × IsStack p (record g { loans = j }) y bs (Go h) k
 IsStack p g x bs (Go f) (Handler cs ∷ k) =
     (y : Exits) × (c : Context) × (start h : flow.State) × (x ≡ relying y start) × IsContext p y bs c × Holds g start bs × Catches y c start cs f h × Implies f h × IsStack p g y bs (Go h) k
--- the caller's locals are unchanged, and hold their values
+-- After a call, the caller's locals are unchanged, and hold their values.
 IsStack p g x bs (Go f) (Caller e ∷ k) =
     (y : Exits) × (cs : List InScope) × (h : flow.State) × (d : ℕ) × (g.depth ≡ suc d) × (is_loop x.loop ≡ false) × IsBlocked x.result f × HasResult x.result x.gives × IsBound e.locals e.counters cs
     × AreVariables (record g { depth = d }) cs × LiveIn k cs × Holds (record g { depth = d }) h cs × IsStack p (record g { depth = d }) y cs (Val x.gives h) k
@@ -69,25 +69,25 @@ IsStack p g x bs w k = ⊥
 
 -- ---- new objects
 
--- operands for the cells from this one on
+-- Says that the operands are values for the cells from offset `offset` on.
 abbrev pub AreNext : Typing → (offset : ℕ) → List RunTy → List Operand → Type 0
 AreNext g zero ts vs = AreOperands g ts vs
 AreNext g (suc i) [] vs = ⊥
 AreNext g (suc i) (t ∷ ts) vs = AreNext g i ts vs
 
--- these operands are on the stack, from this position on
+-- Says that the operands for the cells from `offset` on are on the stack, from position `place` on.
 abbrev pub AreNextGiven : (own : Thing → Holder) → (place offset : ℕ) → List RunTy → List Operand → Type 0
 AreNextGiven own i zero ts vs = AreGiven own i ts vs
 AreNextGiven own i (suc o) [] vs = Unit {0}
 AreNextGiven own i (suc o) (t ∷ ts) vs = AreNextGiven own i o ts vs
 
--- an object of this type has this run-time type as a whole
+-- Says that an object of this type is a complete value of this run-time type.
 abbrev pub IsWhole : Typing → ObjectType → RunTy → Type 0
 IsWhole g y (lives.Struct n ls) = g.fields n ls ≡ Some y.cells
 IsWhole g y t = y.cells ≡ t ∷ []
 
--- An object under construction, whose first cells hold values. The remaining writes fill its other cells; after them the pointer to it is
--- passed on.
+-- An object under construction, whose first cells hold values. The remaining writes fill its other cells; after the last write, the
+-- pointer to the object is passed on.
 pub record IsMaking (g : Typing) (hand : ℕ) (writes : List Write) (v : Operand) (t : RunTy) (l : Life) : Type 0 where
   pub object : ℕ
   pub offset : ℕ
@@ -101,7 +101,8 @@ pub record IsMaking (g : Typing) (hand : ℕ) (writes : List Write) (v : Operand
   pub filled : IsFilled g object offset
   pub rest : AreNext g offset of_type.cells operands
   pub whole : IsWhole g of_type t
-  -- the operands are on the stack, and above them the pointer to the object
+  -- The operands for the remaining cells are on the stack, and above them is the pointer to the
+  -- object.
   pub place : ℕ
   pub least : hand ≤ place
   pub given : AreNextGiven g.own place offset of_type.cells operands
@@ -109,13 +110,14 @@ pub record IsMaking (g : Typing) (hand : ℕ) (writes : List Write) (v : Operand
 
 -- ---- states
 
--- a function with a result returns a value of its type; a function without one returns no value
+-- Says that a function with a result returns a value of its type, and that a function without a
+-- result returns no value.
 abbrev pub IsReturn : Typing → (below : ℕ) → Option Ty → RunValue → Option Operand → Type 0
 IsReturn g i None r None = Unit {0}
 IsReturn g i (Some t) r (Some v) = IsResult g r v × ClaimsAlone g.own i r v.value
 IsReturn g i result r v = ⊥
 
--- this local, if the entry is one, holds a value
+-- Says that a scope entry that is a local holds a value.
 abbrev pub IsFilledIn : Typing → InScope → Type 0
 IsFilledIn g (Variable b) = IsFull g b.object
 IsFilledIn g b = Unit {0}
@@ -124,7 +126,7 @@ abbrev pub AreFull : Typing → List InScope → Type 0
 AreFull g [] = Unit {0}
 AreFull g (b ∷ bs) = IsFilledIn g b × AreFull g bs
 
--- this local, if the entry is one, holds its own resource
+-- Says that a scope entry that is a local holds its own resource.
 abbrev pub IsOwnIn : Typing → InScope → Type 0
 IsOwnIn g (Variable b) = IsHere g g.depth b.number b.object
 IsOwnIn g b = Unit {0}
@@ -133,7 +135,7 @@ abbrev pub AreOwn : Typing → List InScope → Type 0
 AreOwn g [] = Unit {0}
 AreOwn g (b ∷ bs) = IsOwnIn g b × AreOwn g bs
 
--- the exits at the top level of a function's body, outside loops
+-- Says that the exits are those at the top level of a function's body, outside loops.
 abbrev pub IsBody : Exits → List InScope → Function → Type 0
 IsBody x bs h = (x.loop ≡ None) × (x.locks ≡ []) × (x.relied ≡ []) × (x.result ≡ h.result) × (read_value bs (result_type h.result) ≡ x.gives)
 
@@ -190,7 +192,8 @@ pub record IsRunning (p : Program) (focus : Focus) (k : List Entry) (e : Environ
   pub live : LiveIn k locals
   pub stands : IsFocus p typing exits locals focus k
 
--- THE INVARIANT: every part of a state is well-typed, so the state is neither dead nor wrong.
+-- Says that every part of a state is well-typed, so the state is neither dead nor wrong. This is
+-- the invariant of the soundness proof.
 abbrev pub IsWell : Program → State → Type 0
 IsWell p (Running focus k e w) = IsRunning p focus k e w
 IsWell p (Ended ending output input) = Unit {0}

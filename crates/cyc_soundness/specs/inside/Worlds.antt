@@ -1,5 +1,6 @@
--- THE TYPING OF A WORLD: the facts about each object that was ever created, which stay true for ever. Values are typed by these facts, not
--- by which regions are open. A pointer keeps its type when its region closes, and that it may be dereferenced is proved at the dereference.
+-- This file defines the typing of a world: the facts about each object that was ever created, which stay true for ever. Values are typed by
+-- these facts, not by which regions are open. A pointer keeps its type when its region closes; the proof that it may be dereferenced is
+-- made at the dereference.
 use Rattle.std.specs.Prelude.{◌≡◌, ◌≢◌, ℕ, zero, suc, ◌+◌, ◌<◌, ◌≤◌, Bool, true, false, List, [], ◌∷◌, length, Option, Some, None, slice_get, ◌==◌, nat_lt, if◌then◌else◌}
 use Rattle.cyc_syntax.specs.declared.tree.PointerKind.TheVariants as marks
 use Rattle.cyc_types.specs.declared.region.Region.{Region as NamedRegion}
@@ -16,7 +17,8 @@ pub data IsAmong {A : Type 0} (a : A) : List A → Type 0 where
   first : (as' : List A) → IsAmong a (a ∷ as')
   later : (b : A) (as' : List A) → IsAmong a as' → IsAmong a (b ∷ as')
 
--- the local whose variable the object is: its number, and the number of other calls around its call
+-- The local whose variable the object is, given by its number and by how many other calls enclose
+-- its call.
 pub data Slot : Type 0 where
   NoLocal : Slot
   OfLocal : (depth number : ℕ) → Slot
@@ -24,7 +26,7 @@ pub data Slot : Type 0 where
 pub record ObjectType : Type 0 where
   pub cells : List RunTy
   pub life : Life
-  -- true if no pointer may lead to the object
+  -- True if no pointer may point to the object.
   pub is_hidden : Bool
   pub slot : Slot
 
@@ -32,58 +34,59 @@ pub record ObjectType : Type 0 where
 pub data Holder : Type 0 where
   -- no usable holder
   Nobody : Holder
-  -- an operand, above this many others on the stack
+  -- The holder is the operand above this many other operands on the stack.
   Hand : ℕ → Holder
-  -- the cell of an object at this offset
+  -- The holder is the cell of an object at this offset.
   At : (object offset : ℕ) → Holder
-  -- a loan of this variable, after this many other loans
+  -- The holder is a loan of this variable, which began after this many other loans.
   Lent : (before object : ℕ) → Holder
 
--- whether a variable holds its own content
+-- States if a variable holds its own content.
 pub data Standing : Type 0 where
   Gone : Standing
   Here : Standing
-  -- the content is lent to the end of a block, after this many other loans
+  -- The content of the variable is lent to the end of a block; this many other loans began before.
   Away : (before : ℕ) → Standing
 
--- whether a swap is between its two writes, and the cell that it still has to write
+-- States if a swap is between its two writes, and which cell it must still write.
 pub data Pending : Type 0 where
   Settled : Pending
   Awaits : (object offset : ℕ) → Pending
 
 pub record Typing : Type 0 where
-  -- the type of each object, by its number
+  -- The type of each object, given the object's number.
   pub objects : List ObjectType
-  -- for each object, the number of its leading cells that hold values; such a cell holds a value for ever
+  -- For each object, how many of its leading cells hold values; a cell that holds a value holds one for
+  -- ever.
   pub filled : List ℕ
   -- the types of a struct's cells, given its number and the lifetimes of its region parameters
   pub fields : ℕ → List Life → Option (List RunTy)
   -- the numbers of the dynamic regions
   pub kept : List ℕ
-  -- AT THIS MOMENT: the holder of each resource, the state of each variable, the number of calls around the running one, and the number of
-  -- loans
+  -- The facts about the current state: the holder of each resource, the state of each variable, the number of calls that enclose the
+  -- running call, and the number of loans.
   pub own : Thing → Holder
   pub here : (object : ℕ) → Standing
   pub pending : Pending
   pub depth : ℕ
   pub loans : ℕ
 
--- a lifetime that a region variable may denote; a dynamic region must be one of this world
+-- Says that a region variable may denote this lifetime; a dynamic region must be one of this world.
 abbrev pub IsKnownLife : Typing → Life → Type 0
 IsKnownLife g (Kept (KeyOf region)) = IsAmong region g.kept
 IsKnownLife g Owned = ⊥
 IsKnownLife g l = Unit {0}
 
--- a lifetime that an object may have
+-- Says that an object may have this lifetime.
 abbrev pub IsKnownOwner : Typing → Life → Type 0
 IsKnownOwner g (Kept (KeyOf region)) = IsAmong region g.kept
 IsKnownOwner g l = Unit {0}
 
--- at least this many leading cells of an object hold values
+-- Says that at least `count` leading cells of an object hold values.
 abbrev pub IsFilled : Typing → (object count : ℕ) → Type 0
 IsFilled g object count = (filled : ℕ) × (slice_get g.filled object ≡ Some filled) × (count ≤ filled)
 
--- a variable holds a value
+-- Says that a variable holds a value.
 abbrev pub IsFull : Typing → (object : ℕ) → Type 0
 IsFull g object = IsFilled g object 1
 
@@ -97,13 +100,13 @@ global_life = OfRegion globals_number [] (λ a. false)
 abbrev pub global_type : RunTy → ObjectType
 global_type t = variable_type t global_life false NoLocal
 
--- the first list is a suffix of the second
+-- Says that the first list is a suffix of the second list.
 pub data IsEndOf (ms : List ℕ) : List ℕ → Type 0 where
   whole : IsEndOf ms ms
   following : (n : ℕ) (ns : List ℕ) → IsEndOf ms ns → IsEndOf ms (n ∷ ns)
 
--- The first lifetime lasts at least as long as the second. The heap and the globals last for ever. A region that was open around a scope
--- lasts to the scope's end, and so do the loans of that time. A unique pointer may lead to any unique object.
+-- Says that the first lifetime lasts at least as long as the second. The heap and the globals last for ever. A region that was open
+-- around a scope lasts to the scope's end, and so do the loans of that time. A unique pointer may point to any unique object.
 pub data Outlasts : Life → Life → Type 0 where
   alike : (l : Life) → Outlasts l l
   heap : (l : Life) → Outlasts heap_life l
@@ -112,39 +115,40 @@ pub data Outlasts : Life → Life → Type 0 where
   borrows : (object : ℕ) → Outlasts (Kept (PointerTo object)) Owned
   encloses : (m n : ℕ) (ms ns : List ℕ) (us vs : Thing → Bool) → IsEndOf (m ∷ ms) ns → ((a : Thing) → us a ≡ true → vs a ≡ true) → Outlasts (OfRegion m ms us) (OfRegion n ns vs)
 
--- outlives constraints hold between the lifetimes that the regions denote
+-- Says that the outlives constraints hold between the lifetimes that the regions denote.
 abbrev pub AgreesWith : RegionContext → Lives → Type 0
 AgreesWith c n = (a b : NamedRegion) → OutlivesIn c a b → Outlasts (n a) (n b)
 
 -- ---- values
 
--- An object of this type contains a part of the given type at this cell: a value, or a struct, which is the whole object.
+-- Says that an object of this type contains a part of the given type at this cell: a value, or a struct, which is the
+-- complete object.
 abbrev pub IsPart : Typing → (object : ℕ) → ObjectType → RunTy → (offset : ℕ) → Type 0
 IsPart g object x (Struct n ls) offset = (offset ≡ 0) × (g.fields n ls ≡ Some x.cells) × IsFilled g object (length x.cells)
 IsPart g object x t offset = (slice_get x.cells offset ≡ Some t) × IsFilled g object (suc offset)
 
--- the lifetime of an object as seen by a pointer to it
+-- The lifetime of an object as a pointer to it sees it.
 abbrev pub life_at : (object : ℕ) → Life → Life
 life_at object Owned = Kept (PointerTo object)
 life_at object l = l
 
--- a pointer of this type may lead to this cell
+-- Says that a pointer of this type may point to this cell.
 abbrev pub IsTarget : Typing → RunTy → Life → (object offset : ℕ) → Type 0
 IsTarget g t l object offset =
     (x : ObjectType) × (slice_get g.objects object ≡ Some x) × (x.is_hidden ≡ false) × Outlasts (life_at object x.life) l × IsPart g object x t offset
 
--- the region of this number has this lifetime
+-- Says that the region with this number has this lifetime.
 abbrev pub IsNumber : Life → (region : ℕ) → Type 0
 IsNumber (OfRegion number around lent) region = number ≡ region
 IsNumber (Kept (KeyOf number)) region = number ≡ region
 IsNumber l region = ⊥
 
--- the key of the dynamic region of this number has this lifetime
+-- Says that the key of the dynamic region with this number has this lifetime.
 abbrev pub IsKeyOf : Life → (region : ℕ) → Type 0
 IsKeyOf (Kept (KeyOf number)) region = number ≡ region
 IsKeyOf l region = ⊥
 
--- the value has this run-time type
+-- Says that a value has this run-time type.
 abbrev pub HasType : Typing → RunTy → values.Value → Type 0
 HasType g Int (values.Int word) = Unit {0}
 HasType g Char (values.Int word) = Unit {0}
@@ -157,7 +161,7 @@ HasType g (Handle l) (values.Handle region) = IsNumber l region
 HasType g (Key l) (values.Key region) = IsKeyOf l region
 HasType g t value = ⊥
 
--- the operand is a value of this run-time type
+-- Says that an operand is a value of this run-time type.
 abbrev pub IsResult : Typing → RunValue → Operand → Type 0
 IsResult g Void v = Unit {0}
 IsResult g Null v = (v.kind ≡ kinds.Nullable) × (v.value ≡ values.Null)
@@ -165,13 +169,13 @@ IsResult g (Value t) v = (v.kind ≡ kind_at t) × HasType g t v.value
 IsResult g (Seen object t) v = (v.kind ≡ kind_at t) × HasType g t v.value
 IsResult g (Into peek t) v = (v.kind ≡ kind_at t) × HasType g t v.value
 
--- the result of a computation: a value of this type, or an exception
+-- Says that the result of a computation is a value of this type or an exception.
 abbrev pub Fits : Typing → RunTy → Result → Type 0
 Fits g t (Gives v) = HasType g t v
 Fits g t (Raises tag) = Unit {0}
 Fits g t Misfits = ⊥
 
--- stored operands, each of its type
+-- Says that each stored operand has its type.
 abbrev pub AreOperands : Typing → List RunTy → List Operand → Type 0
 AreOperands g [] [] = Unit {0}
 AreOperands g [] (v ∷ vs) = ⊥
@@ -180,7 +184,7 @@ AreOperands g (t ∷ ts) (v ∷ vs) = IsResult g (Value t) v × AreOperands g ts
 
 -- ---- objects
 
--- a cell is empty only if it is not known to hold a value
+-- Says that a cell is empty only if it is not known to hold a value.
 abbrev pub IsContent : Typing → (full : Bool) → RunTy → Option values.Value → Type 0
 IsContent g full t None = full ≡ false
 IsContent g full t (Some v) = HasType g t v
@@ -188,7 +192,7 @@ IsContent g full t (Some v) = HasType g t v
 abbrev pub IsCell : Typing → (full : Bool) → RunTy → Cell → Type 0
 IsCell g full t c = (c.kind ≡ kind_at t) × IsContent g full t c.content
 
--- cells of these types, of which this many leading ones hold values
+-- Says that cells have these types, and that the first `filled` of them hold values.
 abbrev pub AreCells : Typing → List RunTy → List Cell → (filled : ℕ) → Type 0
 AreCells g [] [] n = Unit {0}
 AreCells g [] (c ∷ cs) n = ⊥
@@ -196,20 +200,22 @@ AreCells g (t ∷ ts) [] n = ⊥
 AreCells g (t ∷ ts) (c ∷ cs) zero = IsCell g false t c × AreCells g ts cs zero
 AreCells g (t ∷ ts) (c ∷ cs) (suc n) = IsCell g true t c × AreCells g ts cs n
 
--- an object of this lifetime belongs to its region, or is a unique object, which exists as long as its pointer has a holder
+-- Says that an object with this lifetime belongs to the lifetime's region, or is a unique object, which exists as long as
+-- its pointer has a holder.
 abbrev pub IsOwner : Life → Owner → Type 0
 IsOwner (OfRegion region around lent) (InRegion number) = region ≡ number
 IsOwner Owned (Unique live) = Unit {0}
 IsOwner (Kept (KeyOf region)) (InRegion number) = region ≡ number
 IsOwner l o = ⊥
 
--- the owner of a new object of this lifetime; a new unique object is live
+-- Says that a new object with this lifetime has this owner; a new unique object is live.
 abbrev pub IsNewOwner : Life → Owner → Type 0
 IsNewOwner l (Unique false) = ⊥
 IsNewOwner l (Unique true) = IsOwner l (Unique true)
 IsNewOwner l (InRegion number) = IsOwner l (InRegion number)
 
--- no cell that a pointer may lead to contains a key
+-- Says that a type is not the type of a dynamic region's key; cells to which pointers may point
+-- contain no such keys.
 abbrev pub IsKeyless : RunTy → Type 0
 IsKeyless (Key (Kept (KeyOf region))) = ⊥
 IsKeyless t = Unit {0}
@@ -218,7 +224,7 @@ abbrev pub AreKeyless : List RunTy → Type 0
 AreKeyless [] = Unit {0}
 AreKeyless (t ∷ ts) = IsKeyless t × AreKeyless ts
 
--- no value of this type is a linear resource
+-- Says that no value of this type is a linear resource.
 abbrev pub IsPlain : RunTy → Type 0
 IsPlain (Key (Kept (KeyOf region))) = ⊥
 IsPlain (Pointer k t Owned) = ⊥
@@ -244,19 +250,19 @@ abbrev pub pointer_at : Life → (object : ℕ) → Option Thing
 pointer_at Owned object = Some (PointerTo object)
 pointer_at l object = None
 
--- the resource that a value of this type is, if it is one
+-- The linear resource that a value of this type represents, if any.
 abbrev pub thing_of : RunTy → values.Value → Option Thing
 thing_of (Key l) v = key_at l
 thing_of (Pointer k t l) (values.Thin object offset) = pointer_at l object
 thing_of (Pointer k t l) (values.Fat object start count index) = pointer_at l object
 thing_of t v = None
 
--- the resource, if there is one, belongs to this holder
+-- Says that a resource, if there is one, belongs to this holder.
 abbrev pub Owns : (own : Thing → Holder) → Holder → Option Thing → Type 0
 Owns own h None = Unit {0}
 Owns own h (Some a) = own a ≡ h
 
--- a unique pointer leads to the first cell of its object
+-- Says that a unique pointer points to the first cell of its object.
 abbrev pub AtStart : Life → (start index : ℕ) → Type 0
 AtStart Owned start index = (start ≡ 0) × (index ≡ 0)
 AtStart l start index = Unit {0}
@@ -266,7 +272,8 @@ IsStart (Pointer k t l) (values.Thin object offset) = AtStart l offset 0
 IsStart (Pointer k t l) (values.Fat object start count index) = AtStart l start index
 IsStart t v = Unit {0}
 
--- the holder owns the resource that the value is, if any; a unique pointer leads to its object's start
+-- Says that the holder owns the resource that a value represents, if any, and that a unique pointer
+-- points to its object's start.
 abbrev pub Claims : (own : Thing → Holder) → Holder → RunTy → values.Value → Type 0
 Claims own h t v = Owns own h (thing_of t v) × IsStart t v
 
@@ -283,36 +290,38 @@ given (Some a) h own = λ b. if same_thing b a then h else own b
 abbrev pub giving : Typing → Option Thing → Holder → Typing
 giving g o h = record g { own = given o h g.own }
 
--- the standing of a variable is changed to this one
+-- Changes the standing of one variable, that is, the fact if the variable holds its content.
 abbrev pub marked : (object : ℕ) → Standing → (ℕ → Standing) → ℕ → Standing
 marked object b here = λ n. if n == object then b else here n
 
 abbrev pub handing : Typing → Option Thing → Holder → (object : ℕ) → Standing → Typing
 handing g o h object b = record g { own = given o h g.own; here = marked object b g.here }
 
--- the object is the variable of this local, in a call with this many other calls around it
+-- Says that an object is the variable of this local, in a call that `depth` other calls enclose.
 abbrev pub IsSlot : Typing → (depth number object : ℕ) → Type 0
 IsSlot g d n object = (x : ObjectType) × (slice_get g.objects object ≡ Some x) × (x.slot ≡ OfLocal d n)
 
--- the variable of this local holds its own content
+-- Says that the variable of this local holds its own content.
 abbrev pub IsHere : Typing → (depth number object : ℕ) → Type 0
 IsHere g d n object = (g.here object ≡ Here) × IsSlot g d n object
 
--- whether a pointer may lead to the object
+-- States if pointers may point to an object.
 abbrev pub IsHiding : Typing → (object : ℕ) → (is_hidden : Bool) → Type 0
 IsHiding g object hidden = (x : ObjectType) × (slice_get g.objects object ≡ Some x) × (x.is_hidden ≡ hidden)
 
--- the resource, if any, is held by this local, to whose variable no pointer leads
+-- Says that a resource, if there is one, is held by this local, to whose variable no pointer
+-- points.
 abbrev pub IsLookedAt : Typing → (number : ℕ) → Option Thing → Type 0
 IsLookedAt g n None = Unit {0}
 IsLookedAt g n (Some a) = (object : ℕ) × IsHere g g.depth n object × IsHiding g object true × (g.own a ≡ At object 0)
 
--- the resource is held by a local with a pending peek, or else by an operand on the stack
+-- Says that a resource is held by the local at which a peek looks or, without a peek, by an operand
+-- on the stack.
 abbrev pub ClaimsPart : Typing → (hand : ℕ) → (peek : Option ℕ) → Option Thing → Type 0
 ClaimsPart g i None o = Owns g.own (Hand i) o
 ClaimsPart g i (Some n) o = IsLookedAt g n o
 
--- the resource, if any, has some holder
+-- Says that a resource, if there is one, has some holder.
 abbrev pub IsHad : Typing → Option Thing → Type 0
 IsHad g None = Unit {0}
 IsHad g (Some a) = IsHeld (g.own a)
@@ -323,35 +332,36 @@ ClaimsBy g i (Seen object t) v = Owns g.own (At object 0) (thing_of t v)
 ClaimsBy g i (Into peek t) v = ClaimsPart g i peek (thing_of t v)
 ClaimsBy g i r v = Unit {0}
 
--- the claim of a value that leaves its call, which therefore is not a peek
+-- The claim of a value that leaves its call, which therefore is not a peek.
 abbrev pub ClaimsAlone : (own : Thing → Holder) → (hand : ℕ) → RunValue → values.Value → Type 0
 ClaimsAlone own i (Value t) v = Claims own (Hand i) t v
 ClaimsAlone own i (Seen object t) v = ⊥
 ClaimsAlone own i (Into peek t) v = ⊥
 ClaimsAlone own i r v = Unit {0}
 
--- the content of this cell is its own; a hidden variable may have given its content away
+-- Says that a cell holds the resource of its own content; a hidden variable may have given its
+-- content away.
 abbrev pub IsKept : Typing → (object offset : ℕ) → (is_hidden : Bool) → Type 0
 IsKept g object offset hidden = (hidden ≡ true → g.here object ≡ Here) × (g.pending ≢ Awaits object offset)
 
 abbrev pub AreOwned : Typing → (object : ℕ) → ObjectType → List Cell → Type 0
 AreOwned g object y cs = (i : ℕ) (t : RunTy) (c : Cell) (v : values.Value) → IsKept g object i y.is_hidden → slice_get y.cells i ≡ Some t → slice_get cs i ≡ Some c → c.content ≡ Some v → Claims g.own (At object i) t v
 
--- a lent content is still stored in its hidden variable
+-- Says that content that is lent is still stored in its hidden variable.
 abbrev pub AreLent : Typing → (object : ℕ) → ObjectType → List Cell → Type 0
 AreLent g object y cs = (i j : ℕ) (t : RunTy) (c : Cell) (v : values.Value) → g.here object ≡ Away j → y.is_hidden ≡ true → slice_get y.cells i ≡ Some t → slice_get cs i ≡ Some c → c.content ≡ Some v → Claims g.own (Lent j object) t v
 
--- an open dynamic region
+-- Says that a region exists, is dynamic and is open.
 abbrev pub IsDynamic : Option Region → Type 0
 IsDynamic None = ⊥
 IsDynamic (Some r) = (r.sort ≡ Dynamic) × (r.is_open ≡ true)
 
--- a unique object that is not freed
+-- Says that an object is unique and has not been freed.
 abbrev pub IsUniqueObject : Typing → List Object → (object : ℕ) → Type 0
 IsUniqueObject g objects object = (t : ObjectType) × (x : Object) × (slice_get g.objects object ≡ Some t) × (t.life ≡ Owned) × (slice_get objects object ≡ Some x) × (x.owner ≡ Unique true)
 
--- Each object has its type, and there are no other objects. The region of the heap is open in the world. Dynamic regions whose key has a
--- holder are open, and unique objects whose pointer has a holder are live.
+-- Says that each object has its type, and that there are no other objects. The region of the heap is open in the world. Dynamic regions
+-- whose key has a holder are open, and unique objects whose pointer has a holder are live.
 pub record IsTyped (g : Typing) (regions : List Region) (objects : List Object) : Type 0 where
   pub count : length objects ≡ length g.objects
   pub counts : length objects ≡ length g.filled
@@ -364,18 +374,19 @@ pub record IsTyped (g : Typing) (regions : List Region) (objects : List Object) 
   pub owned : (object : ℕ) (t : ObjectType) (x : Object) → slice_get g.objects object ≡ Some t → slice_get objects object ≡ Some x → AreOwned g object t x.cells
   pub lent : (object : ℕ) (t : ObjectType) (x : Object) → slice_get g.objects object ≡ Some t → slice_get objects object ≡ Some x → AreLent g object t x.cells
 
--- a new object of this lifetime may be allocated, since its region is open
+-- Says that a new object with this lifetime may be allocated, since the region of the lifetime is
+-- open.
 abbrev pub IsOpenLife : List Region → Life → Type 0
 IsOpenLife regions (OfRegion number around lent) = is_open (slice_get regions number) ≡ true
 IsOpenLife regions (Kept (KeyOf number)) = is_open (slice_get regions number) ≡ true
 IsOpenLife regions l = Unit {0}
 
--- an object of this lifetime is live
+-- Says that an object with this lifetime is live.
 abbrev pub IsOpenObject : Typing → List Region → (object : ℕ) → Life → Type 0
 IsOpenObject g regions object Owned = IsHeld (g.own (PointerTo object))
 IsOpenObject g regions object l = IsOpenLife regions l
 
--- true if the resource is lent by one of the first loans, up to this number
+-- Holds if one of the first `count` loans lends the resource.
 abbrev pub is_lent_by : ℕ → Holder → Bool
 is_lent_by count (Lent before object) = nat_lt before count
 is_lent_by count h = false
@@ -383,7 +394,7 @@ is_lent_by count h = false
 abbrev pub lent_now : Typing → Thing → Bool
 lent_now g a = is_lent_by g.loans (g.own a)
 
--- everything that is lent for this lifetime is lent now
+-- Says that all resources that were lent when this lifetime began are lent now.
 abbrev pub IsOpenIn : Typing → Life → Type 0
 IsOpenIn g (Kept a) = lent_now g a ≡ true
 IsOpenIn g (OfRegion number around lent) = (a : Thing) → lent a ≡ true → lent_now g a ≡ true
@@ -391,14 +402,14 @@ IsOpenIn g l = Unit {0}
 
 -- ---- growth
 
--- all earlier facts about objects stay true
+-- Says that all earlier facts about objects stay true.
 pub record Grows (g h : Typing) : Type 0 where
   pub objects : (number : ℕ) (t : ObjectType) → slice_get g.objects number ≡ Some t → slice_get h.objects number ≡ Some t
   pub filled : (number count : ℕ) → IsFilled g number count → IsFilled h number count
   pub fields : (struct : ℕ) (ls : List Life) (ts : List RunTy) → g.fields struct ls ≡ Some ts → h.fields struct ls ≡ Some ts
   pub kept : (number : ℕ) → IsAmong number g.kept → IsAmong number h.kept
 
--- the facts stay true and no resource changes its holder
+-- Says that the facts about objects stay true and that no resource changes its holder.
 pub record Stays (g h : Typing) : Type 0 where
   pub grows : Grows g h
   pub own : h.own ≡ g.own

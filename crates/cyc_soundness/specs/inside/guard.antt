@@ -1,4 +1,5 @@
--- The flow rules as relations on states, in the form that a proof about runs needs.
+-- These modules define the flow rules as relations on states, in the form that a proof about runs
+-- needs.
 pub mod Held
 pub mod Expressions
 pub mod Statements

@@ -1,4 +1,4 @@
--- The program's answer to a request to format a text.
+-- The program's answer to the command that formats a source text.
 use Rattle.std.specs.Prelude.{◌≡◌, ◌⊎◌, ℕ, Bool, List, Option, Result, Ok, Err}
 use Rattle.std.specs.Io.KnownBytes.{Appends, Keeps}
 use Rattle.cyc_words.specs.Device.{AppendsPrefix}
@@ -11,19 +11,19 @@ use Rattle.cyc_host.specs.inside.Console.{EndsAs}
 use Rattle.cyc_host.specs.declared.answer.Answer.{Answer}
 use Rattle.cyc_host.specs.declared.answer.Answer.TheVariants.{Done, WriteFault}
 
--- Both texts have the same tokens, except for the positions of the tokens.
+-- Says that two texts have the same tokens, except for the positions of the tokens.
 abbrev pub IsLaidOut : (text laid : List ℕ) → Type 0
 IsLaidOut text laid = (tokens : List Token) × IsAccepted text tokens × HasSameTokens tokens laid
 
--- A formatted text was written to the device completely, or a prefix of it if the device failed. A text without tokens is rejected with its
--- fault, unless memory ran out; then nothing is written.
+-- Says that the formatted text was written to the device completely, or a prefix of the text if the device failed. A text without tokens is
+-- rejected with its fault, unless memory ran out; then no byte is written.
 abbrev pub AnswersFormat : (text : List ℕ) → (old new : Option (List ℕ)) → Result Answer Fault → Type 0
 AnswersFormat text old new (Ok answer) =
     (laid : List ℕ) × IsLaidOut text laid × (((answer ≡ Done) × Appends old new laid) ⊎ ((answer ≡ WriteFault) × AppendsPrefix old new laid))
 AnswersFormat text old new (Err fault) = ((fault ≡ memory_fault) ⊎ IsRefused text fault) × Keeps old new
 
--- The final answer. Flushing does not change the written bytes; `held` are the bytes in the buffer, and `stuck` is true if some could not
--- be flushed when they had to be.
+-- The final answer to the command that formats a text. Flushing does not change the written bytes. `held` are the bytes in the
+-- buffer; `stuck` is true if some bytes could not be flushed when they had to be.
 abbrev pub EndsFormat : (text : List ℕ) → (old new : Option (List ℕ)) (held : List ℕ) (stuck : Bool) → (last : Result Answer Fault) → Type 0
 EndsFormat text old new held stuck (Ok last) =
     (answer : Answer) × (written : Option (List ℕ)) × AnswersFormat text old written (Ok answer) × Keeps written new × EndsAs answer held stuck last

@@ -1,4 +1,5 @@
--- The program's answers to a check and a compilation, in terms of the results of the lower layers.
+-- The program's answers to the commands that check or compile a program, stated in terms of the
+-- results of the lower layers.
 use Rattle.std.specs.Prelude.{◌≡◌, ◌⊎◌, ℕ, List, Result, Ok, Err}
 use Rattle.cyc_words.specs.declared.fault.Fault.{Fault}
 use Rattle.cyc_words.specs.Fault.{memory_fault}
@@ -11,13 +12,14 @@ use Rattle.cyc_compiler.specs.FullPreservation.{IsImageOf}
 use Rattle.cyc_compiler.specs.declared.compiler.Compilation.{Compilation}
 use Rattle.cyc_cli.specs.inside.Limits.{Given, carried_by}
 
--- The answer to a check: the text is accepted, or its fault is that of the first phase that rejects it, unless memory ran out.
+-- Says that the answer to a check is correct: the text is accepted, or the fault is that of the first phase that rejects the
+-- text, unless memory ran out.
 abbrev pub AnswersCheck : {X : Type 0} → List ℕ → Result X Fault → Type 0
 AnswersCheck text (Ok done) = (p : Program) × IsAcceptedText text p
 AnswersCheck text (Err fault) = (fault ≡ memory_fault) ⊎ IsRefusedText text fault
 
--- The answer to a compilation: an image of the text's program with the limits that follow from the given ones, and the text's tokens; or
--- the fault of the text, unless memory ran out.
+-- Says that the answer to a compilation is correct. The answer is an image of the text's program, with the limits that follow from the
+-- given ones, and the text's tokens. If the text is rejected, the answer is the text's fault, unless memory ran out.
 abbrev pub AnswersCompile : List ℕ → Given → Result Compilation Fault → Type 0
 AnswersCompile text given (Ok made) =
     ((p : Program) × IsCompiledText text p × IsImageOf p made.image.items)

@@ -1,4 +1,5 @@
--- The nodes of typed statements, and the parts of the declaration of a local.
+-- This file defines the views of the nodes of typed statements, and of the parts of the declaration
+-- of a local.
 use Rattle.std.specs.Prelude.{Option, option_map}
 use Rattle.std.specs.declared.boxed.Box.{Box}
 use Rattle.std.specs.declared.alloc.Global.{Global}
@@ -12,10 +13,10 @@ use Rattle.cyc_types.specs.typing.Expressions.{converted}
 use Rattle.cyc_operands.specs.inside.Operands.{view_boxed}
 use Rattle.cyc_statements.specs.declared.items.Initialised.{Initialised}
 
--- the statement in a box
+-- The typed statement in a box.
 abbrev pub view_boxed_statement : Box Stmt Global → typed.Statement
 view_boxed_statement b = view.view_statement b.value
 
--- the type of a local, and its initial value, if there is one
+-- The view of the type of a local, and of its initial value, if there is one.
 abbrev pub view_initialised : Initialised → Ty × Option typed.Converted
 view_initialised i = (view_ty i.of_type, option_map (λ (b : Box Expr Global). converted (view_boxed b) (view_ty i.of_type)) i.value)

@@ -1,5 +1,5 @@
--- How a table of pages represents a layout: its rows, words and marks, as functions, and the heads of its chains. Where these are stored is
--- left open. The representation of a layout by a page table is this project's own choice.
+-- This file says how a table of pages represents a layout: by its rows, words and live marks, as functions, and by the heads of its chains.
+-- The location of these parts is left open. The representation of a layout by a page table is this project's own choice.
 use Rattle.std.specs.Prelude.{◌≡◌, ℕ, zero, suc, ◌+◌, ◌-◌, ◌*◌, ◌/◌, ◌^◌, ◌<◌, ◌≤◌, ◌==◌, ◌⊎◌, Bool, false, List, [], ◌∷◌, ◌++◌, Option, None, Some, is_some, if◌then◌else◌, length, slice_index, slice_index_or}
 use Rattle.std.specs.List.{AllByRecursion}
 use Rattle.cyc_words.specs.Demand.{greatest_class}
@@ -16,7 +16,7 @@ use Rattle.cyc_store.specs.declared.range.TheConstants.{PAGE_WORDS, UNIQUE, MOST
 use Rattle.cyc_store.specs.Pages.{Pages, HasChain}
 use Rattle.cyc_store.specs.Slots.{place_of, Layout, IsLaidOut, slots_from}
 
--- the readable content of a table
+-- The content of a table that can be read.
 pub record Table : Type 0 where
   pub most : ℕ
   pub count : ℕ
@@ -25,7 +25,8 @@ pub record Table : Type 0 where
   pub word : ℕ → ℕ
   pub live : ℕ → Bool
 
--- a chain: each element names the next one, and the last names the end
+-- Says that a list is a chain: each element names the next element, and the last element names the
+-- end.
 abbrev pub IsChain : (next : ℕ → ℕ) → (first : ℕ) → List ℕ → Type 0
 IsChain next first [] = first ≡ NONE
 IsChain next first (x ∷ xs) = (first ≡ x) × IsChain next (next x) xs
@@ -41,12 +42,13 @@ numbers_from first (suc count) = first ∷ numbers_from (suc first) count
 
 -- ---- the row of a page
 
--- the number of words of a page that are live without a look at their marks
+-- The number of words of a page that are live without a look at their live marks.
 abbrev pub limit : (owner : Option ℕ) → (filled : ℕ) → ℕ
 limit None filled = 0
 limit (Some h) filled = if h == UNIQUE then 0 else filled
 
--- The role of the first page of a region of this sort. Unique blocks are not a region of the table, so they have no such role.
+-- The role of the first page of a region of this sort. Unique blocks are not a region of the table, so no first page has their
+-- role.
 abbrev pub role_of_sort : Sort → Role
 role_of_sort Heap = role.Heap
 role_of_sort Lexical = role.Lexical
@@ -57,7 +59,7 @@ abbrev pub role_of_owner : (owner : Option ℕ) → (class : ℕ) → Role
 role_of_owner None class = role.Rest
 role_of_owner (Some h) class = if h == UNIQUE then role.Slots class else role.Rest
 
--- the role of a page, given the region whose first page it is, and its owner
+-- The role of a page, given the sort of the region whose first page it is, and its owner.
 abbrev pub role_of : Option Sort → (owner : Option ℕ) → (class : ℕ) → Role
 role_of (Some sort) owner class = role_of_sort sort
 role_of None owner class = role_of_owner owner class
@@ -66,7 +68,7 @@ abbrev pub sort_of : Option Home → Option Sort
 sort_of None = None
 sort_of (Some r) = Some r.sort
 
--- the handle of the region that has this as its first page
+-- The handle of the region that has this page as its first page.
 abbrev pub handle_of_page : (page : ℕ) → ℕ
 handle_of_page page = 2 * page + 1
 
@@ -86,7 +88,7 @@ pub record IsRooted (row : ℕ → Row) (pages : Pages) (r : Home) : Type 0 wher
   pub linked : IsChain (λ p. (row p).next) chain.newest.page (chain.newest.page ∷ chain.older)
   pub complete : (p : ℕ) → pages.owner p ≡ Some r.handle → IsOneOf (chain.newest.page ∷ chain.older) p
 
--- the handles of the lexical regions, oldest first
+-- The handles of the lexical regions, oldest first.
 abbrev pub lexical_handles : List Home → List ℕ
 lexical_handles [] = []
 lexical_handles (r ∷ rs) = if is_lexical r.sort then r.handle ∷ lexical_handles rs else lexical_handles rs
@@ -98,7 +100,7 @@ pub record IsStocked (word : ℕ → ℕ) (slots : ClassSlots) (class : ℕ) (de
   pub all : dead ≡ chain ++ slots_from (2 ^ class) slots.fresh slots.left
   pub linked : IsChain word slots.dead chain
 
--- the first empty slot, and the remaining ones
+-- The first empty slot of a class, and the empty slots that remain after it.
 abbrev pub next_slot_of : ClassSlots → (words : List ℕ) → (class : ℕ) → ℕ × ClassSlots
 next_slot_of slots words class =
     if slots.dead == NONE then (slots.fresh, record { dead = NONE; fresh = slots.fresh + 2 ^ class; left = slots.left - 1 })
@@ -138,7 +140,7 @@ table_of t = record {
   live = λ (slot : ℕ). slice_index_or t.live.items slot false;
 }
 
--- the invariant of every store on such a table
+-- The invariant of every store on a table of pages.
 pub record IsKept (t : PageTable) (lexicals : List ℕ) (classes : List ClassSlots) (b : Blocks) : Type 0 where
   pub whole : IsWhole t
   pub eleven : length classes ≡ 11

@@ -1,5 +1,5 @@
--- A text is looked up among the names by its key, a number; if another text has an equal key, by the text. The lookup of names by keys is
--- this project's own choice.
+-- A text is looked up among the names by its key, a number. If another text has an equal key, it is looked up by the text. The lookup of
+-- names by keys is this project's own choice.
 use Rattle.std.specs.Prelude.{◌≡◌, ℕ, ◌+◌, ◌*◌, ◌^◌, ◌%◌, ◌<◌, if◌then◌else◌, List, length, fold, get_or, [], Option, Some, None, IfSome, Vec}
 use Rattle.std.specs.Global.{Global}
 use Rattle.std.specs.Ordering.{nat_cmp}
@@ -8,31 +8,33 @@ use Rattle.std.specs.Cmp.Lexicographic.{slice_cmp}
 use Rattle.std.specs.BTreeMap.{BTreeMap, get_by}
 use Rattle.cyc_syntax.specs.Names.{is_among, number_of}
 
--- the key of a text: its bytes as the digits of a number, modulo 2 ^ 64
+-- Returns the key of a text: its bytes as the digits of a number, modulo 2 ^ 64.
 abbrev pub key_of : List ℕ → ℕ
 key_of text = fold (λ key byte. (key * 257 % 2 ^ 64 + byte) % 2 ^ 64) 0 text
 
--- the number stored for a key
+-- Returns the number stored for a key, if there is one.
 abbrev pub first_in : BTreeMap ℕ ℕ → ℕ → Option ℕ
 first_in firsts key = get_by (nat_cmp key) firsts
 
--- the number stored for a text
+-- Returns the number stored for a text among the other texts, if there is one.
 abbrev pub other_in : BTreeMap (Vec ℕ Global) ℕ → List ℕ → Option ℕ
 other_in others text = get_by (λ v. slice_cmp nat_cmp text v.items) others
 
--- the number of a text, if the list contains it
+-- Returns the number of a text, or `None` if the list does not contain it.
 abbrev pub number_if : List (List ℕ) → List ℕ → Option ℕ
 number_if texts text = if is_among text texts then Some (number_of texts text) else None
 
--- the result of a lookup: the first text with this key if it is equal, otherwise the entry among the other texts
+-- Returns the result of a lookup: the number of the first text with this key if it is equal, otherwise the entry
+-- among the other texts.
 abbrev pub found_at : List (List ℕ) → Option ℕ → Option ℕ → List ℕ → Option ℕ
 found_at texts None other text = None
 found_at texts (Some n) other text = if bytes_eq (get_or texts n []) text then Some n else other
 
--- The index is correct: the lookup of each text returns its number, or nothing if the text is not in the list.
+-- `IsIndexOf` says that the index is correct: the lookup of each text returns its number, or nothing if the
+-- text is not in the list.
 pub record IsIndexOf (texts : List (List ℕ)) (first : ℕ → Option ℕ) (other : List ℕ → Option ℕ) : Type 0 where
-  -- the number stored for a key is an index into the list
+  -- The number stored for a key is an index into the list of texts.
   pub within : (key : ℕ) → IfSome (first key) (λ n. n < length texts)
-  -- a text whose key is not stored is not among the other texts
+  -- A text whose key is not stored is not among the other texts.
   pub apart : (text : List ℕ) → first (key_of text) ≡ None → other text ≡ None
   pub found : (text : List ℕ) → found_at texts (first (key_of text)) (other text) text ≡ number_if texts text

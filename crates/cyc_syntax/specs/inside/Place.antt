@@ -1,9 +1,10 @@
--- The relation between a place of the code and the bytes before it. (That columns count bytes is this project's own choice.)
+-- The relation between a source position of the code and the bytes before it. (That columns count bytes is this project's
+-- own choice.)
 use Rattle.std.specs.Prelude.{◌≡◌, ℕ, List}
 use Rattle.cyc_words.specs.declared.span.Span.{Span}
 use Rattle.cyc_syntax.specs.TokenRule.{line_after, column_after}
 
--- this is the place just after these bytes
+-- `IsAfter` says that this is the source position just after these bytes.
 pub record IsAfter (place : Span) (front : List ℕ) : Type 0 where
   pub line : place.line ≡ line_after front
   pub column : place.column ≡ column_after front

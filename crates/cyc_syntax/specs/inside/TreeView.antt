@@ -1,4 +1,5 @@
--- The view of the code's trees: each tree without its layout in memory. The view of trees is this project's own choice.
+-- The view of the code's syntax trees: each tree without its layout in memory. The form of the view is this project's
+-- own choice.
 use Rattle.std.specs.Prelude.{List, [], ◌∷◌, map, Option, Some, None, option_map}
 use Rattle.std.specs.declared.vec.Vec.{Vec}
 use Rattle.std.specs.declared.alloc.Global.{Global as Heap}
@@ -97,7 +98,7 @@ abbrev mutual
   view_operations end_of-Operation = NoOperations
   view_operations (more_of-Operation o s e row) = ThenOperation o (place_of_span s) (view_expression e) (view_operations row)
 
--- the views of lists of nodes, given the contents of a `Vec`
+-- Returns the view of a list of expressions, from the contents of a `Vec`.
 
 abbrev pub expressions_of : List Expr → Expressions
 expressions_of [] = NoExpressions
@@ -200,6 +201,6 @@ view_declaration (declaration.Exceptions cs) = Exceptions (map view_constructor 
 view_declaration (declaration.Global t x v) = Global (view_type t) (view_name x) (option_map view_value v)
 view_declaration (declaration.Function t f ps b) = Function (option_map view_type t) (view_name f) (view_parameters ps) (view_block b)
 
--- the declarations of a tree
+-- Returns the declarations of a syntax tree.
 abbrev pub declarations_of : Tree → List Declaration
 declarations_of tree = map view_declaration tree.declarations.items

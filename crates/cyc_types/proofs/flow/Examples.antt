@@ -1,4 +1,4 @@
--- Examples of the flow rules, by computation. Each program text has its typed tree and its verdict below it; of each pair of examples, one
+-- Examples of the flow rules, by computation. Below each program text are its typed tree and its verdict. The examples come in pairs: one
 -- satisfies a rule and one breaks it.
 use Rattle.std.specs.Prelude.{◌≡◌, ℕ, zero, suc, List, [], ◌∷◌, Option, Some, None, Ok, Err, refl}
 use Rattle.cyc_words.specs.declared.fault.Code.{Code}
@@ -24,7 +24,7 @@ use Rattle.cyc_types.specs.flow.Programs.{rule_functions}
 abbrev at : ℕ → ℕ → Place
 at l k = record { line = l; column = k }
 
--- a read of the local of this number, whose name is at this line and column
+-- the expression that reads the int local with number n, whose name is at line l and column k
 abbrev copy : ℕ → ℕ → ℕ → Expression
 copy l k n = Copy (Local (at l k) n) Int
 
@@ -67,7 +67,8 @@ abbrev ints : ℕ → List Ty
 ints zero = []
 ints (suc n) = Int ∷ ints n
 
--- a function with this many parameters and other locals, and its last brace at this line and column
+-- a function with n parameters and m other locals, whose closing brace is at the given line and
+-- column
 abbrev routine : Option Ty → (parameters locals : ℕ) → List Item → ℕ → ℕ → Function
 routine t n m js l k = record {
   name = 0;
@@ -97,7 +98,7 @@ abbrev refusal : Checked (Unit {0}) → Option Fault
 refusal (Ok u) = None
 refusal (Err x) = Some x
 
--- the fault of these functions, if any
+-- the flow fault of a list of functions, or `None`
 abbrev verdict : List Function → Option Fault
 verdict hs = refusal (run (rule_functions hs))
 

@@ -1,4 +1,4 @@
--- The rules of expressions and of places derive well-typed trees.
+-- The typing rules of expressions and of lvalues derive only well-typed trees.
 use Rattle.std.proofs.Common.{◌≡◌, ◌≢◌, ◌⊎◌, ℕ, zero, suc, ◌+◌, ◌<◌, ◌≤◌, Bool, true, false, cond, not, nat_eq, ◌&&◌, ◌||◌, List, [], ◌∷◌, ◌++◌, Option, Some, None, map, length, slice_get, inl, inr, refl, sym, ap, subst, ◌∙◌, arith}
 use Rattle.std.specs.Prelude.{Contains, is_some, unwrap_or}
 use Rattle.std.specs.List.{list_any}
@@ -52,7 +52,7 @@ use Rattle.cyc_types.proofs.typing.TestLemmas.{kept_append, ty_eq-true, int_of, 
 
 -- ---- lists
 
--- the two lists have equal lengths
+-- says that a list of source expressions and a list of typed expressions have equal lengths
 abbrev pub Aligned : Expressions → List typed.Expression → Type 0
 Aligned NoExpressions [] = Unit {0}
 Aligned (MoreExpressions e es) (a ∷ as') = Aligned es as'
@@ -62,7 +62,7 @@ pub aligned : (g : Scope) (es : Expressions) (as' : List typed.Expression) → D
 aligned g NoExpressions as' (u, eq) = subst (Aligned NoExpressions) (sym eq) tt
 aligned g (MoreExpressions e es) as' (a, h, (bs, hs, (u, eq))) = subst (Aligned (MoreExpressions e es)) (sym eq) (aligned g es bs hs)
 
--- a field found by its name is found by its number
+-- if looking up a field by its name finds type t, looking up the field's number also finds type t
 field_there : (fs : List Field) (x : ℕ) (t : Ty) → field_among fs x ≡ Some t → slice_get (map (λ (f : Field). f.of_type) fs) (field_number fs x) ≡ Some t
 field_there [] x t h = absurd (cc)
 field_there (f ∷ fs) x t h = go (nat_eq f.name x) h (field_there fs x t)
@@ -77,12 +77,12 @@ in_scope_of Ordinary v vs = record { number = v.number; of_type = v.of_type; reg
 in_scope_of OfRegion v vs = record { number = v.number; of_type = v.of_type; region = v.region; is_place = false } ∷ vs
 in_scope_of OfLoop v vs = vs
 
--- the locals in scope, without the variables of `for`s
+-- the locals in scope, without the counter variables of array `for` initializers
 abbrev pub in_scope : List LocalVariable → List LocalInScope
 in_scope [] = []
 in_scope (v ∷ vs) = in_scope_of v.sort v (in_scope vs)
 
--- if the type is a key, its region is a region variable
+-- says that a key type has a region variable as its region
 abbrev pub IsKeyOfVariable : Ty → Type 0
 IsKeyOfVariable (Key (regions.Variable n)) = Unit {0}
 IsKeyOfVariable (Key r) = ⊥
@@ -95,7 +95,7 @@ module _ (p : typed.Program) (h : typed.Function) where
   abbrev pub all_globals : List Ty
   all_globals = map (λ (g : typed.GlobalVariable). g.of_type) p.globals
 
-  -- the context of a tree in this scope
+  -- the typing context at which a tree in the given scope is checked
   abbrev pub at : Scope → Context
   at g = record {
     structs = p.structs;
@@ -121,7 +121,8 @@ module _ (p : typed.Program) (h : typed.Function) where
   IsMeantCallee callees.Getchar s = s ≡ signature_of_ints []
   IsMeantCallee (callees.Function n) s = slice_get (map signature_of p.functions) n ≡ Some s
 
-  -- the meaning of a name is correct in the scope of these locals and this many enclosing `for`s
+  -- says that the meaning of a name is correct, given the locals in scope and the number of
+  -- enclosing array `for`s
   abbrev pub IsMeant : List LocalInScope → ℕ → Meaning → Type 0
   IsMeant vs n Unknown = Unit {0}
   IsMeant vs n (scopes.Variable (typed.Local q m) t home) = ((r : ℕ) × HasPlace vs m t r × (home ≡ regions.Variable r)) × (slice_get all_variables m ≡ Some t) × IsKeyOfVariable t
@@ -131,7 +132,7 @@ module _ (p : typed.Program) (h : typed.Function) where
   IsMeant vs n (Counter l) = l < n
   IsMeant vs n (Routine f s) = IsMeantCallee f s
 
-  -- the meaning is a function or a global
+  -- says that the meaning of a name is a declared function or global
   abbrev pub IsMeantDeclared : Meaning → Type 0
   IsMeantDeclared Unknown = Unit {0}
   IsMeantDeclared (scopes.Variable (typed.Local q m) t home) = ⊥
@@ -149,11 +150,11 @@ module _ (p : typed.Program) (h : typed.Function) where
   AreKnown n [] = Unit {0}
   AreKnown n (v ∷ vs) = IsKnownLocal n v.sort v × AreKnown n vs
 
-  -- the exception is a built-in one or one that the program declares
+  -- says that an exception number is built in or declared by the program
   abbrev pub IsExceptionOf : ℕ → Bool → Type 0
   IsExceptionOf n has = ((1 ≤ n) × (n < 5) × (has ≡ false)) ⊎ ((m : ℕ) × (n ≡ 5 + m) × (slice_get p.exceptions m ≡ Some has))
 
-  -- a scope agrees with the program and the function
+  -- says that a scope of the rules agrees with the typed program and function
   pub record Fits (g : Scope) : Type 0 where
     pub locals : AreKnown g.counters g.locals
     pub program : (x : ℕ) → IsMeantDeclared (meaning_in g.program x)
@@ -254,7 +255,8 @@ module _ (p : typed.Program) (h : typed.Function) where
     abbrev pub IsWell : typed.Expression → Type 0
     IsWell a = WellTyped here a (type_of a)
 
-    -- a well-typed expression or a peek, as a value that is only looked at
+    -- says that an expression is well-typed or is a peek (a read of a unique pointer that leaves
+    -- its local full)
     abbrev pub IsSeen : typed.Expression → ValueType → Type 0
     IsSeen a v = WellTyped here a v ⊎ IsPeek here a v
 
@@ -278,7 +280,7 @@ module _ (p : typed.Program) (h : typed.Function) where
     pub int_served : (a : typed.Expression) → IsWell a → IsWell (as_int a)
     int_served a w = by_char a (is_char (type_of a)) refl w
 
-    -- a peek of a unique pointer is not converted
+    -- an int conversion leaves a peek of a unique pointer unchanged
     peek_served : (q : Place) (n : ℕ) (t : Ty) → IsVariable here (typed.Local q n) t → is_unique t ≡ true → IsSeen (as_int (typed.Peek q n t)) (type_of (as_int (typed.Peek q n t)))
     peek_served q n (Pointer k t r) v u = inr (v, u, refl)
     peek_served q n t v u = absurd (cc)
@@ -357,7 +359,8 @@ module _ (p : typed.Program) (h : typed.Function) where
     seen_well (Bracketed q e) walked a w d = seen_well e walked a w d
     seen_well e walked a w d = inl (w a d)
 
-    -- an expression that is only looked at and is not a unique pointer is well-typed as it is
+    -- an operand that is well-typed or a peek, and whose type is not a unique pointer, is
+    -- well-typed
     plain_of : (a : typed.Expression) (v : ValueType) → IsSeen a v → is_value is_unique v ≡ false → WellTyped here a v
     plain_of a v (inl w) n = w
     plain_of (typed.Peek q m t) v (inr (k, u, e)) n = absurd (true≢false (sym u ∙ ap (is_value is_unique) (sym e) ∙ n))
@@ -379,7 +382,8 @@ module _ (p : typed.Program) (h : typed.Function) where
     place_well (Counter n) q o x k d = absurd d
     place_well (Routine f s) q o x k d = absurd d
 
-    -- a cell is well-typed if its demands are satisfied
+    -- says that a memory cell reached by an expression is well-typed if the demands of its access
+    -- are satisfied
     abbrev IsReached : Reached → Type 0
     IsReached w = AllKept w.asked → IsCell here w.cell (type_of_place w.cell) w.region
 
@@ -403,7 +407,7 @@ module _ (p : typed.Program) (h : typed.Function) where
     indexed_well : (q o : Place) (a b : typed.Expression) → IsSeen a (type_of a) → IsWell b → IsReached (indexed g q a o b)
     indexed_well q o a b s w (i, (j, (l, u))) = indexed_by a b (type_of a) s i (int_well b w j) (live_of (region_of (value_of (type_of a))) l)
 
-    -- the type of a field found by its name is among the struct's field types
+    -- if a struct has a field with a name, the field's type is in the struct's list of field types
     member_there : (n x : ℕ) (o : Option (List Field)) → slice_get g.fields n ≡ o → is_some (field_among (unwrap_or o []) x) ≡ true
         → (s : typed.StructType) × (v : Ty) × (slice_get p.structs n ≡ Some s) × (slice_get s.fields (field_number (unwrap_or o []) x) ≡ Some v) × (field_among (unwrap_or o []) x ≡ Some v)
     member_there n x None e k = absurd (cc)
@@ -453,7 +457,8 @@ module _ (p : typed.Program) (h : typed.Function) where
 
     -- ---- operators
 
-    -- an operand that is only looked at, or one whose value is used
+    -- says that an operand is well-typed; if the operator only peeks at the operand, the operand
+    -- may be a peek
     abbrev IsOperand : Bool → typed.Expression → Type 0
     IsOperand true a = IsSeen a (type_of a)
     IsOperand false a = IsWell a
@@ -466,7 +471,8 @@ module _ (p : typed.Program) (h : typed.Function) where
     operand_served true a w = seen_served a w
     operand_served false a w = int_served a w
 
-    -- an operation put before a chain continues from a left operand of this type
+    -- says that adding an operation at the front of a well-typed operation chain gives a chain that
+    -- continues from a left operand of the given type
     abbrev IsJoined : ValueType → Joined → Type 0
     IsJoined left j = (os : typed.Operations) (u : Ty) → IsChain here (Value j.1) os u → IsChain here left (j.0 os) u
 
@@ -584,7 +590,7 @@ module _ (p : typed.Program) (h : typed.Function) where
       joined_well operators.Divide j w d = ints_well binary.Divide j w d
       joined_well operators.Remainder j w d = ints_well binary.Remainder j w d
 
-    -- the first operand of a chain, before its first operator
+    -- Lemmas about the first operand of an operation chain, before the chain's first operator.
     module _ (q o : Place) (a b : typed.Expression) where
       abbrev IsFirst : Joined → Type 0
       IsFirst j = (os : typed.Operations) → IsLeft (IsWell a) here a (type_of a) (j.0 os)

@@ -1,4 +1,4 @@
--- The rules of expressions and places derive types whose regions are known in the scope.
+-- The rules of expressions and lvalues derive only types whose regions are known in the scope.
 use Rattle.std.proofs.Common.{◌≡◌, ℕ, zero, suc, ◌<◌, ◌≤◌, Bool, true, false, cond, nat_eq, List, [], ◌∷◌, ◌++◌, Option, Some, None, map, length, replicate, slice_get, refl, sym, ap, subst, ◌∙◌, arith}
 use Rattle.std.specs.Prelude.{unwrap_or, option_map, slice_index_or}
 use Rattle.std.proofs.lemmas.Bool.{and_parts, eqb-true, true≢false}
@@ -51,7 +51,8 @@ heaps_known : (n k : ℕ) → AllOf (IsKnown n) (replicate k regions.Heap)
 heaps_known n zero = tt
 heaps_known n (suc k) = (tt, heaps_known n k)
 
--- instantiating variables by known regions gives known regions
+-- if all region arguments are known, substituting one of them for a region variable gives a known
+-- region
 known_at : (n : ℕ) (rs : List Region) (i : ℕ) (d : Region) → AllOf (IsKnown n) rs → i < length rs → IsKnown n (slice_index_or rs i d)
 known_at n [] i d k l = absurd (omega arith)
 known_at n (r ∷ rs) zero d (k, ks) l = k
@@ -76,7 +77,8 @@ type_substituted n m rs (Struct i ss) ks l k = all_substituted n m rs ss ks l k
 
 -- ---- types
 
--- each struct in a type has as many arguments as parameters
+-- says that each struct in a type has as many region arguments as its declaration has region
+-- parameters
 abbrev pub IsCounted : List StructName → Ty → Type 0
 IsCounted structs (Pointer k t r) = IsCounted structs t
 IsCounted structs (Struct n rs) = (s : StructName) → slice_get structs n ≡ Some s → length rs ≡ s.parameters
@@ -90,7 +92,8 @@ counted_substituted structs rs (Handle r) c = tt
 counted_substituted structs rs (Key r) c = tt
 counted_substituted structs rs (Struct n ss) c = λ s at. length-map ss (substituted_region rs) ∙ c s at
 
--- the type's regions are among the first n variables, and each of its structs has its arguments
+-- says that a type mentions only the first n region variables, and that its structs have the right
+-- number of region arguments
 abbrev pub IsFormed : List StructName → ℕ → Ty → Type 0
 IsFormed structs n t = AllIn (IsKnown n) t × IsCounted structs t
 
@@ -129,7 +132,7 @@ module _ (structs : List StructName) (n : ℕ) where
 -- ---- written types
 
 module _ (structs : List StructName) (names : List RegionName) where
-  -- the struct found by a name has the number of parameters that is known for the name
+  -- the struct found by its name has the number of region parameters that is recorded for the name
   number_of_name : (ss : List StructName) (x : ℕ) (s : StructName) → slice_get ss (struct_number ss x) ≡ Some s → parameters_among ss x ≡ Some s.parameters
   number_of_name [] x s e = absurd (cc)
   number_of_name (t ∷ ss) x s e = go (nat_eq t.name x) e (number_of_name ss x s)
@@ -194,7 +197,7 @@ abbrev pub IsFormedResult : List StructName → ℕ → Option Ty → Type 0
 IsFormedResult structs n None = Unit {0}
 IsFormedResult structs n (Some t) = IsFormed structs n t
 
--- a name's meaning is well-formed: its type mentions known regions, and a result mentions the parameters' regions
+-- says that the meaning of a name is well-formed: the types of a variable or function mention only known regions
 abbrev pub IsFormedMeaning : List StructName → ℕ → Meaning → Type 0
 IsFormedMeaning structs n Unknown = Unit {0}
 IsFormedMeaning structs n (scopes.Variable l t home) = IsFormed structs n t × IsKnown n home
@@ -281,7 +284,7 @@ module _ (g : Scope) (formed : IsFormedScope g) where
   seen_formed (Bracketed p e) walked a k d = seen_formed e walked a k d
   seen_formed e walked a k d = k a d
 
-  -- the conversion of a char to an int keeps formed types
+  -- converting an expression from char to int keeps its type well-formed
   int_served : (a : typed.Expression) → IsFormedHere a → IsFormedHere (as_int a)
   int_served a f = go (is_char (type_of a))
     where
@@ -294,7 +297,8 @@ module _ (g : Scope) (formed : IsFormedScope g) where
   abbrev pub IsFormedFound : Found → Type 0
   IsFormedFound x = IsFormed g.structs g.next_region (type_of_side x.side) × IsKnown g.next_region x.region
 
-  -- a cell is well-formed if its demands are satisfied
+  -- says that a memory cell's type and region are well-formed if the demands of its access are
+  -- satisfied
   abbrev IsFormedReached : Reached → Type 0
   IsFormedReached w = AllKept w.asked → IsFormed g.structs g.next_region (type_of_place w.cell) × IsKnown g.next_region w.region
 
@@ -323,7 +327,8 @@ module _ (g : Scope) (formed : IsFormedScope g) where
       go true rest = one
       go false rest = rest
 
-  -- the type of a field of a struct with these arguments
+  -- if a value has a well-formed struct type, the type of each field, with the struct's region
+  -- arguments substituted, is well-formed
   field_formed : (v : ValueType) (x : ℕ) → is_value has_members v ≡ true → IsFormedValue g.structs g.next_region v
       → IsFormed g.structs g.next_region (field_type (arguments_of (target_of (value_of v))) (field_among (fields_of g (target_of (value_of v))) x))
   field_formed (Value (Pointer k (Struct n rs) r)) x i ((known, j), counted) = go (slice_get g.fields n) refl
@@ -393,7 +398,8 @@ module _ (g : Scope) (formed : IsFormedScope g) where
   AreFormedHere [] = Unit {0}
   AreFormedHere (a ∷ as') = IsFormedHere a × AreFormedHere as'
 
-  -- the regions paired with a signature's variables are known
+  -- says that every region that a call assigns to a region variable of the callee's signature is
+  -- known
   abbrev AreKnownPairs : List (Region × Region) → Type 0
   AreKnownPairs [] = Unit {0}
   AreKnownPairs (p ∷ ps) = IsKnown g.next_region p.1 × AreKnownPairs ps

@@ -1,4 +1,4 @@
--- The typing rules derive no declaration of a type with an unknown region.
+-- A program accepted by the typing rules has no declaration whose type mentions an unknown region.
 use Rattle.std.proofs.Common.{◌≡◌, ℕ, zero, suc, ◌+◌, ◌<◌, ◌≤◌, Bool, true, false, cond, nat_eq, List, [], ◌∷◌, ◌++◌, Option, Some, None, map, length, slice_get, inl, inr, refl, sym, ap, subst, ◌∙◌, arith}
 use Rattle.std.specs.Prelude.{unwrap_or, codes}
 use Rattle.std.proofs.lemmas.Bool.{true≢false, not-true}
@@ -37,7 +37,7 @@ use Rattle.cyc_types.proofs.typing.FormedLemmas.{known_more, IsCounted, IsFormed
 
 -- ---- well-formedness of later scopes
 
--- a scope stays well-formed when regions are declared in between
+-- a well-formed scope stays well-formed when its next region number grows
 going_on : (g : Scope) (n m : ℕ) (taken : List ℕ) → g.next_region ≤ m → IsFormedScope g → IsFormedScope (record g { next_local = n; next_region = m; taken = taken })
 going_on g n m taken l formed = record {
   names = λ x r e. known_more g.next_region m r l (formed.names x r e);
@@ -56,7 +56,7 @@ entering g formed = record {
   fields = formed.fields;
 }
 
--- a scope stays well-formed when the next region is declared with a name
+-- a scope stays well-formed when the next region variable is declared with a name
 named : (g : Scope) (r : Named) → IsFormedScope g → (x : ℕ) (s : RegionCode) → region_among (with_name r g).names x ≡ Some s → IsKnown (suc g.next_region) s
 named g r formed x s e = go (nat_eq r.name x) e
   where
@@ -73,7 +73,7 @@ labelled g r formed = record {
   fields = formed.fields;
 }
 
--- a scope stays well-formed when a region is declared in a block
+-- a scope stays well-formed when a block declares a region
 declaring_region : (g : Scope) (r : Named) → IsFormedScope g → IsFormedScope (with_region r g)
 declaring_region g r formed = record {
   names = named g r formed;
@@ -83,7 +83,7 @@ declaring_region g r formed = record {
   fields = formed.fields;
 }
 
--- well-formedness of a scope does not depend on which regions are live
+-- if two scopes differ only in their live regions and one is well-formed, then so is the other
 opening : (g h : Scope) → IsFormedScope g → h.names ≡ g.names → h.next_region ≡ g.next_region → h.locals ≡ g.locals → h.region ≡ g.region → h.structs ≡ g.structs → h.program ≡ g.program → h.fields ≡ g.fields → IsFormedScope h
 opening g h formed e1 e2 e3 e4 e5 e6 e7 = record {
   names = λ x r e. subst (λ n. IsKnown n r) (sym e2) (formed.names x r (ap (λ ns. region_among ns x) (sym e1) ∙ e));
@@ -126,7 +126,7 @@ initial_formed g formed w x (Some e) c kept (a, ka, (k, eq)) =
     subst (λ (z : Ty × Option Converted). IsFormed g.structs g.next_region z.0) (sym eq)
     (written_formed g.structs g.names g.next_region formed.names None (left_out_of (type_of a)) w (left_out_known g.structs g.next_region (type_of a) (formed_well g formed e a ka)) kept)
 
--- opening a key gives the region that is named
+-- an item that opens a dynamic region by its key opens exactly the region that the source names
 opened_formed : (g : Scope) (formed : IsFormedScope g) (r h : Named) (m : Meaning) (q : Place) (j : typed.Item) → Derives (opened g r h m q) j → (n k : ℕ) × (j ≡ typed.OpenRegion n g.next_local q k)
 opened_formed g formed r h Unknown q j d = absurd d
 opened_formed g formed r h (scopes.Variable l t home) q j (kept, eq) = (_, _, eq)
@@ -134,7 +134,8 @@ opened_formed g formed r h (Fixed l t) q j (kept, eq) = (_, _, eq)
 opened_formed g formed r h (Counter n) q j (kept, eq) = (_, _, eq)
 opened_formed g formed r h (Routine f s) q j d = absurd d
 
--- the type of an alias, which is written after its new region
+-- the type of an alias declaration is well-formed; the type may mention the new region that the
+-- declaration introduces
 aliased_formed : (g : Scope) (formed : IsFormedScope g) (r x : Named) (w : WrittenType) (m : Meaning) (q : Place) (j : typed.Item) → IsFormedMeaning g.structs g.next_region m
     → AllKept (type_demanded g.structs (with_name r g).names None w) → Derives (aliased g r x w m q) j → (t : Ty) × (k : ℕ) × (j ≡ typed.DeclareAlias g.next_region g.next_local t q k) × IsFormed g.structs (suc g.next_region) t
 aliased_formed g formed r x w Unknown q j k kept d = absurd d
@@ -219,14 +220,14 @@ mutual
 
 -- ---- signatures
 
--- the built-in region names denote no variables
+-- the built-in region names denote no region variables, only the heap and the unique region
 base_known : (names : List RegionName) → IsBase names → (x : ℕ) (r : RegionCode) → region_among names x ≡ Some r → IsKnown 0 r
 base_known names base x r e = elim (base x) [ inl none ↦ absurd (none-some r (sym none ∙ e)) | inr (inl heap) ↦ subst (IsKnown 0) (from_some regions.Heap r (sym heap ∙ e)) tt | inr (inr unique) ↦ subst (IsKnown 0) (from_some regions.Unique r (sym unique ∙ e)) tt ]
   where
     from_some : (a b : RegionCode) → Some a ≡ Some b → a ≡ b
     from_some a b f = ap (λ (o : Option RegionCode). unwrap_or o a) f
 
--- the region parameters of a struct, from this number on
+-- the region parameters of a struct are known regions, if they are numbered from n on
 pub parameter_regions_known : (rs : List Named) (n : ℕ) (names : List RegionName) → ((x : ℕ) (r : RegionCode) → region_among names x ≡ Some r → IsKnown 0 r)
     → (x : ℕ) (r : RegionCode) → region_among (parameter_names rs n names) x ≡ Some r → IsKnown (n + length rs) r
 parameter_regions_known [] n names known x r e = known_more 0 (n + 0) r (omega arith) (known x r e)
@@ -237,7 +238,7 @@ parameter_regions_known (q ∷ rs) n names known x r e = go (nat_eq q.name x) e 
     go true f rest = subst (λ (o : Option RegionCode). IsKnown (n + suc (length rs)) (unwrap_or o regions.Heap)) f (let l : n < n + suc (length rs) = omega arith in l)
     go false f rest = rest f
 
--- a type with a mark is not a key
+-- a written type with a pointer mark is not a key type
 no_key_after : (names : List RegionName) (d : RegionCode) (t : Ty) (m : Mark) (ms : List Mark) → is_key (pointers_written names d t (m ∷ ms)) ≡ false
 no_key_after names d t m [] = refl
 no_key_after names d t m (n ∷ ms) = no_key_after names d (types.Pointer m.kind t (region_or names (left_out_at d (n ∷ ms)) m.region)) n ms

@@ -1,4 +1,5 @@
--- The regions of a signature: those that its parameters declare, the heap, and the unique region.
+-- Lemmas: a region named in a signature is one that its parameters declare, the heap, or the unique
+-- region.
 use Rattle.std.proofs.Common.{◌≡◌, ◌≢◌, ◌⊎◌, ℕ, zero, suc, ◌+◌, ◌<◌, ◌≤◌, Bool, true, false, cond, not, nat_eq, ◌&&◌, ◌||◌, List, [], ◌∷◌, Option, Some, None, map, replicate, inl, inr, refl, sym, ap, subst, ◌∙◌, arith}
 use Rattle.std.specs.Prelude.{is_some, unwrap_or}
 use Rattle.std.proofs.lemmas.Bool.{and_parts, and_from, or_left, eqb-true, true≢false, not-true}
@@ -22,11 +23,12 @@ use Rattle.cyc_types.proofs.ClosureLemmas.{not_unique}
 use Rattle.cyc_types.proofs.typing.TestLemmas.{kept_append}
 use Rattle.cyc_types.proofs.typing.ExpressionLemmas.{IsKeyOfVariable}
 
--- the built-in names denote the heap or the unique region
+-- says that each name of the initial scope denotes nothing, the heap or the unique region
 abbrev pub IsBase : List RegionName → Type 0
 IsBase names = (x : ℕ) → (region_among names x ≡ None) ⊎ ((region_among names x ≡ Some Heap) ⊎ (region_among names x ≡ Some Unique))
 
--- a name denotes what it denoted before, or a variable below this number
+-- says that a name denotes the same region as before, or was undeclared and now denotes a region
+-- variable below `next`
 abbrev IsOld : ℕ → (before now : Option Region) → Type 0
 IsOld next before now = (now ≡ before) ⊎ ((m : ℕ) × (now ≡ Some (Variable m)) × (1 ≤ m) × (m < next) × (before ≡ None))
 
@@ -34,7 +36,8 @@ old_weaker : (n m : ℕ) (before now : Option Region) → n ≤ m → IsOld n be
 old_weaker n m before now l (inl e) = inl e
 old_weaker n m before now l (inr (k, is, one, below, none)) = inr (k, is, one, (omega arith), none)
 
--- the region of a name is one of the first k variables, or no variable
+-- the region that a name denotes is one of the first k region variables, the heap or the unique
+-- region
 named_of : (k n : ℕ) (before : Option Region) (now : Option Region) → (before ≡ None) ⊎ ((before ≡ Some Heap) ⊎ (before ≡ Some Unique)) → IsOld n before now → n ≤ suc k → (r : Region) → now ≡ Some r → IsNamed k r
 named_of k n before now (inl e) (inl same) l r is = absurd (none-some r (sym e ∙ (sym same ∙ is)))
 named_of k n before now (inr (inl e)) (inl same) l Heap is = tt
@@ -242,7 +245,7 @@ no_key_keyless r (t ∷ ts) e = (one, no_key_keyless r ts (rest (is_key_of r t) 
     one : t ≢ Key r
     one is = absurd (true≢false (sym (or_left (is_key_of r t) (has_key ts r) (subst (λ z. is_key_of r z ≡ true) (sym is) (region_eq-refl r))) ∙ e))
 
--- the parameter types are among the types with the result
+-- if neither a parameter type nor the result type is a key of a region, then no parameter type is
 without_result : (r : Region) (ts : List Ty) (o : Option Ty) → has_key (and_result ts o) r ≡ false → has_key ts r ≡ false
 without_result r ts None e = e
 without_result r ts (Some t) e = rest (is_key_of r t) e
@@ -262,7 +265,8 @@ variables_keyless ts o (suc m) n = go (has_key (and_result ts o) (Variable n)) r
     go true e rest = rest
     go false e rest = ((variable_not_unique n, no_key_keyless (Variable n) ts (without_result (Variable n) ts o e)), rest)
 
--- a known name that does not denote the unique region
+-- if a region name is declared and does not name the unique region, its region differs from the
+-- unique region
 pub other_than_unique : (names : List RegionName) (r : Named) → is_known names r ≡ true → not (is_name_of names Unique r) ≡ true → region_of names r ≢ Unique
 other_than_unique names r k u = go (region_among names r.name) k u
   where

@@ -1,4 +1,4 @@
--- A program with a typed tree by the typing rules is well-typed.
+-- If the typing rules derive a typed tree of a program, the tree is well-typed.
 use Rattle.std.proofs.Common.{◌≡◌, ◌⊎◌, ℕ, zero, suc, ◌+◌, ◌^◌, ◌%◌, ◌-◌, ◌<◌, ◌≤◌, Bool, true, false, cond, if◌then◌else◌, not, nat_eq, ◌&&◌, ◌||◌, List, [], ◌∷◌, ◌++◌, Option, Some, None, map, length, slice_get, inl, inr, refl, sym, ap, subst, ◌∙◌, arith}
 use Rattle.std.specs.Prelude.{codes as bytes}
 use Rattle.std.proofs.lemmas.Bool.{and_parts, true≢false, not-true}
@@ -121,7 +121,7 @@ global_formed k w kept = go w.base w.marks ((kept_append (type_demanded k.struct
     go (written.Key r) [] e = absurd (cc)
     go b (m ∷ ms) e = inr (inr (pointer_written k.regions regions.Heap (base_written k.structs k.regions b) m ms))
 
--- the constant of a char global is a byte
+-- the constant initial value of a char global is below 256
 byte_kept : (t : Ty) (n : ℕ) → t ≡ Char → word_of t n < 256
 byte_kept t n e = subst (λ s. word_of s n < 256) (sym e) (let l : n % 256 < 256 = omega arith in l)
 
@@ -219,7 +219,7 @@ parameters_known p h (m ∷ ms) [] n vs same i keys known = absurd (omega arith)
 parameters_known p h (m ∷ ms) (t ∷ ts) n vs same i (key, keys) known =
     parameters_known p h ms ts (suc n) _ (omega arith) (λ a b u e at_a. i (suc a) b u (omega arith) at_a) keys ((i 0 n t (omega arith) refl, key), known)
 
--- the program as known in the function bodies agrees with the typed program
+-- says that the declarations known while function bodies are checked agree with the typed program
 record Agrees (p : typed.Program) (q : Program) : Type 0 where
   pub base : IsBase q.known.regions
   pub program : (h : typed.Function) (x : ℕ) → IsMeantDeclared p h (meaning_in q.declared x)
@@ -282,7 +282,8 @@ module _ (p : typed.Program) (q : Program) (agrees : Agrees p q) where
 
 -- ---- main
 
--- a signature, given the parts of its parameters
+-- builds a function's signature from the parts of its parameter list: members, effect and
+-- constraints
 abbrev of_parts : Known → Option WrittenType → List Member → Option (List Named) → List Constraint → Signature
 of_parts k r ms e cs = signature_of k r (record { list = Listed ms; effect = e; constraints = cs })
 

@@ -1,4 +1,4 @@
--- The rules of statements and of items derive well-typed trees.
+-- The typing rules of statements and of block items derive only well-typed trees.
 use Rattle.std.proofs.Common.{◌≡◌, ℕ, suc, ◌+◌, ◌≤◌, Bool, true, false, not, ◌&&◌, ◌||◌, List, [], ◌∷◌, ◌++◌, Option, Some, None, length, slice_get, refl, sym, ap, subst, ◌∙◌, arith}
 use Rattle.std.specs.Prelude.{is_some, unwrap_or, option_map}
 use Rattle.std.proofs.lemmas.Bool.{and_parts, or_left, or_right, true≢false, not-true}
@@ -38,7 +38,8 @@ use Rattle.cyc_types.proofs.typing.CountLemmas.{AreCounted, statement_counted, i
 
 -- ---- keys in written types
 
--- a known name that denotes neither the heap nor the unique region
+-- if a declared region name denotes neither the heap nor the unique region, it denotes a region
+-- variable
 variable_named : (names : List RegionName) (r : Named) → is_known names r ≡ true → not (is_name_of names regions.Unique r) ≡ true → not (is_name_of names regions.Heap r) ≡ true
     → IsKeyOfVariable (Key (formation.region_of names r))
 variable_named names r k u e = go (region_among names r.name) k u e
@@ -130,7 +131,7 @@ module _ (p : typed.Program) (h : typed.Function) where
     live = Contains-head (regions.Variable g.next_region) (live_regions g.regions.live g.regions.opened);
   }
 
-  -- opening a scope of a region variable inside a block
+  -- a scope still fits the typed function after it opens the region of a region variable in a block
   opening : (g : Scope) (k : Kind) (n m : ℕ) → Fits p h g → Fits p h (record g { next_region = m; regions = with_scope k (regions.Variable n) g.regions })
   opening g k n m fits = record {
     locals = fits.locals;
@@ -173,7 +174,7 @@ module _ (p : typed.Program) (h : typed.Function) where
     live = fits.live;
   }
 
-  -- the list of locals after the locals that a construct declares
+  -- the list of locals that remains after a construct has declared its own m locals
   after_locals : (n m : ℕ) (ts us : List Ty) → length ts ≡ m → Holds (all_variables p h) n (ts ++ us) → Holds (all_variables p h) (n + m) us
   after_locals n m ts us same k i j t e at_i = k (length ts + i) j t (omega arith) (slice_get_after ts us i (length ts + i) t refl at_i)
 
@@ -243,7 +244,7 @@ module _ (p : typed.Program) (h : typed.Function) where
       subst (λ (z : Ty × Option Converted). IsInitial (at p h g) z.1 z.0 × IsKeyOfVariable z.0) (sym eq)
       (converted_well p h g fits a (local_type g (type_of a) w) (place_of e) (well p h g fits e a ka) kept, formed_key g.structs g.names _ w formed)
 
-  -- the opened region is that of the key
+  -- says that the item `open` of a key opens the region of that key
   abbrev IsOpened : Scope → Named → typed.Item → Place → Type 0
   IsOpened g r j q = (n k : ℕ) × (j ≡ typed.OpenRegion n g.next_local q k) × IsVariable (at p h g) (typed.Local q k) (Key (regions.Variable n)) × (formation.region_of g.names r ≡ regions.Variable n)
 
@@ -264,7 +265,7 @@ module _ (p : typed.Program) (h : typed.Function) where
   opened_well g fits r x (Counter n) k q j ((new, (same, (is, u))), eq) = absurd (cc)
   opened_well g fits r x (Routine f s) k q j d = absurd d
 
-  -- an alias has the type of the unique pointer that it shares, except for its region
+  -- says that an alias has the type of the unique pointer it shares, except for the region
   abbrev IsAliased : Scope → typed.Item → Place → Type 0
   IsAliased g j q = (t u : Ty) × (k : ℕ) × (j ≡ typed.DeclareAlias g.next_region g.next_local t q k) × IsVariable (at p h g) (typed.Local q k) u × (is_unique u ≡ true)
       × (t ≡ with_region_of (regions.Variable g.next_region) u)
@@ -289,12 +290,13 @@ module _ (p : typed.Program) (h : typed.Function) where
   aliased_well g fits r x w (Counter n) k q j ((new, (same, (shared, (is, u)))), eq) = absurd (cc)
   aliased_well g fits r x w (Routine f s) k q j d = absurd d
 
-  -- a pointer is not a key
+  -- a pointer type is not a key type
   alias_no_key : (r : RegionCode) (u : Ty) → is_unique u ≡ true → IsKeyOfVariable (with_region_of r u)
   alias_no_key r (types.Pointer k t s) is = tt
   alias_no_key r u is = absurd (cc)
 
-  -- a clause's exception is declared, with or without an int
+  -- says that the exception of a catch clause is declared, and declared with an int exactly if the
+  -- clause receives an int
   abbrev IsFor : Scope → Option Named → ℕ → Type 0
   IsFor g v n = (has : Bool) × IsException (at p h g) n has × (has ≡ is_some v)
 

@@ -1,4 +1,4 @@
--- Facts that the tests on types decide.
+-- Facts that the boolean tests on types decide.
 use Rattle.std.proofs.Common.{◌≡◌, ◌≢◌, nat_eq, true, false, not, ◌&&◌, ◌||◌, List, [], ◌∷◌, ◌++◌, refl, sym, ap, subst, ◌∙◌}
 use Rattle.std.proofs.lemmas.Bool.{and_parts, eqb-true, true≢false, not-true}
 use Rattle.cyc_syntax.specs.declared.tree.PointerKind.{PointerKind}
@@ -61,7 +61,7 @@ pub fat_of : (k : PointerKind) → not (is_thin_mark k) ≡ true → k ≡ Fat
 fat_of Fat h = refl
 fat_of k h = absurd (cc)
 
--- a type that is neither a unique pointer nor a key is not moved
+-- reading a local whose type is neither a unique pointer nor a key does not move its value
 pub not_moved : (t : Ty) → is_unique t ≡ false → is_key t ≡ false → is_moved t ≡ false
 not_moved t u k = ap (λ b. b || is_key t) u ∙ k
 

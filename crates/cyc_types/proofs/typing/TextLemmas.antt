@@ -1,5 +1,5 @@
--- The typed program of a text satisfies the demands of `specs/Texts`, and its constants are words. A typed program satisfies them by the
--- typing rules if its tree satisfies the grammar and the limits.
+-- The typed program of a source text satisfies the demands of `specs/Texts`, and its constants are words. By the typing rules, a typed
+-- program satisfies these demands if its syntax tree satisfies the grammar and the limits.
 use Rattle.std.proofs.Common.{◌≡◌, ℕ, zero, suc, ◌+◌, ◌≤◌, ◌<◌, Bool, true, false, not, nat_eq, ◌&&◌, ◌||◌, cond, List, [], ◌∷◌, ◌++◌, map, Option, Some, None, length, slice_get, refl, sym, ap, subst, ◌∙◌, arith, length-append}
 use Rattle.std.specs.Prelude.{◌^◌, unwrap_or, if◌then◌else◌}
 use Rattle.std.specs.List.{AllByRecursion}
@@ -51,7 +51,8 @@ use Rattle.cyc_types.proofs.typing.DemandLemmas.{functions_meet}
 
 -- ---- the demands
 
--- All demands that the trees of texts satisfy: those of `specs/Texts`, and that constants are words.
+-- The demands that typed trees of source texts satisfy: those of `specs/Texts`, and that each
+-- constant is a word.
 abbrev pub tree_demands : Demands
 tree_demands = record {
   number = IsWord;
@@ -65,7 +66,7 @@ tree_demands = record {
 abbrev AreFewFields : List (List Field) → Type 0
 AreFewFields fss = AllByRecursion (λ (fs : List Field). length fs ≤ max_items) fss
 
--- structs have few fields, and the numbers of exceptions are words
+-- says that structs have few fields, and that the numbers of exceptions are words
 abbrev KnowsFew : Scope → Type 0
 KnowsFew g = AreFewFields g.fields × (suc (length g.exceptions) < 2 ^ 32)
 
@@ -87,7 +88,7 @@ tag_word g x few = omega (arith, number_few g.exceptions x, few.1)
 
 -- ---- from the rules: names and places
 
--- each expression that the rule derives satisfies the demands
+-- says that each expression that a rule derives satisfies the demands on trees of source texts
 abbrev GivesText : Rule typed.Expression → Type 0
 GivesText r = (a : typed.Expression) → Derives r a → Meets tree_demands a
 
@@ -178,7 +179,8 @@ key_text (Routine f s) p a d = absurd d
 
 -- ---- sums
 
--- A sum whose first operand is not an int works on a pointer, and has that pointer's type.
+-- If the first operand of a sum is not an int, the sum is pointer arithmetic and has the pointer's
+-- type.
 sum_put : (left : ValueType) (o : Operator) (fat : PointerOperator) (a : typed.Expression) (os : typed.Operations) → is_int left ≡ false → (is_int left || is_value is_movable left) ≡ true
     → (then_added left o fat a os ≡ typed.ThenPointer fat a os) × (is_int (Value (value_of left)) ≡ false)
 sum_put Void o fat a os other kept = absurd (cc)
@@ -187,7 +189,8 @@ sum_put (Value Int) o fat a os other kept = absurd (cc)
 sum_put (Value t) o fat a os other kept = (refl, other)
 
 module _ (g : Scope) (p : Place) (k : Option ℕ) (left : ValueType) (q : Place) (a : typed.Expression) (other : is_int left ≡ false) where
-  -- an operation of a pointer sum, put before a pointer sum, gives a pointer sum
+  -- adding a pointer-arithmetic operation in front of a chain of pointer arithmetic gives a chain
+  -- of pointer arithmetic
   sum_of_pointer : (o : Operator) (fat : PointerOperator) (j : Joined) → is_comparison fat ≡ false → Derives (sums_joined p left o fat q a) j
       → (is_int (Value j.1) ≡ false) × ((os : typed.Operations) → are_sums os ≡ true → are_sums (j.0 os) ≡ true)
   sum_of_pointer o fat j sum ((kept, more), eq) =
@@ -202,7 +205,8 @@ module _ (g : Scope) (p : Place) (k : Option ℕ) (left : ValueType) (q : Place)
   level_of_sums operators.Subtract j two d = sum_of_pointer _ pointers.SubtractFat j refl d
   level_of_sums o j two d = absurd (cc)
 
--- a chain of sums whose first operand is not an int
+-- if the left operand of a chain of sums is not an int, the chain consists of pointer arithmetic
+-- only
 sums_chain : (g : Scope) (p : Place) (k : Option ℕ) (left : ValueType) (os : Operations) → AreOperations 1 os → is_int left ≡ false → (bs : typed.Operations × Ty) → Derives (rule_chain g p k left os) bs
     → are_sums bs.0 ≡ true
 sums_chain g p k left NoOperations w other bs (kept, eq) = ap (λ (z : typed.Operations × Ty). are_sums z.0) eq
@@ -210,7 +214,8 @@ sums_chain g p k left (ThenOperation o q e os) (two, w, ws) other bs (put, (b, k
     let (next, sums) = level_of_sums g p k left (place_of e) (as_int b) other o put two d in
     ap (λ (z : typed.Operations × Ty). are_sums z.0) eq ∙ sums cs.0 (sums_chain g p None (Value put.1) os ws next cs ks)
 
--- the operations after an operator, if the left operand may be a pointer under arithmetic
+-- says that, if `+` or `-` follows a left operand that is not an int, all operations after it are
+-- pointer arithmetic
 abbrev IsAloneAfter : BinaryOperator → ValueType → typed.Operations → Type 0
 IsAloneAfter operators.Add left os = is_int left ≡ false → are_sums os ≡ true
 IsAloneAfter operators.Subtract left os = is_int left ≡ false → are_sums os ≡ true
@@ -226,7 +231,8 @@ alone_after g p k left q a below o os put cs two w d h = tt
 
 -- ---- operators
 
--- an operation put before a chain satisfies the demands if its operand and the chain do
+-- says that adding an operation in front of a chain keeps the demands on trees of texts if the
+-- operand and the chain satisfy them
 abbrev IsTextBefore : typed.Expression → Joined → Type 0
 IsTextBefore a j = (os : typed.Operations) → Meets tree_demands a → OperationsMeet tree_demands os → OperationsMeet tree_demands (j.0 os)
 
@@ -295,7 +301,7 @@ placement_text g p (UniqueRegion q) walked w h d = subst (λ (z : Placed). Place
 placement_text g p (Bracketed q e) walked w h d = placement_text g p e walked w h d
 placement_text g p e walked w h (a, ka, (u, eq)) = subst (λ (z : Placed). PlacementMeets tree_demands z.placement) (sym eq) (h a ka)
 
--- the initial contents of an object satisfy the demands
+-- says that the initial contents of a new object satisfy the demands on trees of texts
 abbrev IsTextObject : Made → Type 0
 IsTextObject m = AllKept m.asked → ObjectMeets tree_demands m.initial
 
@@ -307,7 +313,8 @@ passed_count [] ts e = refl
 passed_count (a ∷ as') [] e = absurd (omega (arith, e))
 passed_count (a ∷ as') (t ∷ ts) e = ap suc (passed_count as' ts (omega (arith, e)))
 
--- a struct initializer has as many values as the struct has fields, and at least one
+-- a struct initializer of the typed tree has as many values as the struct has fields, and at least
+-- one value
 fields_text : (g : Scope) (s : Named) (rs : List Named) (es : Expressions) (as' : List typed.Expression) → KnowsFew g → 1 ≤ length as' → AreOfText as' → IsTextObject (fields_made g s rs es as')
 fields_text g s rs es as' few some w kept =
     let ts : List Ty = field_types (arguments_written g s rs) (fields_known g s) in
@@ -439,7 +446,8 @@ module _ (g : Scope) (few : KnowsFew g) where
   condition_text : (e : Expression) → IsExpression assignment_level e → IsOfWordsWritten e → GivesText (rule_condition g e)
   condition_text e w words a (b, h, (k, eq)) = subst (Meets tree_demands) (sym eq) (served_text b (seen_text g e (rule g e) (λ c d. expression_text g few assignment_level e w words c d) b h))
 
--- a clause's int is a local
+-- declaring the local that receives a caught exception's int keeps the bounds on field counts and
+-- exception numbers
 caught_few : (v : Option Named) (g : Scope) → KnowsFew g → KnowsFew (with_caught v g)
 caught_few None g few = few
 caught_few (Some x) g few = few
@@ -494,7 +502,8 @@ mutual
 
 -- ---- programs
 
--- what is known in all bodies satisfies the bounds
+-- says that the program's declarations have few fields per struct, and that exception numbers are
+-- words
 abbrev ProgramKnowsFew : Program → Type 0
 ProgramKnowsFew p = AreFewFields p.fields × (suc (length p.exceptions) < 2 ^ 32)
 
@@ -512,7 +521,8 @@ within_append : (xs ys : Yield) → AllByRecursion IsWithin (xs ++ ys) → AllBy
 within_append [] ys h = (tt, h)
 within_append (x ∷ xs) ys (w, h) = let (l, r) = within_append xs ys h in ((w, l), r)
 
--- an item begins with a leaf that carries its number
+-- if the leaves of a list item are within the limits, the item's number is at most the limit on
+-- list items
 item_few : (i : ℕ) (leaves more : Yield) → 1 ≤ length leaves → AllByRecursion IsWithin (yields.item_number i leaves ++ more) → i ≤ max_items
 item_few i [] more some w = absurd (omega (arith, some))
 item_few i (leaf ∷ leaves) more some (w, ws) = w.item
@@ -567,6 +577,7 @@ program_meets texts symbols tree p has within words short (u, heads, (v, main, (
     let few : ProgramKnowsFew known = (fields_few known.known tree within, omega (arith, many, exceptions_few tree, weight, short)) in
     subst (λ (z : typed.Program). FunctionsMeet tree_demands z.functions) (sym eq) (functions_text known few tree has.formed (tree_constants symbols tree has words) fs functions)
 
--- such a program satisfies the demands of `specs/Texts`
+-- a program whose functions satisfy the demands `tree_demands` satisfies the demands of
+-- `specs/Texts`
 pub of_text : (p : typed.Program) → FunctionsMeet tree_demands p.functions → IsOfTextProgram p
 of_text p = functions_meet tree_demands text_demands (record { number = λ n w. tt; fields = λ cs w. w; pointer = λ o os w. w; exception = λ n w. w }) p.functions

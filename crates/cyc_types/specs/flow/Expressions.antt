@@ -1,8 +1,8 @@
--- THE FLOW RULES of the whole language, each a value (`Rules`): the state of each local after a typed tree, or the first rule that fails,
--- with its code and place. This file covers expressions. A rule takes the state before, and the locals with a pending peek. The value of a
--- local with a pending peek was read, and must not change while the remaining operands are evaluated. (Two rules are Cyclone's, Grossman et
--- al. 2002: a variable is used only while it holds a value, and a use consumes a unique pointer. Locks, peeks, codes and places are this
--- project's own choice.)
+-- Each flow rule of the whole language is a value (`Rules`). A flow rule computes the state of each local after a typed tree, or the code
+-- and source position of the first fault. The file `Expressions` covers expressions. A flow rule takes the state before the tree, and the
+-- list of locals with a pending peek. A local with a pending peek has been read, and must not change while the remaining operands are
+-- evaluated. (Two rules are Cyclone's, Grossman et al. 2002: a variable is used only while it holds a value, and a use consumes a unique
+-- pointer. Locks, peeks, codes and positions are this project's own choice.)
 use Rattle.std.specs.Prelude.{ℕ, Bool, true, not, nat_eq, ◌&&◌, List, [], ◌∷◌, ◌++◌, Option, Some, None}
 use Rattle.std.specs.List.{list_any}
 use Rattle.cyc_words.specs.declared.fault.Code.TheVariants as codes
@@ -14,58 +14,60 @@ use Rattle.cyc_types.specs.flow.States.{State, Unreached, Reached, Vacant, Full,
 
 -- ---- variables
 
--- the demands on a local used at this place: it holds a value, which is not lent out
+-- the demands on a use of a local: the local holds a value, and this value is not lent out
 abbrev pub full_demanded : Place → ℕ → State → List Demand
 full_demanded p n f = demand codes.EmptyVariable p (not (is_vacant (fullness f n))) ∷ demand codes.LockedVariable p (not (is_locked (fullness f n))) ∷ []
 
--- true if no peek of this local is pending
+-- returns true if no peek of the local is pending
 abbrev pub is_free : (waiting : List ℕ) → ℕ → State → Bool
 is_free q n Unreached = true
 is_free q n (Reached as') = not (list_any (λ m. nat_eq m n) q)
 
--- the demands on a use of the local that is not a peek
+-- the demands on a use of a local, other than a peek
 abbrev pub use_demanded : (waiting : List ℕ) → Place → ℕ → State → List Demand
 use_demanded q p n f = full_demanded p n f ++ demand codes.LockedVariable p (is_free q n f) ∷ []
 
--- the demands on a local assigned at this place: it is not lent out and no peek of it is pending
+-- the demands on an assignment to a local: its value is not lent out, and no peek of the local is
+-- pending
 abbrev pub store_demanded : (waiting : List ℕ) → Place → ℕ → State → List Demand
 store_demanded q p n f = demand codes.LockedVariable p (not (is_locked (fullness f n)) && is_free q n f) ∷ []
 
--- the rule for a peek of a local, which keeps its value
+-- the flow rule for a peek of a local; the local keeps its value
 abbrev pub looked : Place → ℕ → State → Rule State
 looked p n f = Own (full_demanded p n f) f
 
--- the rule for a use of a local that leaves it empty
+-- the flow rule for a move out of a local; the local becomes empty
 abbrev pub moved : (waiting : List ℕ) → Place → ℕ → State → Rule State
 moved q p n f = Own (use_demanded q p n f) (with_fullness Vacant f n)
 
--- the rule for a use of a variable that keeps its value; globals are not tracked
+-- the flow rule for a use of a variable that keeps its value; the states do not track globals
 abbrev pub used : (waiting : List ℕ) → Lvalue → State → Rule State
 used q (Local p n) f = Own (use_demanded q p n f) f
 used q (Global n) f = gives f
 
--- the rule for storing a value into a variable
+-- the flow rule for storing a value into a variable
 abbrev pub stored : (waiting : List ℕ) → Lvalue → State → Rule State
 stored q (Local p n) f = Own (store_demanded q p n f) (with_fullness Full f n)
 stored q (Global n) f = gives f
 
--- the pending peeks, extended by this local if there is one
+-- the list of pending peeks, extended by a local if one is given
 abbrev pub and_peeked : Option ℕ → List ℕ → List ℕ
 and_peeked None q = q
 and_peeked (Some n) q = q ++ (n ∷ [])
 
--- the local that an operand peeks at, if any
+-- the local that an operand peeks at, or `None`
 abbrev pub peek_of : Expression → Option ℕ
 peek_of (Peek p n t) = Some n
 peek_of a = None
 
--- the local whose peek a place is reached through, if any
+-- the local at which an access to a memory cell peeks for its pointer, or `None`
 abbrev pub peek_after : Dereference → Option ℕ
 peek_after (Target k a t) = peek_of a
 peek_after (Member k a s m t) = peek_of a
 peek_after (Element a i t) = peek_of a
 
--- Demands that no local is emptier at the end of a loop's body than at the loop's head. The place is that of the loop's keyword.
+-- The demand that no local is emptier at the end of a loop's body than at the loop's head. The source position is that of the
+-- loop's keyword.
 abbrev pub head_demanded : Place → (now head : State) → List Demand
 head_demanded p f head = demand codes.LoopEmptiesVariable p (is_at_least f head) ∷ []
 
@@ -93,7 +95,7 @@ abbrev mutual
   rule q (Store d c t) f = Part (rule_place q d f) (λ g. rule_converted (and_peeked (peek_after d) q) c g)
   rule q (New w i t) f = Part (rule_placement q w f) (λ g. rule_initial q i g)
 
-  -- the rule for a place that a pointer leads to
+  -- the flow rule for an access to a memory cell through a pointer
   pub rule_place : (waiting : List ℕ) → Dereference → State → Rule State
   rule_place q (Target k a t) f = rule q a f
   rule_place q (Member k a s m t) f = rule q a f
@@ -104,7 +106,8 @@ abbrev mutual
   rule_placement q AsUnique f = gives f
   rule_placement q (ByHandle a) f = rule q a f
 
-  -- The elements of an array are evaluated in a loop that starts after the length. The loop may run zero times.
+  -- The elements of an array are evaluated in a loop after the array's length. The loop that evaluates the
+  -- elements may run zero times.
   pub rule_initial : (waiting : List ℕ) → Initial → State → Rule State
   rule_initial q (Plain k a) f = rule q a f
   rule_initial q (Fields as') f = rule_arguments q as' f
@@ -117,7 +120,7 @@ abbrev mutual
   rule_arguments q NoArguments f = gives f
   rule_arguments q (MoreArguments c as') f = Part (rule_converted q c f) (λ g. rule_arguments q as' g)
 
-  -- `&&` and `||` may skip their right operand
+  -- the flow rule for the operations of a chain; `&&` and `||` may skip their right operand
   pub rule_operations : (waiting : List ℕ) → Operations → State → Rule State
   rule_operations q NoOperations f = gives f
   rule_operations q (ThenCompute o a os) f = Part (rule q a f) (λ g. rule_operations q os g)

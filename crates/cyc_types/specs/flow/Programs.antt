@@ -1,6 +1,6 @@
--- THE FLOW RULES of functions and of a program. At the start of a function its parameters hold values. The end of a function with a result
--- is never reached. (As in `Expressions`: the variables that must hold values are Cyclone's, Grossman et al. 2002. Codes and places are
--- this project's own choice.)
+-- The flow rules of functions and of a program. At the start of a function its parameters hold values. The end of a function with a result
+-- is never reached. (As in `Expressions`, the demand that a used variable holds a value is Cyclone's, Grossman et al. 2002. Codes and
+-- positions are this project's own choice.)
 use Rattle.std.specs.Prelude.{not, List, [], ◌∷◌, ◌++◌, Option, Some, None}
 use Rattle.cyc_words.specs.declared.fault.Code.TheVariants as codes
 use Rattle.cyc_words.specs.declared.fault.Fault.{Fault}
@@ -18,11 +18,12 @@ each_is a (t ∷ ts) = a ∷ each_is a ts
 abbrev pub start_of : Function → State
 start_of h = Reached (each_is Full h.parameters ++ each_is Vacant h.locals)
 
--- the surroundings of a function's body: no loop, and no locks
+-- the surroundings of a function's body: no enclosing loop and no locked locals
 abbrev pub in_function : Around
 in_function = record { loop = None; locks = [] }
 
--- the end of a function with a result is not reached; the place is that of its last brace
+-- the demand that execution does not reach the end of a function with a result; its position is
+-- that of the closing brace
 abbrev pub end_demanded : Option Ty → Place → State → List Demand
 end_demanded None p f = []
 end_demanded (Some t) p f = demand codes.MissingReturn p (not (is_reached f)) ∷ []
@@ -37,14 +38,14 @@ rule_functions (h ∷ hs) = Part (rule_function h) (λ u. rule_functions hs)
 abbrev pub rule_program : Program → Rule (Unit {0})
 rule_program p = rule_functions p.functions
 
--- the program satisfies the flow rules
+-- says that the program satisfies the flow rules
 abbrev pub IsAllowedProgram : Program → Type 0
 IsAllowedProgram p = Derives (rule_program p) tt
 
--- the flow rules reject the program with this fault
+-- says that the flow rules reject the program with this fault
 abbrev pub IsStoppedProgram : Program → Fault → Type 0
 IsStoppedProgram p x = Refuses (rule_program p) x
 
--- success, or the program's first flow fault
+-- returns success, or the program's first flow fault
 abbrev pub flow_of : Program → Checked (Unit {0})
 flow_of p = run (rule_program p)

@@ -1,4 +1,5 @@
--- THE FLOW RULES of statements, of items and of clauses. The states of the locals are propagated in execution order, together with the
+-- The flow rules of statements, of block items and of catch clauses. The states of the locals are propagated in execution order,
+-- together with the
 -- states at the breaks that leave the innermost loop. (As in `Expressions`: the demands on variables are Cyclone's, Grossman et al. 2002;
 -- locks, codes and places are this project's own choice.)
 use Rattle.std.specs.Prelude.{ℕ, List, [], ◌∷◌, ◌++◌, Option, Some, None}
@@ -10,17 +11,18 @@ use Rattle.cyc_types.specs.flow.States.{State, Unreached, Vacant, Locked, Full, 
 use Rattle.cyc_types.specs.flow.Touched.{touched_statement}
 use Rattle.cyc_types.specs.flow.Expressions.{full_demanded, use_demanded, and_peeked, peek_after, head_demanded, rule, rule_place, rule_converted}
 
--- the enclosing loop: the place of its `while`, and the state at its head
+-- an enclosing loop: the source position of its `while`, and the state of the locals at its head
 pub record Loop : Type 0 where
   pub place : Place
   pub head : State
 
--- The surroundings of a statement: the innermost enclosing loop, if any, and the locals that items have locked since the loop's body began.
+-- The surroundings of a statement: the innermost enclosing loop, if any, and the locals that items have locked since the body of that loop
+-- began.
 pub record Around : Type 0 where
   pub loop : Option Loop
   pub locks : List ℕ
 
--- the state at a program point, and the meet of the states at the breaks before it that leave the enclosing loop
+-- the state at a program point, and the meet of the states at all earlier `break`s of the enclosing loop
 pub record Known : Type 0 where
   pub now : State
   pub breaks : State
@@ -38,17 +40,18 @@ abbrev pub rule_thrown : Option Expression → State → Rule State
 rule_thrown None f = gives f
 rule_thrown (Some a) f = rule [] a f
 
--- the rule for a side of a swap, as a place
+-- the flow rule that evaluates one side of a swap as an lvalue
 abbrev pub rule_side : (waiting : List ℕ) → Side → State → Rule State
 rule_side q (VariableSide l t) f = gives f
 rule_side q (CellSide d) f = rule_place q d f
 
--- the local whose peek the left side of a swap is reached through, if any
+-- the local at which the left side of a swap peeks for its pointer, or `None`
 abbrev pub peeked_side : Side → Option ℕ
 peeked_side (VariableSide l t) = None
 peeked_side (CellSide d) = peek_after d
 
--- a side that is a variable is used after both places have been evaluated
+-- the demands on a side of a swap that is a variable; the variable is used after both sides have
+-- been evaluated
 abbrev pub side_demanded : (waiting : List ℕ) → Side → State → List Demand
 side_demanded q (VariableSide (Local p n) t) f = use_demanded q p n f
 side_demanded q (VariableSide (Global n) t) f = []
@@ -60,11 +63,12 @@ swap_demanded x y f = side_demanded [] x f ++ side_demanded (and_peeked (peeked_
 abbrev pub rule_swapped : Side → Side → State → Rule State
 rule_swapped x y f = Part (rule_side [] x f) (λ g. Part (rule_side (and_peeked (peeked_side x) []) y g) (λ h. Own (swap_demanded x y h) h))
 
--- the surroundings in the body of a loop with this place and this state at its head
+-- the surroundings in the body of a loop, from the loop's source position and the state at its head
 abbrev pub in_loop : Place → State → Around
 in_loop p head = record { loop = Some (record { place = p; head = head }); locks = [] }
 
--- the state after leaving the loop's body: the locals that its items have locked are full again
+-- the state after leaving a loop's body: the locals that the body's items locked hold their values
+-- again
 abbrev pub left_loop : Around → State → State
 left_loop c f = with_each Full c.locks f
 
@@ -72,13 +76,13 @@ abbrev pub continue_demanded : Option Loop → State → List Demand
 continue_demanded None f = []
 continue_demanded (Some l) f = head_demanded l.place f l.head
 
--- the rule after a loop: either its condition was evaluated last, or a break left it
+-- the flow rule after a loop, which ends when its condition is false or by a `break`
 abbrev pub after_loop : Place → (head exit : State) → (breaks : State) → Known → Rule Known
 after_loop p head exit breaks k = Own (head_demanded p k.now head) (record { now = meet exit k.breaks; breaks = breaks })
 
 -- ---- items
 
--- the local that an item locks to the end of its block, if any
+-- the local that a block item locks to the end of its block, or an empty list
 abbrev pub locked_by : Item → List ℕ
 locked_by (Execute s) = []
 locked_by (Declare n t v) = []
@@ -91,26 +95,28 @@ abbrev pub locks_of : Items → List ℕ
 locks_of NoItems = []
 locks_of (MoreItems j js) = locked_by j ++ locks_of js
 
--- the surroundings of the next item
+-- the surroundings of the item that follows a given item
 abbrev pub following_item : Item → Around → Around
 following_item j c = record c { locks = c.locks ++ locked_by j }
 
--- the rule for the declaration of a local, with or without a value
+-- the flow rule for the declaration of a local, with or without an initial value
 abbrev pub rule_declared : ℕ → Option Converted → State → Rule State
 rule_declared n None f = gives (with_fullness Vacant f n)
 rule_declared n (Some c) f = Part (rule_converted [] c f) (λ g. gives (with_fullness Full g n))
 
--- the rule for an item that declares one local and locks another, named at this place
+-- the flow rule for an item that declares one local and locks another; the position is that of the
+-- locked local's name
 abbrev pub rule_locked : ℕ → Place → (locked : ℕ) → State → Rule State
 rule_locked n p m f = Own (full_demanded p m f) (with_fullness Full (with_fullness Locked f m) n)
 
--- the state at the end of a block: the locals that its items have locked are full again
+-- the state at the end of a block: the locals that its items locked hold their values again
 abbrev pub at_end : Items → Known → Known
 at_end js k = at (with_each Full (locks_of js) k.now) k
 
 -- ---- clauses
 
--- the state at the start of a clause, given the state at its `try`: locals that the body touches count as empty
+-- the state at the start of a catch clause, from the state at its `try`: a local that the body touches counts
+-- as empty
 abbrev pub caught : State → Statement → State
 caught f s = emptied (touched_statement s []) f
 
@@ -118,7 +124,8 @@ abbrev pub with_caught : Option ℕ → State → State
 with_caught None f = f
 with_caught (Some n) f = with_fullness Full f n
 
--- the state after a `try` with one more clause: either the earlier part was run, or this clause
+-- the state after a `try` with one more catch clause: the meet of the state before and the state at
+-- the end of the clause
 abbrev pub or_clause : State → Items → Known → Known
 or_clause before js k = at (meet before (at_end js k).now) k
 
@@ -152,7 +159,7 @@ abbrev mutual
   rule_item c (DeclareAlias r n t p m) k = Part (rule_locked n p m k.now) (λ f. gives (at f k))
   rule_item c (DeclareKey r n) k = gives (at (with_fullness Full k.now n) k)
 
-  -- the rule for the clauses of a catch, each of which begins with this state
+  -- the flow rule for the clauses of a catch; each clause begins with the state `start`
   pub rule_clauses : Around → State → Clauses → Known → Rule Known
   rule_clauses c start NoClauses k = gives k
   rule_clauses c start (Default r js) k = Part (rule_items c js (at start k)) (λ l. gives (or_clause k.now js l))

@@ -1,13 +1,14 @@
--- The state of each local at a program point of a typed tree: full, lent out or empty. (The three states are this project's own choice.)
+-- The state of each local at a program point of a typed tree: full, lent out or empty. (The choice of three states is this project's
+-- own.)
 use Rattle.std.specs.Prelude.{ℕ, Bool, true, false, ◌&&◌, if◌then◌else◌, List, [], ◌∷◌, get_or, slice_set}
 
--- The fullness of a local, in rising order: it may hold no value; it holds a value that is lent out; it holds a value.
+-- The fullness of a local, in rising order: the local may be empty, holds a value that is lent out, or holds a value.
 pub data Fullness : Type 0 where
   Vacant : Fullness
   Locked : Fullness
   Full : Fullness
 
--- the state at a program point: unreachable code, or the fullness of each local by its number
+-- the state at a program point: unreachable, or the fullness of each local, indexed by its number
 pub data State : Type 0 where
   Unreached : State
   Reached : List Fullness → State
@@ -24,7 +25,7 @@ lower_each [] bs = []
 lower_each (a ∷ as') [] = []
 lower_each (a ∷ as') (b ∷ bs) = lower a b ∷ lower_each as' bs
 
--- the meet at the join of two branches: for each local the lower of its two states
+-- the meet of two states at a join of branches: for each local, the lower of its two fullnesses
 abbrev pub meet : State → State → State
 meet Unreached g = g
 meet (Reached as') Unreached = Reached as'
@@ -39,14 +40,14 @@ is_as_full Locked Locked = true
 is_as_full Locked Full = false
 is_as_full Full b = true
 
--- each local is at least as full in the first list as in the second
+-- returns true if each local is at least as full in the first list as in the second
 abbrev pub are_as_full : List Fullness → List Fullness → Bool
 are_as_full [] [] = true
 are_as_full [] (b ∷ bs) = false
 are_as_full (a ∷ as') [] = false
 are_as_full (a ∷ as') (b ∷ bs) = is_as_full a b && are_as_full as' bs
 
--- no local is emptier in the first state than in the second
+-- returns true if no local is emptier in the first state than in the second
 abbrev pub is_at_least : State → State → Bool
 is_at_least Unreached g = true
 is_at_least (Reached as') Unreached = false
@@ -56,7 +57,8 @@ abbrev pub is_reached : State → Bool
 is_reached Unreached = false
 is_reached (Reached as') = true
 
--- The fullness of a local in a state. In unreachable code each local counts as full, so unreachable code breaks no rule.
+-- The fullness of a local in a state. In an unreachable state each local is full, so unreachable code breaks no flow
+-- rule.
 abbrev pub fullness : State → ℕ → Fullness
 fullness Unreached n = Full
 fullness (Reached as') n = get_or as' n Vacant
@@ -65,7 +67,7 @@ abbrev pub with_fullness : Fullness → State → ℕ → State
 with_fullness a Unreached n = Unreached
 with_fullness a (Reached as') n = Reached (slice_set as' n a)
 
--- the state with this fullness for each of these locals
+-- returns the state with the given fullness for each local in the list
 abbrev pub with_each : Fullness → List ℕ → State → State
 with_each a [] f = f
 with_each a (n ∷ ns) f = with_each a ns (with_fullness a f n)
@@ -78,7 +80,8 @@ abbrev pub is_locked : Fullness → Bool
 is_locked Locked = true
 is_locked a = false
 
--- the state in which each of these locals is empty, unless the local is locked
+-- returns the state in which each local in the list is empty, except locked locals, which keep
+-- their fullness
 abbrev pub emptied : List ℕ → State → State
 emptied [] f = f
 emptied (n ∷ ns) f = emptied ns (if is_locked (fullness f n) then f else with_fullness Vacant f n)

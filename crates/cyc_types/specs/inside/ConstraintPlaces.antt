@@ -1,4 +1,4 @@
--- The position of the first constraint of each region, which a table stores for each region. The table of first constraints is this
+-- The position of the first constraint of each region; a table stores this position. The table of first constraints is this
 -- project's own choice.
 use Rattle.std.specs.Prelude.{◌≡◌, ◌<◌, ℕ, List, get_or, length, Option, Some, None}
 use Rattle.cyc_types.specs.declared.region.Region.{Region}
@@ -13,12 +13,13 @@ place_of places Heap = places.heap
 place_of places Unique = places.unique
 place_of places (Variable n) = get_or places.variables.items n None
 
--- the first constraint of the region among the last constraints has this index among all constraints
+-- says that, among the last constraints, the region's first constraint is at the given index of the
+-- list of all constraints
 abbrev pub IsFirst : List Constraint → List Constraint → Region → Option ℕ → Type 0
 IsFirst all last a None = (b : Region) → table_leads last a b ≡ region_eq a b
 IsFirst all last a (Some k) =
     (k < length all) × ((d : Constraint) → ((get_or all k d).longer ≡ a) × ((b : Region) → table_leads last a b ≡ entry_leads (get_or all k d) b))
 
--- each region's entry in the table is the index of its first constraint
+-- says that the table entry of each region is the index of the region's first constraint
 abbrev pub AreFirst : List Constraint → List Constraint → Places → Type 0
 AreFirst all last places = (a : Region) → IsFirst all last a (place_of places a)

@@ -4,10 +4,11 @@ use Rattle.cyc_types.specs.declared.region.Region.TheVariants.{Heap, Unique}
 use Rattle.cyc_types.specs.typing.Scopes.{RegionName}
 use Rattle.cyc_types.specs.typing.Formation.{Naming}
 
--- the names and the next region number after some parameters
+-- builds the code's record of region names and the next region number, as it is after some
+-- parameters
 abbrev pub naming : List RegionName → ℕ → Naming
 naming names next = record { names = names; next = next }
 
--- the names of the built-in regions
+-- the names of the built-in regions: the heap and the unique region
 abbrev pub first_regions : (heap unique : ℕ) → List RegionName
 first_regions heap unique = record { name = heap; region = Heap } ∷ record { name = unique; region = Unique } ∷ []

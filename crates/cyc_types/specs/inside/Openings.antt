@@ -1,6 +1,6 @@
--- The position of the oldest open scope of each region. For scopes in order, the outlives relation is decided by these positions without a
--- search. A scope is in order if its region is new whenever the live regions outlive it. The use of positions of scopes is this project's
--- own choice.
+-- The position of the oldest open scope of each region. If all scopes are in order, these positions decide the outlives relation without a
+-- search. A scope is in order if its region is new whenever the live regions outlive the region. The use of scope positions is this
+-- project's own choice.
 use Rattle.std.specs.Prelude.{◌≡◌, ◌⊎◌, ◌<◌, ◌≤◌, ℕ, true, false, List, get_or, take, reverse, length}
 use Rattle.cyc_types.specs.declared.region.Region.{Region}
 use Rattle.cyc_types.specs.declared.region.Region.TheVariants.{Heap, Unique, Variable}
@@ -10,33 +10,36 @@ use Rattle.cyc_types.specs.Types.{region_eq, is_region_among}
 use Rattle.cyc_types.specs.Outlives.{live_regions, is_outlived_by_live}
 use Rattle.cyc_types.specs.Closure.{above}
 
--- the index of the oldest open scope of a region, if one is open; a table stores it for each variable
+-- the index of the oldest open scope of a region; a table stores the index for each region variable
 abbrev pub opening_of : List ℕ → Region → ℕ
 opening_of openings Heap = 0
 opening_of openings Unique = 0
 opening_of openings (Variable n) = get_or openings n 0
 
--- the scope at this index; the scopes are oldest first
+-- the scope at the given index of a list of scopes, oldest first
 abbrev pub scope_at : List Scope → ℕ → Scope
 scope_at scopes i = get_or scopes i (record { region = Heap; kind = Block })
 
--- the regions that were live when the scope at this index opened
+-- the regions that were live before the scope at the given index opened
 abbrev pub live_before : List Region → List Scope → ℕ → List Region
 live_before live scopes i = live_regions live (reverse (take i scopes))
 
--- the scope at this index is in order, so its region needs no search
+-- says that the scope at the given index is in order, so that its region can be found without a
+-- search
 pub record IsOrderly (written : List (Region × Region)) (live : List Region) (openings : List ℕ) (scopes : List Scope) (i : ℕ) : Type 0 where
-  -- the scope's region was live before any scope, or the table stores the index of its oldest scope
+  -- the scope's region was live before any scope opened, or the table stores the index of the
+  -- region's oldest scope
   pub found : (is_region_among (scope_at scopes i).region live ≡ true)
       ⊎ ((opening_of openings (scope_at scopes i).region ≤ i)
       × ((scope_at scopes (opening_of openings (scope_at scopes i).region)).region ≡ (scope_at scopes i).region))
-  -- if the live regions outlive the scope's region, no constraint begins with it and it was not live before
+  -- if the live regions outlive the scope's region, no constraint makes the region outlive another, and the
+  -- region was not live before
   pub alone : is_outlived_by_live (scope_at scopes i).kind ≡ true →
       (b : Region) → above written (scope_at scopes i).region b ≡ region_eq (scope_at scopes i).region b
   pub fresh : is_outlived_by_live (scope_at scopes i).kind ≡ true →
       is_region_among (scope_at scopes i).region (live_before live scopes i) ≡ false
 
--- the first `n` scopes are in order
+-- says that the first `n` scopes are in order, as the table of opening positions requires
 pub record IsInOrder (written : List (Region × Region)) (live : List Region) (openings : List ℕ) (scopes : List Scope) (n : ℕ) : Type 0 where
   pub within : n ≤ length scopes
   pub each : (i : ℕ) → i < n → IsOrderly written live openings scopes i

@@ -1,5 +1,5 @@
--- Sets of regions as marks: one mark each for the heap and the unique region, and one mark for each region variable, by its number. The
--- representation of sets of regions by marks is this project's own choice.
+-- A set of regions is represented by flags: one flag each for the heap and the unique region, and one for each region variable, indexed
+-- by its number. The representation of sets of regions by flags is this project's own choice.
 use Rattle.std.specs.Prelude.{Bool, false, List, get_or}
 use Rattle.cyc_types.specs.declared.region.Region.{Region}
 use Rattle.cyc_types.specs.declared.region.Region.TheVariants.{Heap, Unique, Variable}

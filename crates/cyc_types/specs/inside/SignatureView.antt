@@ -1,4 +1,4 @@
--- The view of the code's signatures: each signature without its layout in memory.
+-- The mathematical view of the code's signatures; the view omits the memory layout.
 use Rattle.std.specs.Prelude.{List, map, option_map}
 use Rattle.cyc_types.specs.declared.region.Region.{Region}
 use Rattle.cyc_types.specs.declared.signature.Signature.{Signature as SignatureCode}
@@ -15,6 +15,6 @@ view_signature s = record {
   constraints = s.constraints.items;
 }
 
--- the substitution of both regions of a pair
+-- substitutes regions for the region variables in both regions of a pair
 abbrev pub substituted_pair : List Region → Region × Region → Region × Region
 substituted_pair instance p = (substituted_region instance p.0, substituted_region instance p.1)

@@ -1,6 +1,6 @@
--- The typing rules of the signatures of declarations, and the entities that they declare. Signatures are checked in order, each in its
--- parts as written; all names of structs, functions and globals are known in the whole text. (Effects and constraints are Cyclone's,
--- Grossman et al. 2002; codes, places and their order are this project's own choice.)
+-- The typing rules of the signatures of declarations, and the entities that the declarations declare. Signatures are checked in order,
+-- and the parts of a signature in the order of the source. All names of structs, functions and globals are known in the whole text.
+-- (Effects and constraints are Cyclone's, Grossman et al. 2002; codes, positions and their order are this project's own choice.)
 use Rattle.std.specs.Prelude.{ℕ, zero, suc, pred, Bool, true, false, not, nat_eq, ◌&&◌, ◌||◌, if◌then◌else◌, List, [], ◌∷◌, ◌++◌, map, length, Option, Some, None, option_map}
 use Rattle.std.specs.List.{list_any}
 use Rattle.cyc_words.specs.declared.fault.Code.TheVariants as codes
@@ -21,7 +21,8 @@ use Rattle.cyc_types.specs.typing.Formation.{Naming, region_of, type_written, ty
 
 -- ---- the entities that signatures declare
 
--- what is known in the whole text: the built-in regions, the structs by number, and the number of the name `main`
+-- the declarations known in the whole text: the built-in regions, the structs by number, and the number of the
+-- name `main`
 pub record Known : Type 0 where
   pub regions : List RegionName
   pub structs : List StructName
@@ -38,7 +39,7 @@ structs_of (Exceptions cs ∷ ds) = structs_of ds
 structs_of (Global w x v ∷ ds) = structs_of ds
 structs_of (Function r x ps b ∷ ds) = structs_of ds
 
--- the names of a struct's region parameters, which are the region variables from this number on
+-- adds the names of a struct's region parameters; the parameters are the region variables from n on
 abbrev pub parameter_names : List Named → ℕ → List RegionName → List RegionName
 parameter_names [] n names = names
 parameter_names (r ∷ rs) n names = record { name = r.name; region = Variable n } ∷ parameter_names rs (suc n) names
@@ -63,7 +64,8 @@ exceptions_of (Function r x ps b ∷ ds) = exceptions_of ds
 
 -- ---- signatures
 
--- the names of regions and the number of the next region after the parameters of a function
+-- the region names and the number of the next region, as they are after the parameters of a
+-- function
 abbrev pub parameter_naming : Known → Parameters → Naming
 parameter_naming k ps = after_members (record { names = k.regions; next = 1 }) (members_of ps.list)
 
@@ -73,7 +75,7 @@ parameter_types k ps = types_for k.structs (record { names = k.regions; next = 1
 abbrev pub result_written : Known → List RegionName → Option WrittenType → Option Ty
 result_written k names r = option_map (type_written k.structs names Heap) r
 
--- true if the types include a key of this region
+-- returns true if a list of types contains a key of the region
 abbrev pub has_key : List Ty → Region → Bool
 has_key ts r = list_any (is_key_of r) ts
 
@@ -81,13 +83,14 @@ abbrev pub and_result : List Ty → Option Ty → List Ty
 and_result ts None = ts
 and_result ts (Some t) = t ∷ ts
 
--- this many variables from this number on, except for those with a key among the types
+-- the list of `count` region variables from number `from` on, without those that have a key among
+-- the types
 abbrev pub without_keys : List Ty → (count from : ℕ) → List Region
 without_keys ts zero n = []
 without_keys ts (suc m) n = if has_key ts (Variable n) then without_keys ts m (suc n) else Variable n ∷ without_keys ts m (suc n)
 
--- An omitted effect consists of all regions in the types of the parameters and of the result, except those with a key. (Each variable
--- occurs in a parameter's type, and the heap is live everywhere.)
+-- An omitted effect consists of all regions in the types of the parameters and of the result, except regions with a key. (Each region
+-- variable occurs in a parameter's type, and the heap is live everywhere.)
 abbrev pub effect_of : List RegionName → List Ty → (variables : ℕ) → Option (List Named) → List Region
 effect_of names ts n None = without_keys ts n 1
 effect_of names ts n (Some rs) = map (region_of names) rs
@@ -104,7 +107,8 @@ signature_of k r ps = record {
   constraints = constraints_of (parameter_naming k ps).names ps.constraints;
 }
 
--- the declared functions and globals; each of the two is numbered in order
+-- the declared functions and globals; functions and globals are each numbered in the order of their
+-- declarations
 abbrev pub declared_from : Known → (globals functions : ℕ) → List Declaration → List Declared
 declared_from k n m [] = []
 declared_from k n m (StructType s rs fs ∷ ds) = declared_from k n m ds
@@ -118,7 +122,7 @@ declared_from k n m (Function r x ps b ∷ ds) = record { name = x.name; meaning
 abbrev pub is_among : ℕ → List ℕ → Bool
 is_among x known = list_any (nat_eq x) known
 
--- the demands that names differ from each other and from earlier names
+-- the demands that names in a list differ from each other and from the names declared earlier
 abbrev pub distinct_demanded : List ℕ → List Named → List Demand
 distinct_demanded known [] = []
 distinct_demanded known (x ∷ xs) = demand codes.DeclaredTwice x.place (not (is_among x.name known)) ∷ distinct_demanded (x.name ∷ known) xs
@@ -138,12 +142,12 @@ abbrev pub rule_struct : Known → (before : List ℕ) → Named → List Named 
 rule_struct k before s rs ms =
     Part (rule_new before s) (λ u. Part (demands (distinct_demanded (region_numbers k.regions) rs)) (λ v. rule_fields k (parameter_names rs 0 k.regions) [] ms))
 
--- the names of the constructors of exceptions
+-- lists the names of the declared exceptions
 abbrev pub constructor_names : List Constructor → List Named
 constructor_names cs = map (λ (c : Constructor). c.name) cs
 
--- An int or a char is initialized by a number or a character, a pointer by `NULL`. A global without a value is 0 or null; the place is that
--- of its type.
+-- An int or a char is initialized by a number or a character, a pointer by `NULL`. A global without an initial value is 0 or null; its
+-- fault has the source position of the type.
 abbrev pub value_demanded : Ty → Place → Option GlobalValue → List Demand
 value_demanded t q None = demand codes.NullForNonNull q (not (is_non_null t)) ∷ []
 value_demanded t q (Some (Positive p n)) = demand codes.TypeMismatch p (is_number t) ∷ []
@@ -151,7 +155,8 @@ value_demanded t q (Some (Negative p n)) = demand codes.TypeMismatch p (is_numbe
 value_demanded t q (Some (Byte p c)) = demand codes.TypeMismatch p (is_number t) ∷ []
 value_demanded t q (Some (NullPointer p)) = demand codes.TypeMismatch p (is_pointer t) ∷ demand codes.NullForNonNull p (not (is_non_null t)) ∷ []
 
--- the demands that a declared name is new, and is not `main` unless it may be
+-- the demands on a declared name: it is new, and it is not `main` unless the declaration may define
+-- `main`
 abbrev pub head_demanded : Place → (is_new is_no_main : Bool) → List Demand
 head_demanded p is_new is_no_main = demand codes.DeclaredTwice p is_new ∷ demand codes.BadMain p is_no_main ∷ []
 
@@ -160,7 +165,7 @@ rule_global k before w x v =
     Part (demands (global_demanded k.structs k.regions w))
     (λ u. demands (head_demanded x.place (not (is_among x.name before)) (not (nat_eq x.name k.main)) ++ value_demanded (type_written k.structs k.regions Heap w) w.place v))
 
--- true if the result of `main` is written as `int`
+-- returns true if the source writes the result type of `main` as `int`
 abbrev pub is_int_written : Option WrittenType → Bool
 is_int_written None = false
 is_int_written (Some w) = is_int_base w.base && is_empty w.marks
@@ -172,7 +177,7 @@ is_int_written (Some w) = is_int_base w.base && is_empty w.marks
 abbrev pub is_main_head : Option WrittenType → Parameters → Bool
 is_main_head r ps = is_int_written r && (is_empty (members_of ps.list) && (is_left_out ps.effect && is_empty ps.constraints))
 
--- the rule for parameters: for each its type, and then its name
+-- the rule for the parameters of a function: each parameter's type is checked, and then its name
 abbrev pub rule_parameters : Known → (own : ℕ) → (before : List ℕ) → List Member → Rule (Unit {0})
 rule_parameters k own before [] = gives tt
 rule_parameters k own before (m ∷ ms) =
@@ -182,7 +187,8 @@ abbrev pub result_demanded : Known → List RegionName → Option WrittenType �
 result_demanded k names None = []
 result_demanded k names (Some w) = type_demanded k.structs names None w
 
--- the demand on a region of a written effect: it is known, is not the unique region, and has no key among the types
+-- the demands on each region of a written effect: it is declared, is not the unique region, and has no key among
+-- the types
 abbrev pub effect_demanded : List RegionName → List Ty → List Named → List Demand
 effect_demanded names ts [] = []
 effect_demanded names ts (r ∷ rs) =
@@ -199,11 +205,13 @@ constraints_demanded names [] = []
 constraints_demanded names (c ∷ cs) =
     name_demanded names None c.longer ∷ no_unique_demanded names c.longer ∷ name_demanded names None c.shorter ∷ no_unique_demanded names c.shorter ∷ constraints_demanded names cs
 
--- True if a function's name is new. A function's name also names the function's region, so it must differ from the built-in regions.
+-- Returns true if a function's name is new. A function's name also names the function's region, so the name must differ from the
+-- built-in regions.
 abbrev pub is_function_new : Known → (before : List ℕ) → ℕ → Bool
 is_function_new k before x = not (is_among x before) && not (is_among x (region_numbers k.regions))
 
--- the rule for a function's signature; the result type is checked first, as written, though it may name regions of the parameters
+-- the rule for a function's signature; the result type is checked first, as written, although it may name regions that the
+-- parameters declare
 abbrev pub rule_function_head : Known → (before : List ℕ) → Option WrittenType → Named → Parameters → Rule (Unit {0})
 rule_function_head k before r x ps =
     Part (demands (result_demanded k (parameter_naming k ps).names r))
@@ -216,7 +224,7 @@ rule_function_head k before r x ps =
 pub record Before : Type 0 where
   pub structs : List ℕ
   pub exceptions : List ℕ
-  -- the names of functions and globals
+  -- the names of the functions and globals declared before a signature
   pub names : List ℕ
 
 abbrev pub with_all : List Named → List ℕ → List ℕ
@@ -239,7 +247,7 @@ abbrev pub rule_declarations : Known → Before → List Declaration → Rule (U
 rule_declarations k b [] = gives tt
 rule_declarations k b (d ∷ ds) = Part (rule_declaration k b d) (λ u. rule_declarations k (after_head b d) ds)
 
--- true if a function or a global of this name is declared
+-- returns true if a function or a global named `main` is declared
 abbrev pub declares : ℕ → List Declaration → Bool
 declares main [] = false
 declares main (StructType s rs fs ∷ ds) = declares main ds

@@ -1,8 +1,9 @@
--- THE TYPING RULES of the whole language, each a value (`Rules`): the typed tree of a tree, or the first rule that fails, with its code and
--- place. This file covers expressions and places. The rule of a tree is defined by one recursion; the demands of each form are a function
--- with a name. Operands are checked first, in the order of evaluation, then the expression's own demands. Of the expression's own demands
--- that fail, the lowest code is reported. (Names, types, regions and effects are Cyclone's, Grossman et al. 2002. Codes, places, the order,
--- and the numbers of locals and regions are this project's own choice.)
+-- Each typing rule of the whole language is a value (`Rules`). A typing rule derives the typed tree of a syntax tree, or rejects with the
+-- first violated demand's code and source position. The file `Expressions` covers expressions and lvalues. The rule of a tree is defined by
+-- one recursion; the demands of each form are a named function. Operands are checked first, in the order of evaluation, then the
+-- expression's own demands. Of the expression's own demands that fail, the one with the lowest code is reported. (Names, types, regions and
+-- effects are Cyclone's, Grossman et al. 2002. Codes, positions, the order, and the numbers of locals and regions are this project's own
+-- choice.)
 use Rattle.std.specs.Prelude.{ℕ, zero, suc, Bool, true, false, not, nat_eq, ◌&&◌, ◌||◌, if◌then◌else◌, List, [], ◌∷◌, ◌++◌, map, length, slice_get, Option, Some, None, is_some, unwrap_or, option_map}
 use Rattle.std.specs.List.{list_any}
 use Rattle.cyc_words.specs.declared.fault.Code.TheVariants as codes
@@ -39,10 +40,11 @@ use Rattle.cyc_types.specs.typing.Formation.{struct_number, parameters_among, ar
 
 -- ---- conversions
 
--- true if a value of the first type may be converted to the second, apart from the regions of their outermost marks
+-- returns true if a value of the first type can be converted to the second; the regions of the outermost pointer
+-- marks are not compared
 abbrev pub is_convertible : Ty → Ty → Bool
 is_convertible Int Int = true
--- an int is converted to a char by its low byte, a char to an int by its value
+-- an int is converted to a char by taking its low byte, and a char to an int by keeping its value
 is_convertible Int Char = true
 is_convertible Char Int = true
 is_convertible Char Char = true
@@ -64,7 +66,7 @@ abbrev pub is_outlived : RegionContext → ValueType → Ty → Bool
 is_outlived c (Value (Pointer k t r)) (Pointer l u s) = is_outliving c r s
 is_outlived c v t = true
 
--- The demands for converting an expression at this place to a type. The expression may have no value, or be the null pointer.
+-- The demands on converting an expression to a type. The expression may have no value, or be the null pointer.
 abbrev pub conversion : RegionContext → ValueType → Ty → Place → List Demand
 conversion c v t p =
     demand codes.TypeMismatch p (is_alike v t) ∷ demand codes.NullForNonNull p (is_null_allowed v t) ∷ demand codes.NotOutlived p (is_outlived c v t) ∷ []
@@ -72,7 +74,7 @@ conversion c v t p =
 abbrev pub converted : typed.Expression → Ty → Converted
 converted a t = Convert (kind_of_value (type_of a)) (kind_of t) a
 
--- the arguments of a list, each converted to the type at its position
+-- the arguments of a call, each converted to the type of its parameter
 abbrev pub passed : List typed.Expression → List Ty → typed.Arguments
 passed (a ∷ as') (t ∷ ts) = typed.MoreArguments (converted a t) (passed as' ts)
 passed as' ts = typed.NoArguments
@@ -83,14 +85,14 @@ passed_demanded c es as' ts = []
 
 -- ---- demands on the type of an operand at a place
 
--- the expression as an int; a char is converted by its value
+-- returns the expression as an int; a char is widened and keeps its value
 abbrev pub as_int : typed.Expression → typed.Expression
 as_int a = if is_char (type_of a) then typed.Unary unary.Widen a else a
 
 abbrev pub int_wanted : ValueType → Place → Demand
 int_wanted t p = demand codes.TypeMismatch p (is_int t)
 
--- the demand for an int or a pointer, which is tested against zero or null
+-- the demand that a condition is an int or a pointer, which is tested against zero or null
 abbrev pub test_wanted : ValueType → Place → Demand
 test_wanted t p = demand codes.TypeMismatch p (is_tested t)
 
@@ -102,7 +104,7 @@ value_wanted t p = demand codes.TypeMismatch p (is_value is_any t)
 
 -- ---- variables
 
--- true if the variable can be read; a unique pointer in a global cannot
+-- returns true if a variable can be read; a global that holds a unique pointer cannot be read
 abbrev pub is_readable : Lvalue → Ty → Bool
 is_readable (Local p n) t = true
 is_readable (Global n) t = not (is_unique t)
@@ -111,7 +113,7 @@ abbrev pub variable_read : Lvalue → Ty → typed.Expression
 variable_read (Local p n) t = if is_moved t then typed.Move p n t else typed.Copy (Local p n) t
 variable_read (Global n) t = typed.Copy (Global n) t
 
--- the expression that only peeks at a variable; a unique pointer keeps its value
+-- the expression that peeks at a variable; a variable that holds a unique pointer keeps it
 abbrev pub variable_looked : Lvalue → Ty → typed.Expression
 variable_looked (Local p n) t = if is_unique t then typed.Peek p n t else variable_read (Local p n) t
 variable_looked (Global n) t = typed.Copy (Global n) t
@@ -128,8 +130,8 @@ abbrev pub looked : Meaning → Place → Rule typed.Expression
 looked (scopes.Variable l t home) p = Own (demand codes.UniqueShared p (is_readable l t) ∷ []) (variable_looked l t)
 looked m p = read m p
 
--- The rule for an operand that is only peeked at, if it is directly a variable (parentheses do not matter). For any other operand it is the
--- rule `walked`.
+-- The rule for an operand that is only peeked at. If the operand is a variable (parentheses do not matter), the rule is a peek. For any
+-- other operand it is the rule `walked`.
 abbrev pub rule_looked : Scope → Expression → (walked : Rule typed.Expression) → Rule typed.Expression
 rule_looked g (Variable x) walked = looked (meaning_of g x) x.place
 rule_looked g (Bracketed p e) walked = rule_looked g e walked
@@ -137,7 +139,7 @@ rule_looked g e walked = walked
 
 -- ---- places
 
--- a place, and the region that contains it
+-- an lvalue, and the region that contains it
 pub record Found : Type 0 where
   pub side : Side
   pub region : Region
@@ -146,7 +148,7 @@ abbrev pub type_of_side : Side → Ty
 type_of_side (VariableSide l t) = t
 type_of_side (CellSide d) = type_of_place d
 
--- the rule for the place that a name denotes; the name is at the first place, the whole expression begins at the second
+-- the rule for the lvalue that a name denotes; `p` is the position of the name, `q` the start of the whole expression
 abbrev pub place_meant : Meaning → Place → Place → Rule Found
 place_meant Unknown p q = Refused (fault_at codes.UnknownName p)
 place_meant (scopes.Variable l t home) p q = gives (record { side = VariableSide l t; region = home })
@@ -154,17 +156,18 @@ place_meant (Fixed l t) p q = Refused (fault_at codes.NotAPlace q)
 place_meant (Counter n) p q = Refused (fault_at codes.NotAPlace q)
 place_meant (Routine f s) p q = Refused (fault_at codes.NotAPlace q)
 
--- A cell that a pointer leads to, with the demands on naming it as a place, and the further demands on reading it.
+-- A memory cell reached through a pointer, with the demands on using the cell as an lvalue. Reading the cell has
+-- further demands (`loaded`).
 pub record Reached : Type 0 where
   pub asked : List Demand
   pub cell : Dereference
   pub region : Region
 
--- the demand that the region of a pointer at this place is live
+-- the demand that the region of a pointer is live; p is the pointer's source position
 abbrev pub live_wanted : Scope → ValueType → Place → Demand
 live_wanted g t p = demand codes.RegionNotLive p (is_live g (region_of (value_of t)))
 
--- the cell `*e`, for an operand at this place
+-- the memory cell `*e`, for the operand e at position p
 abbrev pub pointed : Scope → Place → typed.Expression → Reached
 pointed g p a = record {
   asked = demand codes.TypeMismatch p (is_value is_pointer (type_of a)) ∷ live_wanted g (type_of a) p ∷ [];
@@ -172,7 +175,7 @@ pointed g p a = record {
   region = region_of (value_of (type_of a));
 }
 
--- the cell `e[i]`, for operands at these places
+-- the memory cell `e[i]`, for operands at positions p and q
 abbrev pub indexed : Scope → Place → typed.Expression → Place → typed.Expression → Reached
 indexed g p a q b = record {
   asked = demand codes.TypeMismatch p (is_value is_fat (type_of a)) ∷ int_wanted (type_of b) q ∷ live_wanted g (type_of a) p ∷ [];
@@ -180,7 +183,7 @@ indexed g p a q b = record {
   region = region_of (value_of (type_of a));
 }
 
--- true for a thin pointer to a struct
+-- returns true if the type is a thin pointer to a struct
 abbrev pub has_members : Ty → Bool
 has_members (Pointer k t r) = is_thin_mark k && is_struct t
 has_members t = false
@@ -196,11 +199,12 @@ abbrev pub field_among : List Field → ℕ → Option Ty
 field_among [] x = None
 field_among (f ∷ fs) x = if nat_eq f.name x then Some f.of_type else field_among fs x
 
--- the type of a field of a struct with these region arguments
+-- the type of a field, with the region arguments of the struct substituted
 abbrev pub field_type : List Region → Option Ty → Ty
 field_type rs t = substituted_ty rs (unwrap_or t Int)
 
--- The cell `e->f`, for an operand at this place. If the operand is not a pointer to a struct, its fields are unknown.
+-- The memory cell `e->f`, for the operand e at position p. If the operand is not a pointer to a struct, its fields
+-- are unknown.
 abbrev pub selected : Scope → Place → typed.Expression → Named → Reached
 selected g p a f = record {
   asked = demand codes.TypeMismatch p (is_value has_members (type_of a))
@@ -212,19 +216,20 @@ selected g p a f = record {
   region = region_of (value_of (type_of a));
 }
 
--- The demands on reading a cell: it holds neither a whole struct nor a unique pointer, which others may also reach.
+-- The demands on reading a memory cell: it holds neither a whole struct nor a unique pointer. A unique pointer in a
+-- cell may be reachable by others.
 abbrev pub content_demanded : Ty → Place → List Demand
 content_demanded t p = demand codes.TypeMismatch p (not (is_struct t)) ∷ demand codes.UniqueShared p (not (is_unique t)) ∷ []
 
--- the rule for reading the cell named at this place
+-- the rule for reading a memory cell; the cell's expression is at position p
 abbrev pub loaded : Place → Reached → Rule typed.Expression
 loaded p w = Own (w.asked ++ content_demanded (type_of_place w.cell) p) (typed.Load w.cell)
 
--- the rule for the cell as a place
+-- the rule for using a memory cell as an lvalue
 abbrev pub reached : Reached → Rule Found
 reached w = Own w.asked (record { side = CellSide w.cell; region = w.region })
 
--- the place of the first token of an expression, inside its parentheses
+-- the source position of the first token of an expression, inside its parentheses
 abbrev pub place_inside : Expression → Place
 place_inside (Bracketed p e) = place_inside e
 place_inside e = place_of e
@@ -236,8 +241,8 @@ abbrev pub address_of : Side → Ty → typed.Expression
 address_of (VariableSide l t) u = typed.AddressOf l u
 address_of (CellSide d) u = typed.AddressOfCell d u
 
--- The demands on taking the address of a place: it holds neither a key nor a unique pointer, and lies in no unique object. Without these
--- demands, the address could outlive a freed object or a change of owner.
+-- The demands on taking the address of an lvalue: it holds neither a key nor a unique pointer, and lies in no unique object. Without
+-- these demands, the address could outlive a freed object or a change of owner.
 abbrev pub address_demanded : Found → Place → List Demand
 address_demanded x p =
     demand codes.RegionOrKeyMisused p (not (is_key (type_of_side x.side)))
@@ -247,7 +252,7 @@ address_demanded x p =
 abbrev pub addressed : Place → Found → Rule typed.Expression
 addressed p x = Own (address_demanded x p) (address_of x.side (pointer_to x))
 
--- the type of an assignment's value; an assignment of a unique pointer or of a key has none
+-- the type of an assignment's value; an assignment of a unique pointer or of a key has no value
 abbrev pub assigned_type : Ty → ValueType
 assigned_type t = if is_moved t then Void else Value t
 
@@ -255,14 +260,14 @@ abbrev pub assignment : Side → typed.Expression → typed.Expression
 assignment (VariableSide l t) b = typed.Assign l (converted b t) (assigned_type t)
 assignment (CellSide d) b = typed.Store d (converted b (type_of_place d)) (assigned_type (type_of_place d))
 
--- the rule for an assignment: the value is converted to the type of the place
+-- the rule for an assignment: the value is converted to the type of the assigned lvalue
 abbrev pub assigned : RegionContext → Found → Place → typed.Expression → Rule typed.Expression
 assigned c x p b = Own (conversion c (type_of b) (type_of_side x.side) p) (assignment x.side b)
 
 -- ---- unary operators
 
--- The rule for a prefix operator at the first place and its operand at the second. The operand's rule is given for each of its uses: as a
--- value, as a peek, and as a place.
+-- The rule for a prefix operator at position p and its operand at position q. The rule takes the operand's rule for each of its uses: as
+-- a value, as a peek, and as an lvalue.
 abbrev pub prefixed : Scope → PrefixOperator → Place → Place → (inside : Place) → (used seen : Rule typed.Expression) → Rule Found → Rule typed.Expression
 prefixed g prefixes.Negate p q inside used seen place = Part used (λ a. Own (int_wanted (type_of (as_int a)) q ∷ []) (typed.Unary unary.Negate (as_int a)))
 prefixed g prefixes.Not p q inside used seen place = Part seen (λ a. Own (test_wanted (type_of (as_int a)) q ∷ []) (typed.Unary unary.Not (as_int a)))
@@ -270,14 +275,14 @@ prefixed g prefixes.Complement p q inside used seen place = Part used (λ a. Own
 prefixed g prefixes.Dereference p q inside used seen place = Part seen (λ a. loaded p (pointed g q a))
 prefixed g prefixes.AddressOf p q inside used seen place = Part place (λ x. addressed inside x)
 
--- the rule for a prefixed expression as a place, which begins at the first place
+-- the rule for a prefixed expression as an lvalue; the whole expression begins at position p
 abbrev pub place_prefixed : Scope → PrefixOperator → Place → Place → (walked seen : Rule typed.Expression) → Rule Found
 place_prefixed g prefixes.Dereference p q walked seen = Part seen (λ a. reached (pointed g q a))
 place_prefixed g o p q walked seen = Part walked (λ a. Refused (fault_at codes.NotAPlace p))
 
 -- ---- binary operators
 
--- true for operators that only peek at their operands
+-- returns true for operators that only peek at their operands
 abbrev pub is_looking : BinaryOperator → Bool
 is_looking operators.OrElse = true
 is_looking operators.AndThen = true
@@ -293,21 +298,23 @@ abbrev pub operand : Bool → (used seen : Rule typed.Expression) → Rule typed
 operand true used seen = seen
 operand false used seen = used
 
--- the function that puts an operation before the rest of its chain, and the type of its result
+-- a pair: the function that puts an operation in front of a chain of operations, and the
+-- operation's result type
 abbrev pub Joined : Type 0
 Joined = (typed.Operations → typed.Operations) × Ty
 
--- the local that a left operand peeks at, if any
+-- the local that a left operand peeks at, or `None`
 abbrev pub peeked_local : typed.Expression → Option ℕ
 peeked_local (typed.Peek p n t) = Some n
 peeked_local a = None
 
--- puts an operation on a pointer or `NULL` before a chain; its left operand may be a peek
+-- puts an operation on a pointer or `NULL` in front of a chain of operations; its left operand may
+-- be a peek
 abbrev pub then_pointer : Option ℕ → PointerOperator → typed.Expression → typed.Operations → typed.Operations
 then_pointer None o a = typed.ThenPointer o a
 then_pointer (Some n) o a = typed.ThenPointerPeek n o a
 
--- In the following definitions, the chain of the left operand begins at the first place, and the right operand at the second.
+-- In the following definitions, p is the source position of the left operand's chain, and q that of the right operand.
 
 abbrev pub ints_joined : Place → ValueType → Operator → Place → typed.Expression → Rule Joined
 ints_joined p left o q a = Own (int_wanted left p ∷ int_wanted (type_of a) q ∷ []) (typed.ThenCompute o a, Int)
@@ -315,7 +322,8 @@ ints_joined p left o q a = Own (int_wanted left p ∷ int_wanted (type_of a) q �
 abbrev pub tests_joined : Place → ValueType → LogicalOperator → Place → typed.Expression → Rule Joined
 tests_joined p left o q a = Own (test_wanted left p ∷ test_wanted (type_of a) q ∷ []) (typed.ThenTest o a, Int)
 
--- true if arithmetic is allowed on the pointer type: it is fat and not unique
+-- returns true if pointer arithmetic is allowed on a pointer type: the pointer is fat and not
+-- unique
 abbrev pub is_movable : Ty → Bool
 is_movable t = is_fat t && not (is_unique t)
 
@@ -334,7 +342,8 @@ is_comparable (Value Int) = true
 is_comparable (Value (Pointer k t r)) = true
 is_comparable (Value t) = false
 
--- true for two ints, two thin pointers with equal targets, or a pointer and `NULL`
+-- returns true if two types can be compared: two ints, two thin pointers with equal targets, or a
+-- pointer and `NULL`
 abbrev pub are_compared : ValueType → ValueType → Bool
 are_compared (Value Int) (Value Int) = true
 are_compared (Value (Pointer k t r)) (Value (Pointer l u s)) = is_thin_mark k && (is_thin_mark l && ty_eq t u)
@@ -342,7 +351,7 @@ are_compared (Value (Pointer k t r)) types.Null = true
 are_compared types.Null (Value (Pointer k t r)) = true
 are_compared left right = false
 
--- if both operands are pointers, the region of the first is live
+-- returns false if both operands are pointers and the region of the first is not live
 abbrev pub is_compared_live : Scope → ValueType → ValueType → Bool
 is_compared_live g (Value (Pointer k t r)) (Value (Pointer l u s)) = is_live g r
 is_compared_live g left right = true
@@ -356,7 +365,7 @@ equality_demanded g p left q right =
     ∷ demand codes.RegionNotLive q (is_compared_live g right left)
     ∷ []
 
--- the operator for a comparison of a thin or fat pointer with `NULL`, negated or not
+-- the operator that compares a thin or fat pointer with `NULL`, by `==` or (if negated) by `!=`
 abbrev pub null_test : (negated : Bool) → (thin : Bool) → PointerOperator
 null_test false true = pointers.ThinIsNull
 null_test false false = pointers.FatIsNull
@@ -410,8 +419,9 @@ abbrev pub all_paired : List Region → List Region → List (Region × Region)
 all_paired (r ∷ rs) (s ∷ ss) = (r, s) ∷ all_paired rs ss
 all_paired rs ss = []
 
--- The regions of a parameter's type, each paired with the region at its position of another type. The order is: a struct's arguments or the
--- region of a handle or key, then the marks from the left. If the types have different shapes, no conversion exists.
+-- The regions of a parameter's type, each paired with the region at the same position in an argument's type. The order is: a struct's
+-- arguments or the region of a handle or key, then the pointer marks from the left. If the types have different shapes, no conversion
+-- exists.
 abbrev pub paired : Ty → Ty → List (Region × Region)
 paired (Pointer k t r) (Pointer l u s) = paired t u ++ (r, s) ∷ []
 paired (Handle r) (Handle s) = (r, s) ∷ []
@@ -419,7 +429,7 @@ paired (Key r) (Key s) = (r, s) ∷ []
 paired (Struct n rs) (Struct m ss) = all_paired rs ss
 paired t u = []
 
--- the pairs of an argument; `NULL` determines no regions
+-- the pairs of regions of a parameter and its argument; the argument `NULL` gives no pairs
 abbrev pub paired_argument : Ty → ValueType → List (Region × Region)
 paired_argument t (Value u) = paired t u
 paired_argument t v = []
@@ -428,17 +438,18 @@ abbrev pub paired_arguments : List Ty → List typed.Expression → List (Region
 paired_arguments (t ∷ ts) (a ∷ as') = paired_argument t (type_of a) ++ paired_arguments ts as'
 paired_arguments ts as' = []
 
--- the region that is first paired with this variable, or the heap if there is none
+-- the region that is first paired with region variable n, or the heap if no pair has the variable
 abbrev pub first_place : List (Region × Region) → ℕ → Region
 first_place [] n = regions.Heap
 first_place (p ∷ ps) n = if region_eq p.0 (regions.Variable n) then p.1 else first_place ps n
 
--- the regions first paired with this many variables, from this number on
+-- lists, for `count` region variables from number `from` on, the region first paired with each
 abbrev pub first_places : List (Region × Region) → (count from : ℕ) → List Region
 first_places ps zero n = []
 first_places ps (suc k) n = first_place ps n ∷ first_places ps k (suc n)
 
--- the regions that instantiate the variables of a signature at a call, by their numbers; no variable has the number 0
+-- the regions that instantiate the region variables of a signature at a call, by their numbers; no region variable
+-- has the number 0
 abbrev pub instance_of : Signature → List typed.Expression → List Region
 instance_of s as' = regions.Heap ∷ first_places (paired_arguments s.parameters as') s.variables 1
 
@@ -451,13 +462,13 @@ instantiated m s = record {
   constraints = map (λ (p : Region × Region). (substituted_region m p.0, substituted_region m p.1)) s.constraints;
 }
 
--- true if the pair instantiates a variable with the unique region
+-- returns true if a pair instantiates a region variable with the unique region
 abbrev pub is_unique_for_variable : Region × Region → Bool
 is_unique_for_variable (regions.Variable n, s) = region_eq s regions.Unique
 is_unique_for_variable (r, s) = false
 
--- No region variable is instantiated with the unique region. If that happens at a later occurrence of a variable, a conversion fails
--- instead.
+-- The demands that no region variable of a callee is instantiated with the unique region. If the unique region is paired with a
+-- later occurrence of a variable, a conversion fails instead.
 abbrev pub variables_demanded : Expressions → List typed.Expression → List Ty → List Demand
 variables_demanded (MoreExpressions e es) (a ∷ as') (t ∷ ts) =
     demand codes.RegionOrKeyMisused (place_of e) (not (list_any is_unique_for_variable (paired_argument t (type_of a)))) ∷ variables_demanded es as' ts
@@ -471,8 +482,8 @@ abbrev pub effect_demanded : Scope → Place → List Region → List Demand
 effect_demanded g p [] = []
 effect_demanded g p (r ∷ rs) = demand codes.EffectNotCovered p (is_live g r) ∷ effect_demanded g p rs
 
--- The demands of a call, given the signature as declared and as instantiated. The number of arguments is right, each is converted, the
--- constraints hold, and the effect is live.
+-- The demands of a call, from the signature as declared and as instantiated. The number of arguments is right, each argument is
+-- converted, the constraints hold, and the effect is live.
 abbrev pub call_demanded : Scope → Place → Expressions → List typed.Expression → (s called : Signature) → List Demand
 call_demanded g p es as' s called =
     demand codes.TypeMismatch p (nat_eq (length as') (length s.parameters))
@@ -482,7 +493,7 @@ call_demanded g p es as' s called =
 abbrev pub called_by : Scope → Callee → Place → Expressions → List typed.Expression → (s called : Signature) → Rule typed.Expression
 called_by g f p es as' s called = Own (call_demanded g p es as' s called) (typed.Call f (passed as' called.parameters) (result_type called.result))
 
--- the rule for a call of the function that a name at this place denotes
+-- the rule for a call of the function that a name denotes; the name is at position p
 abbrev pub called : Scope → Meaning → Place → Expressions → List typed.Expression → Rule typed.Expression
 called g Unknown p es as' = Refused (fault_at codes.UnknownName p)
 called g (scopes.Variable l t home) p es as' = Refused (fault_at codes.TypeMismatch p)
@@ -492,12 +503,12 @@ called g (Routine f s) p es as' = called_by g f p es as' s (instantiated (instan
 
 -- ---- keys and unique objects
 
--- the rule for `ufree` of a unique pointer at this place
+-- the rule for `ufree` applied to a unique pointer; the operand is at position p
 abbrev pub freed : Place → typed.Expression → Rule typed.Expression
 freed p a =
     Own (demand codes.TypeMismatch p (not (is_void (type_of a))) ∷ demand codes.RegionOrKeyMisused p (is_value is_unique (type_of a)) ∷ []) (typed.FreeUnique a)
 
--- the rule for `free_ukey` of the key that a name at this place denotes
+-- the rule for `free_ukey` applied to the key that a name denotes; the name is at position p
 abbrev pub key_freed : Meaning → Place → Rule typed.Expression
 key_freed Unknown p = Refused (fault_at codes.UnknownName p)
 key_freed (scopes.Variable (Local q n) t home) p = Own (demand codes.RegionOrKeyMisused p (is_key t) ∷ []) (typed.FreeKey (typed.Move q n t))
@@ -506,13 +517,14 @@ key_freed m p = Refused (fault_at codes.RegionOrKeyMisused p)
 
 -- ---- new objects
 
--- the placement of a new object: the demands, and the region
+-- the placement of a new object: the demands on it, the placement node, and the region
 pub record Placed : Type 0 where
   pub asked : List Demand
   pub placement : Placement
   pub region : Region
 
--- the contents of a new object: the demands, the type of the target, and the mark of the pointer
+-- the contents of a new object: the demands on them, the node, the type of the target, and the mark
+-- of the resulting pointer
 pub record Made : Type 0 where
   pub asked : List Demand
   pub initial : typed.Initial
@@ -525,7 +537,7 @@ on_heap = record { asked = []; placement = OnHeap; region = regions.Heap }
 abbrev pub as_unique : Placed
 as_unique = record { asked = []; placement = AsUnique; region = regions.Unique }
 
--- the placement by a handle at this place, whose region must be live
+-- the placement of a new object by a region handle; the handle's region must be live
 abbrev pub by_handle : Scope → Place → typed.Expression → Placed
 by_handle g p a = record {
   asked = demand codes.TypeMismatch p (is_value is_handle (type_of a)) ∷ live_wanted g (type_of a) p ∷ [];
@@ -533,13 +545,14 @@ by_handle g p a = record {
   region = region_of (value_of (type_of a));
 }
 
--- the rule for a placement; `unique_region` is allowed only here, in parentheses or not
+-- the rule for the placement of a new object; `unique_region` is allowed only as such a placement,
+-- in parentheses or not
 abbrev pub rule_placement : Scope → Place → Expression → (walked : Rule typed.Expression) → Rule Placed
 rule_placement g p (UniqueRegion q) walked = gives as_unique
 rule_placement g p (Bracketed q e) walked = rule_placement g p e walked
 rule_placement g p e walked = Part walked (λ a. gives (by_handle g p a))
 
--- the demands on the content of a cell: it is a value, and no key
+-- the demands on the initial content of a memory cell: it has a value, and the value is no key
 abbrev pub element_demanded : ValueType → Place → List Demand
 element_demanded t p = value_wanted t p ∷ demand codes.RegionOrKeyMisused p (not (is_value is_key t)) ∷ []
 
@@ -551,7 +564,7 @@ plain_made p a = record {
   mark = marks.NonNull;
 }
 
--- the contents `{for x < n : e}`, with the places of `for`, n and e
+-- the contents `{for x < n : e}` of a new array, from the positions of `for`, n and e
 abbrev pub array_made : (level : ℕ) → Place → Place → typed.Expression → Place → typed.Expression → Made
 array_made level o p a q b = record {
   asked = int_wanted (type_of a) p ∷ element_demanded (type_of b) q;
@@ -560,7 +573,7 @@ array_made level o p a q b = record {
   mark = marks.Fat;
 }
 
--- the types of a struct's fields, for these region arguments
+-- the types of a struct's fields, with the region arguments of the struct substituted
 abbrev pub field_types : List Region → List Field → List Ty
 field_types rs fs = map (λ (f : Field). substituted_ty rs f.of_type) fs
 
@@ -613,15 +626,16 @@ abbrev mutual
   rule_all g NoExpressions = gives []
   rule_all g (MoreExpressions e es) = Part (rule g e) (λ a. Part (rule_all g es) (λ as'. gives (a ∷ as')))
 
-  -- The rule for the operators of a chain that begins at this place, after a left operand of this type, possibly a peek. The rule derives
-  -- the operations of the chain and the type of the whole.
+  -- The rule for the operators of a chain that begins at position p, after a left operand of the given type, possibly a peek. The rule
+  -- derives the typed operations of the chain and the type of the chain's value.
   pub rule_chain : Scope → Place → Option ℕ → ValueType → Operations → Rule (typed.Operations × Ty)
   rule_chain g p k left NoOperations = Own (value_wanted left p ∷ []) (typed.NoOperations, value_of left)
   rule_chain g p k left (ThenOperation o q e os) =
       Part (Part (operand (is_looking o) (rule g e) (rule_looked g e (rule g e))) (λ a. joined g p k left o (place_of e) (as_int a)))
       (λ put. Part (rule_chain g p None (Value put.1) os) (λ bs. gives (put.0 bs.0, bs.1)))
 
-  -- The rule for an expression as a place. An expression that is not a place is first checked by the rule `walked`, and then rejected.
+  -- The rule for an expression used as an lvalue. An expression that is not an lvalue is first checked by the rule `walked`, and then
+  -- rejected.
   pub rule_place : Scope → Place → Expression → (walked : Rule typed.Expression) → Rule Found
   rule_place g p (Variable x) walked = place_meant (meaning_of g x) x.place p
   rule_place g p (Bracketed q e) walked = rule_place g p e walked
@@ -629,14 +643,14 @@ abbrev mutual
   rule_place g p (Chained e ps) walked = Part (rule_postfixed g (place_of e) (rule_looked g e (rule g e)) ps) (λ w. reached w)
   rule_place g p e walked = Part walked (λ a. Refused (fault_at codes.NotAPlace p))
 
-  -- The rule for the cell that postfixes lead to, after an operand at this place with this rule. (A tree of a text has at least one
-  -- postfix.)
+  -- The rule for the memory cell that an operand with postfixes denotes. (A tree of a source text has at least one postfix.)
   pub rule_postfixed : Scope → Place → (first : Rule typed.Expression) → Postfixes → Rule Reached
   rule_postfixed g p first NoPostfixes = Refused (fault_at codes.NotAPlace p)
   rule_postfixed g p first (ThenIndex i ps) = Part first (λ a. Part (rule g i) (λ b. rule_further g p (indexed g p a (place_of i) (as_int b)) ps))
   rule_postfixed g p first (ThenField f ps) = Part first (λ a. rule_further g p (selected g p a f) ps)
 
-  -- the rule for the postfixes after a cell, which is read if there are any
+  -- the rule for the postfixes after a memory cell; if there is a further postfix, the cell is read
+  -- first
   pub rule_further : Scope → Place → Reached → Postfixes → Rule Reached
   rule_further g p w NoPostfixes = gives w
   rule_further g p w (ThenIndex i ps) = Part (loaded p w) (λ a. Part (rule g i) (λ b. rule_further g p (indexed g p a (place_of i) (as_int b)) ps))

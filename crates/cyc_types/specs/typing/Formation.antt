@@ -1,6 +1,6 @@
--- A written type is mapped to a type by total functions, with defaults for omitted parts and unknown names. The faults of a written type
--- are demands, stated separately. (That a region may be omitted is Cyclone's, Grossman et al. 2002; the defaults, the codes and their order
--- are this project's own choice.)
+-- A type as written in the source is mapped to a type by total functions, with defaults for omitted parts and unknown names. The faults of
+-- a written type are demands, stated separately. (That a region may be omitted is Cyclone's, Grossman et al. 2002; the defaults, the codes
+-- and their order are this project's own choice.)
 use Rattle.std.specs.Prelude.{ℕ, suc, Bool, true, false, nat_eq, not, ◌||◌, if◌then◌else◌, List, [], ◌∷◌, ◌++◌, map, replicate, length, Option, None, Some, is_some, unwrap_or}
 use Rattle.cyc_words.specs.declared.fault.Code.TheVariants as codes
 use Rattle.cyc_syntax.specs.declared.tree.PointerKind.{PointerKind}
@@ -17,7 +17,7 @@ use Rattle.cyc_types.specs.typing.Scopes.{RegionName, StructName, region_among}
 
 -- ---- structs
 
--- the index of the struct of this name; the first struct of that name counts
+-- the index of the first struct with the name x
 abbrev pub struct_number : List StructName → ℕ → ℕ
 struct_number [] x = 0
 struct_number (s ∷ structs) x = if nat_eq s.name x then 0 else suc (struct_number structs x)
@@ -28,16 +28,16 @@ parameters_among (s ∷ structs) x = if nat_eq s.name x then Some s.parameters e
 
 -- ---- the meaning of a written type, given the known structs and region names
 
--- the region of a name; an unknown name denotes the heap
+-- the region that a name denotes; an unknown name denotes the heap
 abbrev pub region_of : List RegionName → Named → Region
 region_of names r = unwrap_or (region_among names r.name) Heap
 
--- the region of a mark, or this default if it is omitted
+-- the region of a pointer mark, or the default region if the mark has none
 abbrev pub region_or : List RegionName → Region → Option Named → Region
 region_or names left_out None = left_out
 region_or names left_out (Some r) = region_of names r
 
--- the region arguments; omitted arguments are the heap
+-- the region arguments of a struct; omitted arguments are the heap
 abbrev pub arguments_or : List RegionName → ℕ → List Named → List Region
 arguments_or names n [] = replicate n Heap
 arguments_or names n (r ∷ rs) = map (region_of names) (r ∷ rs)
@@ -52,7 +52,8 @@ base_written structs names (Struct s rs) = struct_written structs names s rs
 base_written structs names (Handle r) = types.Handle (region_of names r)
 base_written structs names (Key r) = types.Key (region_of names r)
 
--- the default for an omitted region: this region for the outermost (last) mark, the heap for all others
+-- the default for an omitted region: `outermost` for the outermost (last) pointer mark, the heap for
+-- all other marks
 abbrev pub left_out_at : Region → List Pointer → Region
 left_out_at outermost [] = outermost
 left_out_at outermost (m ∷ ms) = Heap
@@ -61,13 +62,14 @@ abbrev pub pointers_written : List RegionName → Region → Ty → List Pointer
 pointers_written names outermost t [] = t
 pointers_written names outermost t (m ∷ ms) = pointers_written names outermost (types.Pointer m.kind t (region_or names (left_out_at outermost ms) m.region)) ms
 
--- the type of a written type; an omitted region is the given one at the outermost mark, and the heap elsewhere
+-- the type denoted by a written type; an omitted region is `outermost` at the outermost pointer mark, and the
+-- heap elsewhere
 abbrev pub type_written : List StructName → List RegionName → (outermost : Region) → WrittenType → Ty
 type_written structs names outermost w = pointers_written names outermost (base_written structs names w.base) w.marks
 
 -- ---- the types of parameters, which declare the region names in them; each omitted region is a new one
 
--- the region names known so far, and the number of the next region
+-- the region names declared so far, and the number of the next region
 pub record Naming : Type 0 where
   pub names : List RegionName
   pub next : ℕ
@@ -143,7 +145,7 @@ after_members n (m ∷ ms) = after_members (after_type n m.of_type) ms
 
 -- ---- the faults of a written type
 
--- true if the name is known and denotes this region
+-- returns true if a name is declared and denotes the given region
 abbrev pub is_name_of : List RegionName → Region → Named → Bool
 is_name_of names region r = stands_for (region_among names r.name)
   where
@@ -154,13 +156,14 @@ is_name_of names region r = stands_for (region_among names r.name)
 abbrev pub is_known : List RegionName → Named → Bool
 is_known names r = is_some (region_among names r.name)
 
--- The demand on a region name: outside a parameter it is known. A parameter may declare it, but not with the name of the function's own
--- region.
+-- The demand on a region name: outside a parameter the name is declared. A parameter may declare the name, but not with the name of the
+-- function's own region.
 abbrev pub name_demanded : List RegionName → (own : Option ℕ) → Named → Demand
 name_demanded names None r = demand codes.UnknownName r.place (is_known names r)
 name_demanded names (Some own) r = demand codes.DeclaredTwice r.place (not (nat_eq r.name own))
 
--- the demands that the unique region occurs only after a mark, and that the heap has no key
+-- the demand that a region name does not denote the unique region, which is allowed only after a
+-- pointer mark; the heap has no key
 abbrev pub no_unique_demanded : List RegionName → Named → Demand
 no_unique_demanded names r = demand codes.RegionOrKeyMisused r.place (not (is_name_of names Unique r))
 
@@ -171,12 +174,13 @@ abbrev pub names_demanded : List RegionName → (own : Option ℕ) → List Name
 names_demanded names own [] = []
 names_demanded names own (r ∷ rs) = name_demanded names own r ∷ no_unique_demanded names r ∷ names_demanded names own rs
 
--- true if there are no arguments, or as many as the struct has parameters
+-- returns true if a struct has no region arguments, or as many as region parameters
 abbrev pub is_count : Option ℕ → List Named → Bool
 is_count None rs = true
 is_count (Some n) rs = is_empty rs || nat_eq (length rs) n
 
--- the demands on a struct and its arguments, in a type that begins at this place
+-- the demands on a struct name and its region arguments, in a written type that begins at position
+-- p
 abbrev pub struct_demanded : List StructName → List RegionName → (own : Option ℕ) → Place → Named → List Named → List Demand
 struct_demanded structs names own p s rs =
     demand codes.UnknownName s.place (is_some (parameters_among structs s.name))
@@ -203,7 +207,8 @@ is_fat_mark marks.Nullable = false
 is_fat_mark marks.NonNull = false
 is_fat_mark marks.Fat = true
 
--- true if the shape of the type is allowed: a struct only as the target of a thin pointer, and no pointer to a key
+-- returns true if a type's shape is allowed: a struct only as the target of a thin pointer, and no pointer to a
+-- key
 abbrev pub is_shape : BaseType → List Pointer → Bool
 is_shape Int ms = true
 is_shape Char ms = true
@@ -220,11 +225,11 @@ abbrev pub is_key_base : BaseType → Bool
 is_key_base (Key r) = true
 is_key_base b = false
 
--- the demands on a field, which is not a key
+-- the demands on the type of a field; a field is not a key
 abbrev pub field_demanded : List StructName → List RegionName → WrittenType → List Demand
 field_demanded structs names w = type_demanded structs names None w ++ demand codes.RegionOrKeyMisused w.place (not (is_key_base w.base)) ∷ []
 
--- true if a global may have this type: an int, a char or a pointer
+-- returns true if a global may have a written type: an int, a char or a pointer
 abbrev pub is_global_shape : BaseType → List Pointer → Bool
 is_global_shape Int ms = true
 is_global_shape Char ms = true

@@ -1,5 +1,5 @@
--- The typing rules of a program: first all signatures in order, then the presence of `main`, then the function bodies in order. (The form
--- of `main` and the order are this project's own choice.)
+-- The typing rules of a program check first all signatures in order, then that `main` is declared, then the function bodies in order.
+-- (The form of `main` and the order are this project's own choice.)
 use Rattle.std.specs.Prelude.{ℕ, suc, ◌+◌, ◌-◌, ◌%◌, ◌^◌, false, nat_eq, if◌then◌else◌, List, [], ◌∷◌, ◌++◌, map, length, Option, Some, None, codes as bytes}
 use Rattle.cyc_words.specs.declared.fault.Code.TheVariants as codes
 use Rattle.cyc_words.specs.declared.fault.Fault.{Fault}
@@ -27,7 +27,7 @@ abbrev pub regions_before : List (List ℕ) → List RegionName
 regions_before texts =
     record { name = number_of texts (bytes "H"); region = regions.Heap } ∷ record { name = number_of texts (bytes "U"); region = regions.Unique } ∷ []
 
--- the built-in exceptions, in the order of their numbers from 1; none has an int
+-- the built-in exceptions, in the order of their numbers from 1; no built-in exception has an int
 abbrev pub exceptions_before : List (List ℕ) → List Exception
 exceptions_before texts =
     map (λ (x : List ℕ). record { name = number_of texts x; has_int = false })
@@ -52,7 +52,7 @@ before_all texts = record {
 
 -- ---- function bodies
 
--- what is known in all function bodies
+-- the declarations of a program that are known in all function bodies
 pub record Program : Type 0 where
   pub known : Known
   pub fields : List (List Field)
@@ -67,21 +67,24 @@ program_known texts tree = record {
   declared = declared_before texts ++ declared_from (known_of texts tree) 0 0 tree;
 }
 
--- the parameters as locals, newest first, before the given ones; the first parameter has this number
+-- adds a function's parameters to the list of locals, newest first; the first parameter gets the
+-- number n
 abbrev pub parameter_locals : List Member → List Ty → ℕ → List LocalVariable → List LocalVariable
 parameter_locals (m ∷ ms) (t ∷ ts) n vs = parameter_locals ms ts (suc n) (record { name = m.name.name; number = n; of_type = t; region = 0; sort = Ordinary } ∷ vs)
 parameter_locals ms ts n vs = vs
 
--- the region names in a body: the function's own region and those of the parameters
+-- the region names known in a function's body: the function's own region and those of the
+-- parameters
 abbrev pub body_names : Known → Named → Parameters → List RegionName
 body_names k x ps = record { name = x.name; region = regions.Variable 0 } ∷ (parameter_naming k ps).names
 
--- The region context of a body: its own region opens while the regions of the effect are live.
+-- The region context of a function's body: the body's own region opens while the regions of the
+-- effect are live.
 abbrev pub body_regions : Signature → RegionContext
 body_regions s =
     with_scope kinds.Block (regions.Variable 0) (record { written = s.constraints; live = regions.Heap ∷ regions.Unique ∷ s.effect; opened = [] })
 
--- the scope of a function's body, which it shares with the parameters
+-- the scope of a function's body; the parameters belong to the same scope
 abbrev pub body_scope : Program → Signature → Named → Parameters → Scope
 body_scope p s x ps = record {
   structs = p.known.structs;
@@ -129,12 +132,12 @@ rule_functions p (Function r x ps b ∷ tree) =
 
 -- ---- programs
 
--- the word of a global initialized by this value; a char keeps only the low byte
+-- the word that a global holds if it is initialized by a number; a char keeps only the low byte
 abbrev pub word_of : Ty → ℕ → ℕ
 word_of Char n = n % 256
 word_of t n = n
 
--- the initial value of a global; an omitted value is 0 or null
+-- the initial value of a global; an omitted initial value is 0 or null
 abbrev pub constant_of : Ty → Option GlobalValue → typed.Constant
 constant_of t None = if is_pointer t then typed.Null else typed.Word 0
 constant_of t (Some (Positive p n)) = typed.Word (word_of t n)
@@ -156,7 +159,7 @@ abbrev pub struct_types : List StructName → List (List Field) → List typed.S
 struct_types (s ∷ structs) (fs ∷ fields) = record { parameters = s.parameters; fields = map (λ (f : Field). f.of_type) fs } ∷ struct_types structs fields
 struct_types structs fields = []
 
--- the number of the function of this name
+-- the number of the function named `main`
 abbrev pub function_number : ℕ → List Declaration → ℕ
 function_number main [] = 0
 function_number main (StructType s rs ms ∷ tree) = function_number main tree
@@ -173,7 +176,7 @@ program_of p tree fs = record {
   main = function_number p.known.main tree;
 }
 
--- the place of a fault that concerns no place of the text
+-- the source position of a fault that belongs to no position of the text
 abbrev pub start : Place
 start = record { line = 1; column = 1 }
 
@@ -183,20 +186,21 @@ rule_program_known p b tree =
     (λ u. Part (demands (demand codes.BadMain start (declares p.known.main tree) ∷ []))
     (λ v. Part (rule_functions p tree) (λ fs. gives (program_of p tree fs))))
 
--- the rule for a program, whose names have the numbers of their texts in the list
+-- the typing rule for a program; the number of a name is the index of its text in `texts`
 abbrev pub rule_program : List (List ℕ) → List Declaration → Rule typed.Program
 rule_program texts tree = rule_program_known (program_known texts tree) (before_all texts) tree
 
 -- ---- the judgements of the rules
 
--- The program is well-typed with this typed tree. The names of the program have the numbers of their texts in the list.
+-- Says that the program is well-typed with the given typed tree. The number of a name is the index of its text in the
+-- list.
 abbrev pub IsTypedProgram : List (List ℕ) → List Declaration → typed.Program → Type 0
 IsTypedProgram texts tree p = Derives (rule_program texts tree) p
 
--- The typing rules reject the program with this fault.
+-- Says that the typing rules reject the program with this fault.
 abbrev pub IsRefusedProgram : List (List ℕ) → List Declaration → Fault → Type 0
 IsRefusedProgram texts tree f = Refuses (rule_program texts tree) f
 
--- the typed tree of a program, or its first fault
+-- returns the typed tree of a program, or its first typing fault
 abbrev pub check_of : List (List ℕ) → List Declaration → Checked typed.Program
 check_of texts tree = run (rule_program texts tree)

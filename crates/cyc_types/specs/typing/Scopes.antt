@@ -1,6 +1,6 @@
 -- The meaning of names at an expression or a statement, and the numbers of a function's locals and regions. Identifiers and region names
--- share one numbering. Structs, exceptions, functions with globals, and regions are separate name spaces. (Scopes of names are C's; the
--- numbers are this project's own choice.)
+-- share one numbering. Four name spaces are separate: structs, exceptions, functions with globals, and regions. (Scopes of names are
+-- C's; the numbers are this project's own choice.)
 use Rattle.std.specs.Prelude.{ℕ, suc, ◌+◌, Bool, true, false, nat_eq, ◌&&◌, ◌||◌, if◌then◌else◌, List, [], ◌∷◌, ◌++◌, Option, None, Some}
 use Rattle.std.specs.List.{list_any}
 use Rattle.cyc_syntax.specs.Symbols.{Place}
@@ -17,7 +17,7 @@ use Rattle.cyc_types.specs.TypedTrees.{Lvalue, Local, Signature}
 
 -- ---- declared entities
 
--- a region name, and the region that it denotes
+-- a region name, and the region that the name denotes
 pub record RegionName : Type 0 where
   pub name : ℕ
   pub region : RegionCode
@@ -27,7 +27,7 @@ pub record StructName : Type 0 where
   pub name : ℕ
   pub parameters : ℕ
 
--- a field of a struct; in its type, the i-th region parameter is the region variable i
+-- a field of a struct; in the field's type, the i-th region parameter is region variable i
 pub record Field : Type 0 where
   pub name : ℕ
   pub of_type : Ty
@@ -36,73 +36,76 @@ pub record Exception : Type 0 where
   pub name : ℕ
   pub has_int : Bool
 
--- the meaning of a name
+-- the meaning of a name: unknown, a variable, a fixed variable, a counter or a function
 pub data Meaning : Type 0 where
   Unknown : Meaning
-  -- a variable that may be assigned, with the region that contains it
+  -- a name that denotes a variable that may be assigned; `home` is the region that contains it
   Variable : Lvalue → Ty → (home : RegionCode) → Meaning
-  -- the variable of a `region` item, which may not be assigned
+  -- a name that denotes the handle declared by a `region` item, which may not be assigned
   Fixed : Lvalue → Ty → Meaning
-  -- the variable of a `for`, by the number of enclosing `for`s; it may not be assigned
+  -- a name that denotes the counter of an array `for`, numbered by the number of enclosing
+  -- `for`s; a counter may not be assigned
   Counter : (level : ℕ) → Meaning
   Routine : Callee → Signature → Meaning
 
--- a function or a global
+-- the name of a function or global, and its meaning
 pub record Declared : Type 0 where
   pub name : ℕ
   pub meaning : Meaning
 
--- the signature of a built-in function, which takes values of these types and returns an int
+-- the signature of a built-in function whose parameters have the given types and whose result is an
+-- int
 abbrev pub signature_of_ints : List Ty → Signature
 signature_of_ints ts = record { variables = 0; parameters = ts; result = Some Int; effect = []; constraints = [] }
 
--- the construct that declares a local
+-- the kind of construct that declares a local
 pub data Sort : Type 0 where
   Ordinary : Sort
-  -- declared by a `region` item
+  -- the local is declared by a `region` item
   OfRegion : Sort
-  -- declared by a `for`
+  -- the local is declared by an array `for`
   OfLoop : Sort
 
--- a local or a parameter, or the variable of a `for`
+-- a local variable or a parameter, or the counter of an array `for`
 pub record LocalVariable : Type 0 where
   pub name : ℕ
-  -- the number of the local in its function; for the variable of a `for`, its level
+  -- the number of the local in its function; for the counter of a `for`, its level
   pub number : ℕ
   pub of_type : Ty
-  -- the number of the region of the block that declares it
+  -- the number of the region of the block that declares the local
   pub region : ℕ
   pub sort : Sort
 
 pub record Scope : Type 0 where
-  -- the structs and exceptions of the program by number, and the structs' fields; the first exception has the number 1
+  -- the structs and exceptions of the program, indexed by number, and the fields of the structs; the first exception
+  -- has the number 1
   pub structs : List StructName
   pub fields : List (List Field)
   pub exceptions : List Exception
-  -- the functions and globals of the program
+  -- the functions and globals of the program, with their meanings
   pub program : List Declared
-  -- the result type of the function
+  -- the result type of the enclosing function
   pub result : Option Ty
-  -- the region names in scope, the newest first
+  -- the region names in scope, newest first
   pub names : List RegionName
-  -- the region names that the function has declared so far, in scope or not
+  -- the region names that the function has declared so far, including those no longer in scope
   pub taken : List ℕ
-  -- the live regions and the outlives constraints
+  -- the live regions and the outlives constraints at this program point
   pub regions : RegionContext
-  -- the locals in scope, the newest first
+  -- the locals in scope, newest first
   pub locals : List LocalVariable
-  -- the numbers of the next local and of the next region
+  -- the numbers that the next declared local and the next declared region get
   pub next_local : ℕ
   pub next_region : ℕ
-  -- the region of the innermost block
+  -- the number of the region of the innermost enclosing block
   pub region : ℕ
   pub in_loop : Bool
-  -- the number of enclosing `for`s
+  -- the number of enclosing array `for`s
   pub counters : ℕ
 
 -- ---- regions
 
--- the region that a name denotes, if it is known
+-- the region that a name denotes, if the name is declared
 abbrev pub region_among : List RegionName → ℕ → Option RegionCode
 region_among [] x = None
 region_among (r ∷ rs) x = if nat_eq r.name x then Some r.region else region_among rs x
@@ -131,7 +134,7 @@ meaning_among (v ∷ vs) ds x = if nat_eq v.name x.name then local_meaning v.sor
 abbrev pub meaning_of : Scope → Named → Meaning
 meaning_of g x = meaning_among g.locals g.program x
 
--- true if the block with this region declares a local of this name
+-- returns true if the block with the given region declares a local named x
 abbrev pub is_declared_in : ℕ → List LocalVariable → ℕ → Bool
 is_declared_in region [] x = false
 is_declared_in region (v ∷ vs) x = (nat_eq v.name x && nat_eq v.region region) || is_declared_in region vs x
@@ -171,7 +174,8 @@ abbrev mutual
   clause_locals (Default is) = item_locals is
   clause_locals (Case x v is cs) = counted v + item_locals is + clause_locals cs
 
--- The number of regions. Each block has one, labelled or not, and so do the items of a clause. An opened region is counted at its key.
+-- The number of regions that a statement declares. Each block, labelled or not, declares one region; so do the items of a clause.
+-- Opening a dynamic region declares none, because the region is counted where its key is declared.
 abbrev mutual
   pub regions_in : Statement → ℕ
   regions_in (Block b) = suc (body_regions b)
@@ -235,49 +239,50 @@ abbrev mutual
 
 -- ---- scopes
 
--- after a statement: what it declares is out of scope, its numbers are used, and its names of regions are taken
+-- the scope after a statement: the statement's declarations are out of scope, their numbers are used, and their
+-- region names are taken
 abbrev pub following : Scope → Statement → Scope
 following g s = record g { next_local = g.next_local + locals_in s; next_region = g.next_region + regions_in s; taken = names_in s ++ g.taken }
 
--- the region context with one more open scope of this region
+-- the region context in which one more scope, with the given region, is open
 abbrev pub with_scope : Kind → RegionCode → RegionContext → RegionContext
 with_scope k r c = record c { opened = record { region = r; kind = k } ∷ c.opened }
 
--- the scope inside a block
+-- the scope inside a block of the given scope
 abbrev pub in_block : Scope → Scope
 in_block g = record g { region = g.next_region; next_region = suc g.next_region; regions = with_scope kinds.Block (regions.Variable g.next_region) g.regions }
 
--- the scope in which the next region has this name
+-- the scope in which the next region number has the given name
 abbrev pub with_name : Named → Scope → Scope
 with_name r g = record g { names = record { name = r.name; region = regions.Variable g.next_region } ∷ g.names; taken = r.name ∷ g.taken }
 
--- the scope inside a labelled block
+-- the scope inside a block that has a label
 abbrev pub in_labelled : Named → Scope → Scope
 in_labelled l g = in_block (with_name l g)
 
--- the scope inside the body of a loop
+-- the scope inside the body of a loop, in which `break` and `continue` are allowed
 abbrev pub in_body : Scope → Scope
 in_body g = record g { in_loop = true }
 
--- the scope after the declaration of a local
+-- the scope after a local has been declared
 abbrev pub with_local : Sort → Named → Ty → Scope → Scope
 with_local s x t g = record g {
   locals = record { name = x.name; number = g.next_local; of_type = t; region = g.region; sort = s } ∷ g.locals;
   next_local = suc g.next_local;
 }
 
--- the scope inside the element of a `for` with this variable
+-- the scope inside the element expression of an array `for` with the given counter variable
 abbrev pub with_counter : Named → Scope → Scope
 with_counter x g = record g {
   locals = record { name = x.name; number = g.counters; of_type = Int; region = g.region; sort = OfLoop } ∷ g.locals;
   counters = suc g.counters;
 }
 
--- the scope after an item that declares a region of this name and opens it
+-- the scope after an item that declares a region with a name and opens it
 abbrev pub with_opened : Kind → Named → Scope → Scope
 with_opened k r g = record (with_name r g) { next_region = suc g.next_region; regions = with_scope k (regions.Variable g.next_region) g.regions }
 
--- the scope after an item that declares a region without opening it
+-- the scope after an item that declares a region with a name without opening it
 abbrev pub with_region : Named → Scope → Scope
 with_region r g = record (with_name r g) { next_region = suc g.next_region }
 

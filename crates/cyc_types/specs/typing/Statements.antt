@@ -1,6 +1,6 @@
--- The typing rules of statements, of items and of clauses. Statements are checked in order, and so are the parts of an item as written. The
--- initial value of a local is checked before the local's name. (Lexical and dynamic regions and aliases are Cyclone's, Grossman et al. 2002
--- and the User's Manual, 1.0. Codes, places and their order are this project's own choice.)
+-- The typing rules of statements, of block items and of catch clauses. Statements are checked in order, and the parts of an item in the
+-- order of the source. The initial value of a local is checked before the local's name. (Lexical and dynamic regions and aliases are
+-- Cyclone's, Grossman et al. 2002 and the User's Manual, 1.0. Codes, positions and their order are this project's own choice.)
 use Rattle.std.specs.Prelude.{ℕ, suc, ◌+◌, Bool, true, false, not, nat_eq, ◌&&◌, ◌||◌, if◌then◌else◌, List, [], ◌∷◌, ◌++◌, Option, Some, None, is_some, option_map}
 use Rattle.std.specs.List.{list_any}
 use Rattle.cyc_words.specs.declared.fault.Code.TheVariants as codes
@@ -25,8 +25,8 @@ use Rattle.cyc_types.specs.typing.Expressions.{conversion, converted, as_int, te
 abbrev pub rule_condition : Scope → Expression → Rule typed.Expression
 rule_condition g e = Part (rule_looked g e (rule g e)) (λ a. Own (test_wanted (type_of (as_int a)) (place_of e) ∷ []) (as_int a))
 
--- The rule for a returned value: a function returns one exactly if it has a result. `return` is at the first place, the value at the
--- second.
+-- The rule for a returned value: a function returns a value exactly if it has a result type. `return` is at position p, the value at
+-- position q.
 abbrev pub returned : Scope → Option Ty → Place → Place → typed.Expression → Rule (Option Converted)
 returned g None p q a = Refused (fault_at codes.TypeMismatch p)
 returned g (Some t) p q a = Own (conversion g.regions (type_of a) t q) (Some (converted a t))
@@ -35,19 +35,19 @@ abbrev pub rule_returned : Scope → Place → Option Expression → Rule (Optio
 rule_returned g p None = Own (demand codes.TypeMismatch p (is_left_out g.result) ∷ []) None
 rule_returned g p (Some e) = Part (rule g e) (λ a. returned g g.result p (place_of e) a)
 
--- the rule for a statement that is allowed only in a loop
+-- the rule for `break` and `continue`, which are allowed only in a loop
 abbrev pub in_loop_alone : Scope → Place → typed.Statement → Rule typed.Statement
 in_loop_alone g p s = Own (demand codes.OutsideLoop p g.in_loop ∷ []) s
 
--- The rule for a swap: both places have one type, which is not a struct. The given place of the text is where the first swapped place
--- begins.
+-- The rule for a swap: both sides have the same type, which is not a struct type. A fault of the swap has the position where the
+-- first side begins.
 abbrev pub swapped : Place → Found → Found → Rule typed.Statement
 swapped p x y =
     Own (demand codes.TypeMismatch p (ty_eq (type_of_side x.side) (type_of_side y.side) && not (is_struct (type_of_side x.side))) ∷ []) (typed.Swap x.side y.side)
 
 -- ---- exceptions
 
--- the number of the exception of this name
+-- the number of the exception named x
 abbrev pub exception_number : List Exception → ℕ → ℕ
 exception_number [] x = 1
 exception_number (e ∷ es) x = if nat_eq e.name x then 1 else suc (exception_number es x)
@@ -56,7 +56,7 @@ abbrev pub exception_among : List Exception → ℕ → Option Bool
 exception_among [] x = None
 exception_among (e ∷ es) x = if nat_eq e.name x then Some e.has_int else exception_among es x
 
--- true if an int is given exactly if one is declared
+-- returns true if a throw gives an int exactly if its exception is declared with an int
 abbrev pub is_given : (declared given : Bool) → Bool
 is_given declared given = if declared then given else not given
 
@@ -73,32 +73,35 @@ abbrev pub thrown : Scope → Option Bool → Named → Option Expression → Op
 thrown g None x v a = Refused (fault_at codes.UnknownName x.place)
 thrown g (Some has) x v a = Own (thrown_demanded has x.place v a) (typed.Throw (exception_number g.exceptions x.name) a)
 
--- the rule for a clause: no earlier clause catches the exception, and it has an int exactly if it is declared with one
+-- the rule for a catch clause: no earlier clause catches the exception, and the clause receives an int exactly if the
+-- exception is declared with one
 abbrev pub caught : Scope → Option Bool → (before : List ℕ) → Named → Option Named → Rule ℕ
 caught g None before x v = Refused (fault_at codes.UnknownName x.place)
 caught g (Some has) before x v =
     Own (demand codes.DeclaredTwice x.place (not (list_any (nat_eq x.name) before)) ∷ demand codes.TypeMismatch x.place (is_given has (is_some v)) ∷ [])
     (exception_number g.exceptions x.name)
 
--- the scope inside the items of a clause: a block with the local that receives the int
+-- the scope inside the items of a catch clause: a block with the local that receives the
+-- exception's int
 abbrev pub with_caught : Option Named → Scope → Scope
 with_caught None g = g
 with_caught (Some v) g = with_local Ordinary v Int g
 
--- the scope after a clause
+-- the scope after a catch clause
 abbrev pub after_clause : Scope → (locals : ℕ) → Items → Scope
 after_clause g n is = record g { next_local = g.next_local + (n + item_locals is); next_region = g.next_region + suc (item_regions is); taken = item_names is ++ g.taken }
 
 -- ---- items
 
--- the demand that the name of a local is new in its block, and that of a region new in its function
+-- the demand that the name of a new local is not yet declared in its block
 abbrev pub new_demanded : Scope → Named → Demand
 new_demanded g x = demand codes.DeclaredTwice x.place (not (is_declared g x))
 
 abbrev pub new_name_demanded : Scope → Named → Demand
 new_name_demanded g r = demand codes.DeclaredTwice r.place (not (is_taken g r))
 
--- the default for a local's omitted outermost region: that of its initial value, if it is a pointer
+-- the default for a local's omitted outermost region: the region of its initial value, if this
+-- value is a pointer
 abbrev pub left_out_of : ValueType → RegionCode
 left_out_of (Value (Pointer k t r)) = r
 left_out_of t = regions.Heap
@@ -106,12 +109,12 @@ left_out_of t = regions.Heap
 abbrev pub local_type : Scope → ValueType → WrittenType → Ty
 local_type g v w = type_written g.structs g.names (left_out_of v) w
 
--- The rule for a local of this type whose initial value is at this place. Of the faults of the local's name and its conversion, the lowest
--- code is reported.
+-- The rule for a local whose initial value is at position p. Of the faults of the local's name and of the value's conversion, the one with
+-- the lowest code is reported.
 abbrev pub initialised : Scope → Named → Place → typed.Expression → Ty → Rule (Ty × Option Converted)
 initialised g x p a t = Own (new_demanded g x ∷ conversion g.regions (type_of a) t p) (t, Some (converted a t))
 
--- the rule for the type of a local and its optional initial value
+-- the rule for the type of a declared local and its optional initial value
 abbrev pub rule_initial : Scope → WrittenType → Named → Option Expression → Rule (Ty × Option Converted)
 rule_initial g w x None = Own (new_demanded g x ∷ []) (type_written g.structs g.names regions.Heap w, None)
 rule_initial g w x (Some e) = Part (rule g e) (λ a. initialised g x (place_of e) a (local_type g (type_of a) w))
@@ -120,11 +123,11 @@ abbrev pub rule_local : Scope → WrittenType → Named → Option Expression �
 rule_local g w x v =
     Part (demands (type_demanded g.structs g.names None w)) (λ u. Part (rule_initial g w x v) (λ c. gives (typed.Declare g.next_local c.0 c.1)))
 
--- the rule for a lexical region and its handle
+-- the rule for the declaration of a lexical region and its handle
 abbrev pub rule_lexical : Scope → Named → Named → Rule typed.Item
 rule_lexical g r h = Own (new_name_demanded g r ∷ new_demanded g h ∷ []) (typed.DeclareRegion g.next_region g.next_local)
 
--- the rule for a dynamic region and its key
+-- the rule for the declaration of a dynamic region and its key
 abbrev pub rule_dynamic : Scope → Named → Named → Rule typed.Item
 rule_dynamic g r k = Own (new_name_demanded g r ∷ new_demanded g k ∷ []) (typed.DeclareKey g.next_region g.next_local)
 
@@ -132,13 +135,13 @@ abbrev pub number_of_region : RegionCode → ℕ
 number_of_region (regions.Variable n) = n
 number_of_region r = 0
 
--- the number of a local; a variable that is not a local gets an arbitrary number
+-- the number of a local; a global gets an arbitrary number
 abbrev pub local_number : Lvalue → ℕ
 local_number (typed.Local p n) = n
 local_number (Global n) = 0
 
--- The demands on opening a region r by the variable that a name denotes: it is a key, and r is the key's region. If the variable is not a
--- key, the region is unknown.
+-- The demands on opening a region r by the variable that a name denotes: the variable is a key, and r is the key's region. If the
+-- variable is not a key, the key's region is not checked.
 abbrev pub open_demanded : Scope → (r h : Named) → Place → Ty → List Demand
 open_demanded g r h p t =
     new_demanded g h
@@ -156,18 +159,18 @@ opened g r h (Routine f s) p = Refused (fault_at codes.TypeMismatch p)
 abbrev pub rule_opened : Scope → (r h k : Named) → Rule typed.Item
 rule_opened g r h k = Part (demands (demand codes.UnknownName r.place (is_known g.names r) ∷ [])) (λ u. opened g r h (meaning_of g k) k.place)
 
--- the pointer type with its own region replaced by this one
+-- replaces the region of a pointer type by the region r
 abbrev pub with_region_of : RegionCode → Ty → Ty
 with_region_of r (Pointer k t s) = Pointer k t r
 with_region_of r t = t
 
--- true for a local; a unique pointer in any other variable is shared
+-- returns true if a variable is a local; a unique pointer in any other variable is shared
 abbrev pub is_local : Lvalue → Bool
 is_local (typed.Local p n) = true
 is_local (Global n) = false
 
--- The demands on an alias: a local of the written type shares a variable of that type, except for the new region. An omitted region is that
--- of the shared value.
+-- The demands on an alias: a local of the written type shares a variable of the same type, except for the new region. If the alias's type
+-- omits its region, the region is that of the shared value.
 abbrev pub alias_demanded : Scope → Named → WrittenType → (written : Ty) → (is_shared : Bool) → Ty → Place → List Demand
 alias_demanded g x w u shared t p =
     new_demanded g x
@@ -192,14 +195,14 @@ rule_alias g r w x y =
     Part (demands (new_name_demanded g r ∷ []))
     (λ u. Part (demands (type_demanded g.structs (with_name r g).names None w)) (λ v. aliased g r x w (meaning_of g y) y.place))
 
--- the type of the local that a typed item declares
+-- the type of the local that a typed block item declares
 abbrev pub declared_type : typed.Item → Ty
 declared_type (typed.Declare n t v) = t
 declared_type (typed.DeclareAlias r n t p m) = t
 declared_type i = Int
 
--- The scope after an item of a block, given its typed tree. A declared local is in scope. A declared region is open, unless it is the
--- region of a new key.
+-- The scope after an item of a block, from the item's typed tree. A local that the item declares is in scope. A region that the item
+-- declares is open, unless it is the region of a new key.
 abbrev pub following_item : Scope → Item → typed.Item → Scope
 following_item g (Execute s) j = following g s
 following_item g (Local w x v) j = with_local Ordinary x (declared_type j) g
@@ -244,7 +247,7 @@ abbrev mutual
   rule_item g (Alias r w x y) = rule_alias g r w x y
   rule_item g (DynamicRegion r k) = rule_dynamic g r k
 
-  -- the rule for the clauses of a catch, after clauses for these exceptions
+  -- the rule for the clauses of a catch; `before` lists the exceptions that earlier clauses catch
   pub rule_clauses : Scope → (before : List ℕ) → Clauses → Rule typed.Clauses
   rule_clauses g before NoClauses = gives typed.NoClauses
   rule_clauses g before (Default is) = Part (rule_items (in_block g) is) (λ js. gives (typed.Default g.next_region js))

@@ -1,5 +1,5 @@
--- Tests on types, each a `Bool`, and functions that select the parts of a type, total by a default. (As in `Expressions`: types are
--- Cyclone's, Grossman et al. 2002; the default is this project's own choice.)
+-- Boolean tests on types, and functions that select the parts of a type; a default makes each selection total. (As in
+-- `Expressions`: types are Cyclone's, Grossman et al. 2002; the default is this project's own choice.)
 use Rattle.std.specs.Prelude.{ℕ, Bool, true, false, nat_eq, not, ◌&&◌, ◌||◌, List, [], ◌∷◌, Option, Some, None}
 use Rattle.cyc_syntax.specs.declared.tree.PointerKind.{PointerKind}
 use Rattle.cyc_syntax.specs.declared.tree.PointerKind.TheVariants.{Nullable, NonNull, Fat}
@@ -66,13 +66,13 @@ abbrev pub is_struct : Ty → Bool
 is_struct (Struct n rs) = true
 is_struct t = false
 
--- true for an int or a char, whose values are written as numbers
+-- returns true if a type is int or char, whose values are written as numbers
 abbrev pub is_number : Ty → Bool
 is_number Int = true
 is_number Char = true
 is_number t = false
 
--- true if a use of a variable of this type leaves it empty
+-- returns true if reading a variable of a type leaves the variable empty
 abbrev pub is_moved : Ty → Bool
 is_moved t = is_unique t || is_key t
 
@@ -94,7 +94,7 @@ abbrev pub is_char : ValueType → Bool
 is_char (Value Char) = true
 is_char t = false
 
--- true if the expression has a value whose type passes the test
+-- returns true if an expression has a value, and the value's type passes the test
 abbrev pub is_value : (Ty → Bool) → ValueType → Bool
 is_value test (Value t) = test t
 is_value test t = false
@@ -111,7 +111,7 @@ abbrev pub is_handle : Ty → Bool
 is_handle (Handle r) = true
 is_handle t = false
 
--- true if the value may be tested against zero or null
+-- returns true if a value may be tested against zero or null
 abbrev pub is_tested : ValueType → Bool
 is_tested (Value Int) = true
 is_tested (Value (Pointer k t r)) = true
@@ -131,7 +131,7 @@ abbrev pub mark_of : Ty → PointerKind
 mark_of (Pointer k t r) = k
 mark_of t = Nullable
 
--- the region that a pointer leads to, or the region of a handle or a key
+-- the region that a pointer points into, or the region of a handle or a key
 abbrev pub region_of : Ty → Region
 region_of (Pointer k t r) = r
 region_of (Handle r) = r
@@ -153,7 +153,7 @@ kind_of_mark Nullable = kinds.Nullable
 kind_of_mark NonNull = kinds.NonNull
 kind_of_mark Fat = kinds.Fat
 
--- the kind of a cell of this type; no cell has a struct type
+-- the kind of a memory cell with the given type; no cell has a struct type
 abbrev pub kind_of : Ty → Kind
 kind_of Int = kinds.Int
 kind_of Char = kinds.Char
@@ -162,7 +162,8 @@ kind_of (Handle r) = kinds.Handle
 kind_of (Key r) = kinds.Key
 kind_of (Struct n rs) = kinds.Int
 
--- the kind of a value; without a value the kind is never used
+-- the kind of an expression's value; for an expression without a value, the kind is arbitrary and
+-- never used
 abbrev pub kind_of_value : ValueType → Kind
 kind_of_value Void = kinds.Int
 kind_of_value Null = kinds.Nullable

@@ -1,8 +1,8 @@
--- THE JUDGEMENT ON TYPED TREES of the whole language: a tree is well-typed in its context, whatever text it came from. The judgement also
--- applies to the fragments in the states of a run: the remaining parts of a chain, of arguments, of a block. The typing rules derive
--- well-typed trees. The judgement contains all facts that a proof about runs needs. The rules ensure some of these facts without a demand:
--- declared numbers are fresh, and a variable's own region is live at its declaration. (Typing, regions, effects and outlives are those of
--- Grossman et al. 2002. The form of the judgement is this project's own choice.)
+-- The typing judgement on typed trees of the whole language: a tree is well-typed in its context, whether or not it comes from a source
+-- text. The judgement also applies to the remaining parts of a chain, of arguments or of a block in the states of an execution. The typing
+-- rules derive only well-typed trees. The judgement contains all facts that a proof about executions needs. The rules ensure some of these
+-- facts without a demand: declared numbers are fresh, and a variable's own region is live at its declaration. (Typing, regions, effects
+-- and outlives are those of Grossman et al. 2002. The form of the judgement is this project's own choice.)
 use Rattle.std.specs.Prelude.{◌≡◌, ◌≢◌, ◌⊎◌, ℕ, suc, ◌+◌, ◌<◌, ◌≤◌, Bool, true, false, List, [], ◌∷◌, ◌++◌, Option, Some, None, Contains, length, map, slice_get}
 use Rattle.cyc_syntax.specs.declared.tree.PointerKind.{PointerKind}
 use Rattle.cyc_syntax.specs.declared.tree.PointerKind.TheVariants as marks
@@ -30,37 +30,38 @@ use Rattle.cyc_types.specs.typing.Statements.{with_region_of}
 
 -- ---- the context of a tree
 
--- a local in scope
+-- a local variable that is in scope
 pub record LocalInScope : Type 0 where
   -- the number of the local in its function
   pub number : ℕ
   pub of_type : Ty
-  -- the number of the region of the block that declares it
+  -- the number of the region of the block that declares the local
   pub region : ℕ
-  -- true if the local may be assigned; the handle of a `region` item may not
+  -- true if the local may be assigned; the handle of a `region` item may not be assigned
   pub is_place : Bool
 
 pub record Context : Type 0 where
-  -- the structs of the program, by number
+  -- the structs of the program, indexed by number
   pub structs : List StructType
   pub exceptions : List Bool
   pub globals : List Ty
   pub functions : List Signature
-  -- the types of the function's locals by number, the number of its regions, and its result
+  -- the types of the function's locals by number, the number of the function's regions, and the
+  -- function's result type
   pub variables : List Ty
   pub region_count : ℕ
   pub result : Option Ty
-  -- the locals in scope, the newest first
+  -- the locals in scope, newest first
   pub locals : List LocalInScope
-  -- the numbers of the next local and of the next region
+  -- the numbers that the next declared local and the next declared region get
   pub next_local : ℕ
   pub next_region : ℕ
-  -- the region of the innermost block
+  -- the number of the region of the innermost enclosing block
   pub region : ℕ
-  -- the live regions and the outlives constraints
+  -- the live regions and the outlives constraints at this program point
   pub regions : RegionContext
   pub in_loop : Bool
-  -- the number of enclosing `for`s
+  -- the number of enclosing array `for`s
   pub counters : ℕ
 
 abbrev pub IsLive : Context → Region → Type 0
@@ -74,44 +75,45 @@ abbrev pub AreOutliving : Context → List (Region × Region) → Type 0
 AreOutliving c [] = Unit {0}
 AreOutliving c (p ∷ ps) = OutlivesIn c.regions p.0 p.1 × AreOutliving c ps
 
--- a local of this number and type is in scope, and the region of this number contains it
+-- says that a local with number n and type t is in scope and lies in region r
 abbrev pub HasLocal : List LocalInScope → ℕ → Ty → ℕ → Type 0
 HasLocal [] n t r = ⊥
 HasLocal (v ∷ vs) n t r = ((v.number ≡ n) × (v.of_type ≡ t) × (v.region ≡ r)) ⊎ HasLocal vs n t r
 
--- a local of this number and type is in scope and may be assigned
+-- says that a local with number n and type t is in scope, lies in region r and may be assigned
 abbrev pub HasPlace : List LocalInScope → ℕ → Ty → ℕ → Type 0
 HasPlace [] n t r = ⊥
 HasPlace (v ∷ vs) n t r = ((v.number ≡ n) × (v.of_type ≡ t) × (v.region ≡ r) × (v.is_place ≡ true)) ⊎ HasPlace vs n t r
 
--- the context gives the variable this type
+-- says that a variable has type t in the context
 abbrev pub IsVariable : Context → Lvalue → Ty → Type 0
 IsVariable c (Local p n) t = ((r : ℕ) × HasLocal c.locals n t r) × (slice_get c.variables n ≡ Some t)
 IsVariable c (Global n) t = slice_get c.globals n ≡ Some t
 
--- a variable of this type that may be assigned, in this region
+-- says that a variable of type t may be assigned and lies in region r
 abbrev pub IsPlace : Context → Lvalue → Ty → Region → Type 0
 IsPlace c (Local p n) t r = (m : ℕ) × HasPlace c.locals n t m × (r ≡ regions.Variable m) × (slice_get c.variables n ≡ Some t)
 IsPlace c (Global n) t r = (r ≡ regions.Heap) × (slice_get c.globals n ≡ Some t)
 
--- the context gives the callee this signature
+-- says that a callee has the given signature in the context
 abbrev pub IsCallee : Context → Callee → Signature → Type 0
 IsCallee c callees.Putchar s = s ≡ signature_of_ints (Int ∷ [])
 IsCallee c callees.Getchar s = s ≡ signature_of_ints []
 IsCallee c (callees.Function n) s = slice_get c.functions n ≡ Some s
 
--- None of the regions that instantiate a signature's variables (numbered from 1) is the unique region.
+-- Says that none of the regions that instantiate a signature's region variables (numbered from 1) is
+-- the unique region.
 abbrev pub AreNotUnique : List Region → Type 0
 AreNotUnique [] = Unit {0}
 AreNotUnique (r ∷ rs) = (r ≢ regions.Unique) × AreNotUnique rs
 
--- the context inside the element of a `for`
+-- the context inside the element expression of an array `for`
 abbrev pub with_counter : Context → Context
 with_counter c = record c { counters = suc c.counters }
 
 -- ---- expressions
 
--- a value of the first type can be converted to the second
+-- says that a value of the first type can be converted to the second type
 abbrev pub Converts : Context → ValueType → Ty → Type 0
 Converts c (Value Int) Int = Unit {0}
 Converts c (Value Int) Char = Unit {0}
@@ -123,22 +125,22 @@ Converts c (Value (Key r)) (Key s) = r ≡ s
 Converts c Null (Pointer k t r) = is_non_null (Pointer k t r) ≡ false
 Converts c v t = ⊥
 
--- the expression is a peek of a unique pointer in a local
+-- says that an expression is a peek of a local that holds a unique pointer
 abbrev pub IsPeek : Context → Expression → ValueType → Type 0
 IsPeek c (Peek p n u) t = IsVariable c (Local p n) u × (is_unique u ≡ true) × (t ≡ Value u)
 IsPeek c a t = ⊥
 
--- the expression is a peek of this local
+-- says that an expression is a peek of the local with number n
 abbrev pub IsPeekOf : ℕ → Expression → Type 0
 IsPeekOf n (Peek p m u) = n ≡ m
 IsPeekOf n a = ⊥
 
--- The typing of pointer operators: the types of the operands, and the type of the result. The right operand is peeked at, unless it is an
--- int or `NULL`.
+-- The typing of pointer operators relates the types of the operands to the type of the result. The right operand is peeked at, unless it
+-- is an int or `NULL`.
 pub data PointerOperation (c : Context) : PointerOperator → (left right result : ValueType) → Type 0 where
   adds : (t : Ty) (r : Region) → r ≢ regions.Unique → PointerOperation c pointers.AddFat (Value (Pointer marks.Fat t r)) (Value Int) (Value (Pointer marks.Fat t r))
   subtracts : (t : Ty) (r : Region) → r ≢ regions.Unique → PointerOperation c pointers.SubtractFat (Value (Pointer marks.Fat t r)) (Value Int) (Value (Pointer marks.Fat t r))
-  -- two thin pointers, both into live regions
+  -- two thin pointers can be compared if both point into live regions
   equals : (k l : PointerKind) (t : Ty) (r s : Region) → is_thin_mark k ≡ true → is_thin_mark l ≡ true → IsLive c r → IsLive c s
       → PointerOperation c pointers.EqualThin (Value (Pointer k t r)) (Value (Pointer l t s)) (Value Int)
   differs : (k l : PointerKind) (t : Ty) (r s : Region) → is_thin_mark k ≡ true → is_thin_mark l ≡ true → IsLive c r → IsLive c s
@@ -150,7 +152,8 @@ pub data PointerOperation (c : Context) : PointerOperator → (left right result
   null_is : (k : PointerKind) (t : Ty) (r : Region) → PointerOperation c pointers.NullIs Null (Value (Pointer k t r)) (Value Int)
   null_is_not : (k : PointerKind) (t : Ty) (r : Region) → PointerOperation c pointers.NullIsNot Null (Value (Pointer k t r)) (Value Int)
 
--- the typing of the left operand of a chain; it is a peek only if the next operator only looks at it
+-- the typing of the left operand of a chain; the operand is a peek only if the next operator merely
+-- looks at it
 abbrev pub IsLeft : (well : Type 0) → Context → Expression → ValueType → Operations → Type 0
 IsLeft well c a v (ThenTest o b os) = well ⊎ IsPeek c a v
 IsLeft well c a v (ThenPointerPeek n o b os) = IsPeek c a v × IsPeekOf n a
@@ -171,17 +174,19 @@ abbrev mutual
   WellTyped c (Counter l) t = (l < c.counters) × (t ≡ Value Int)
   WellTyped c (Copy l u) t = IsVariable c l u × (is_moved u ≡ false) × (t ≡ Value u)
   WellTyped c (Move p n u) t = IsVariable c (Local p n) u × (is_moved u ≡ true) × (t ≡ Value u)
-  -- a peek occurs only where a value is only looked at
+  -- a peek is not well-typed as a used value; it occurs only where a value is only looked at
   WellTyped c (Peek p n u) t = ⊥
-  -- a whole struct is not read, nor a unique pointer that others may reach
+  -- a read of a memory cell is well-typed only if the cell holds neither a whole struct nor a
+  -- unique pointer
   WellTyped c (Load d) t = (u : Ty) × (r : Region) × IsCell c d u r × (is_struct u ≡ false) × (is_unique u ≡ false) × (t ≡ Value u)
-  -- no address of a unique pointer or a key, nor of a part of a unique object
+  -- `&` is well-typed only if the variable or cell holds no unique pointer or key, and is not a
+  -- part of a unique object
   WellTyped c (AddressOf l u) t = (v : Ty) × (r : Region) × IsPlace c l v r × (is_moved v ≡ false) × (u ≡ Pointer marks.NonNull v r) × (t ≡ Value u)
   WellTyped c (AddressOfCell d u) t = (v : Ty) × (r : Region) × IsCell c d v r × (is_moved v ≡ false) × (r ≢ regions.Unique) × (u ≡ Pointer marks.NonNull v r) × (t ≡ Value u)
   WellTyped c (NumberOfElements a) t = (u : Ty) × (r : Region) × (WellTyped c a (Value (Pointer marks.Fat u r)) ⊎ IsPeek c a (Value (Pointer marks.Fat u r))) × (t ≡ Value Int)
   WellTyped c (FreeUnique a) t = (k : PointerKind) × (u : Ty) × WellTyped c a (Value (Pointer k u regions.Unique)) × (t ≡ Void)
   WellTyped c (FreeKey a) t = (r : Region) × WellTyped c a (Value (Key r)) × (t ≡ Void)
-  -- the effect of the callee is live, and its constraints hold
+  -- a call is well-typed only if the effect of the callee is live and its constraints hold
   WellTyped c (Call f ds u) t =
       (s : Signature) × (m : List Region) × IsCallee c f s × (length m ≡ suc s.variables) × AreNotUnique m × ArePassed c (instantiated m s).parameters ds
       × AreLive c (instantiated m s).effect × AreOutliving c (instantiated m s).constraints × (u ≡ result_type (instantiated m s).result) × (t ≡ u)
@@ -192,7 +197,7 @@ abbrev mutual
   WellTyped c (Store d e u) t = (v : Ty) × (r : Region) × IsCell c d v r × IsConverted c e v × (u ≡ assigned_type v) × (t ≡ u)
   WellTyped c (New w i u) t = (k : PointerKind) × (v : Ty) × (r : Region) × IsPlacement c w r × IsMade c i k v × (u ≡ Pointer k v r) × (t ≡ Value u)
 
-  -- the expression is converted to this type
+  -- says that an expression is well-typed and is converted to type t
   pub IsConverted : Context → Converted → Ty → Type 0
   IsConverted c (Convert from to a) t = (v : ValueType) × WellTyped c a v × Converts c v t × (from ≡ kind_of_value v) × (to ≡ kind_of t)
 
@@ -202,7 +207,7 @@ abbrev mutual
   ArePassed c (t ∷ ts) NoArguments = ⊥
   ArePassed c (t ∷ ts) (MoreArguments d ds) = IsConverted c d t × ArePassed c ts ds
 
-  -- a cell of this type, reached through a pointer into this live region
+  -- says that a memory cell has type t and is reached through a pointer into the live region r
   pub IsCell : Context → Dereference → Ty → Region → Type 0
   IsCell c (Target k a u) t r =
       (m : PointerKind) × (WellTyped c a (Value (Pointer m u r)) ⊎ IsPeek c a (Value (Pointer m u r))) × IsLive c r × (k ≡ kind_of_mark m) × (t ≡ u)
@@ -213,13 +218,14 @@ abbrev mutual
   IsCell c (Element a i u) t r =
       (WellTyped c a (Value (Pointer marks.Fat u r)) ⊎ IsPeek c a (Value (Pointer marks.Fat u r))) × WellTyped c i (Value Int) × IsLive c r × (t ≡ u)
 
-  -- an object is made in this region
+  -- says that a new object is allocated in region r
   pub IsPlacement : Context → Placement → Region → Type 0
   IsPlacement c OnHeap r = r ≡ regions.Heap
   IsPlacement c AsUnique r = r ≡ regions.Unique
   IsPlacement c (ByHandle a) r = WellTyped c a (Value (Handle r)) × IsLive c r
 
-  -- the initial contents of an object: its cells have this type, and the pointer to it has this mark
+  -- says that a new object's initial contents have type t, and that the pointer to the object has
+  -- mark m
   pub IsMade : Context → Initial → PointerKind → Ty → Type 0
   IsMade c (Plain k a) m t = WellTyped c a (Value t) × (is_key t ≡ false) × (k ≡ kind_of t) × (m ≡ marks.NonNull)
   IsMade c (Fields ds) m t =
@@ -228,7 +234,7 @@ abbrev mutual
   IsMade c (Array p l n k a) m t =
       (l ≡ c.counters) × WellTyped c n (Value Int) × WellTyped (with_counter c) a (Value t) × (is_key t ≡ false) × (k ≡ kind_of t) × (m ≡ marks.Fat)
 
-  -- the operations after a left operand of the first type give a value of the second
+  -- says that the operations after a left operand of type `left` give a value of type u
   pub IsChain : Context → ValueType → Operations → Ty → Type 0
   IsChain c left NoOperations u = left ≡ Value u
   IsChain c left (ThenCompute o a os) u = (left ≡ Value Int) × WellTyped c a (Value Int) × IsChain c (Value Int) os u
@@ -236,13 +242,14 @@ abbrev mutual
   IsChain c left (ThenPointer o a os) u = (v w : ValueType) × (WellTyped c a v ⊎ IsPeek c a v) × PointerOperation c o left v w × IsChain c w os u
   IsChain c left (ThenPointerPeek n o a os) u = (v w : ValueType) × (WellTyped c a v ⊎ IsPeek c a v) × PointerOperation c o left v w × IsChain c w os u
 
--- the expression may be tested as a condition
+-- says that an expression may be tested as a condition
 abbrev pub IsCondition : Context → Expression → Type 0
 IsCondition c a = (v : ValueType) × (WellTyped c a v ⊎ IsPeek c a v) × (is_tested v ≡ true)
 
 -- ---- the context of later trees
 
--- after a statement: what it declares is out of scope, and its numbers are used
+-- the context after a statement: the statement's declarations are out of scope, and their numbers
+-- are used
 abbrev pub following : Context → Statement → Context
 following c s = record c { next_local = c.next_local + length (declared_types s); next_region = c.next_region + declared_regions s }
 
@@ -252,11 +259,11 @@ in_block c = record c { region = c.next_region; next_region = suc c.next_region;
 abbrev pub in_body : Context → Context
 in_body c = record c { in_loop = true }
 
--- the context after the declaration of a local of this type
+-- the context after a local of type t has been declared
 abbrev pub with_local : Bool → Ty → Context → Context
 with_local b t c = record c { locals = record { number = c.next_local; of_type = t; region = c.region; is_place = b } ∷ c.locals; next_local = suc c.next_local }
 
--- the context with the next region declared; and with it also opened
+-- the context after the next region has been declared; a second definition also opens it
 abbrev pub with_region : Context → Context
 with_region c = record c { next_region = suc c.next_region }
 
@@ -272,18 +279,19 @@ abbrev pub IsInitial : Context → Option Converted → Ty → Type 0
 IsInitial c None t = Unit {0}
 IsInitial c (Some d) t = IsConverted c d t
 
--- a value is returned exactly if the function has a result
+-- says that a `return` has a value exactly if the function has a result type
 abbrev pub IsReturned : Context → Option Ty → Option Converted → Type 0
 IsReturned c None None = Unit {0}
 IsReturned c (Some t) (Some d) = IsConverted c d t
 IsReturned c r v = ⊥
 
--- one side of a swap has this type
+-- says that one side of a swap has type t
 abbrev pub IsSide : Context → Side → Ty → Type 0
 IsSide c (VariableSide l u) t = (r : Region) × IsPlace c l u r × (t ≡ u)
 IsSide c (CellSide d) t = (r : Region) × IsCell c d t r
 
--- the exception of this number has an int or not; built-in exceptions have none
+-- says that exception n exists, and that it has an int exactly if `has` is true; built-in
+-- exceptions have no int
 abbrev pub IsException : Context → ℕ → Bool → Type 0
 IsException c n has = ((1 ≤ n) × (n < 5) × (has ≡ false)) ⊎ ((m : ℕ) × (n ≡ 5 + m) × (slice_get c.exceptions m ≡ Some has))
 
@@ -292,7 +300,7 @@ IsThrown c false None = Unit {0}
 IsThrown c true (Some a) = WellTyped c a (Value Int)
 IsThrown c has a = ⊥
 
--- the context inside a clause, with the local that receives the exception's int, if any
+-- the context inside a catch clause, with the local that receives the exception's int, if any
 abbrev pub with_caught : Option ℕ → Context → Context
 with_caught None c = c
 with_caught (Some n) c = with_local true Int c
@@ -305,21 +313,22 @@ IsCaught c has v = ⊥
 abbrev pub after_clause : Context → Option ℕ → Items → Context
 after_clause c v js = record c { next_local = c.next_local + (length (caught_types v) + length (item_types js)); next_region = c.next_region + suc (item_regions js) }
 
--- The local of this number is the next one, has this type in its function, and lives in a live region.
+-- Says that n is the number of the next local, that this local has type t in its function, and that it
+-- lies in a live region.
 abbrev pub IsDeclared : Context → ℕ → Ty → Type 0
 IsDeclared c n t = (n ≡ c.next_local) × (slice_get c.variables n ≡ Some t) × IsLive c (regions.Variable c.region)
 
--- the region of this number is the next one
+-- says that r is the number of the next region
 abbrev pub IsNextRegion : Context → ℕ → Type 0
 IsNextRegion c r = (r ≡ c.next_region) × (r < c.region_count)
 
 abbrev mutual
   pub WellTypedStatement : Context → Statement → Type 0
-  -- a block opens the next region
+  -- a block is well-typed if its number is that of the next region, and its items are well-typed
   WellTypedStatement c (Block r js) = IsNextRegion c r × WellTypedItems (in_block c) js
   WellTypedStatement c Empty = Unit {0}
   WellTypedStatement c (Evaluate a) = (t : ValueType) × WellTyped c a t
-  -- two places of one type
+  -- a swap is well-typed if both sides have the same type, which is not a struct type
   WellTypedStatement c (Swap x y) = (t : Ty) × IsSide c x t × IsSide c y t × (is_struct t ≡ false)
   WellTypedStatement c (If a s t) = IsCondition c a × WellTypedStatement c s × WellTypedStatement (following c s) t
   WellTypedStatement c (While p a s) = IsCondition c a × WellTypedStatement (in_body c) s
@@ -336,14 +345,15 @@ abbrev mutual
   -- a lexical region stays open to the end of the block
   WellTypedItems c (MoreItems (DeclareRegion r n) js) =
       IsNextRegion c r × IsDeclared c n (Handle (regions.Variable r)) × WellTypedItems (with_local false (Handle (regions.Variable r)) (with_opened scopes.Lexical c)) js
-  -- the opened region of a key stays open to the end of the block; no live region outlives it
+  -- the region that an item opens by a key stays open to the end of the block; no live region
+  -- outlives it
   WellTypedItems c (MoreItems (OpenRegion r n p k) js) =
       IsVariable c (Local p k) (Key (regions.Variable r)) × IsDeclared c n (Handle (regions.Variable r)) × WellTypedItems (with_local false (Handle (regions.Variable r)) (with_key_opened r c)) js
-  -- an alias has the type of the unique pointer that it shares, except for its region, which is new
+  -- an alias has the type of the unique pointer that it shares, except for the region, which is new
   WellTypedItems c (MoreItems (DeclareAlias r n t p m) js) =
       IsNextRegion c r × ((u : Ty) × IsVariable c (Local p m) u × (is_unique u ≡ true) × (t ≡ with_region_of (regions.Variable r) u)) × IsDeclared c n t
       × WellTypedItems (with_local true t (with_opened scopes.Alias c)) js
-  -- the region of a new key is not open
+  -- the region of a newly declared key is not open
   WellTypedItems c (MoreItems (DeclareKey r n) js) =
       IsNextRegion c r × IsDeclared c n (Key (regions.Variable r)) × WellTypedItems (with_local true (Key (regions.Variable r)) (with_region c)) js
 
@@ -358,7 +368,7 @@ abbrev mutual
 abbrev pub signature_of : Function → Signature
 signature_of h = record { variables = h.variables; parameters = h.parameters; result = h.result; effect = h.effect; constraints = h.constraints }
 
--- the parameters as locals in scope, newest first, before the given ones; the first parameter has this number
+-- adds a function's parameters to the locals in scope, newest first; the first parameter gets the number n
 abbrev pub parameters_in_scope : List Ty → ℕ → List LocalInScope → List LocalInScope
 parameters_in_scope [] n vs = vs
 parameters_in_scope (t ∷ ts) n vs = parameters_in_scope ts (suc n) (record { number = n; of_type = t; region = 0; is_place = true } ∷ vs)
@@ -385,7 +395,8 @@ body_context p h = record {
 
 -- ---- regions in types
 
--- the region is neither the function's own region nor a variable beyond those that its parameters name
+-- says that a region is the heap, the unique region, or one of the k region variables that the
+-- parameters name
 abbrev pub IsNamed : (variables : ℕ) → Region → Type 0
 IsNamed k (regions.Variable n) = (1 ≤ n) × (n ≤ k)
 IsNamed k r = Unit {0}
@@ -410,12 +421,14 @@ abbrev pub IsNamedResult : (variables : ℕ) → Option Ty → Type 0
 IsNamedResult k None = Unit {0}
 IsNamedResult k (Some t) = IsNamedIn k t
 
--- the written constraints, in which the unique region does not occur
+-- says that the written constraints relate only the heap and the regions that the parameters name,
+-- never the unique region
 abbrev pub AreConstraints : (variables : ℕ) → List (Region × Region) → Type 0
 AreConstraints k [] = Unit {0}
 AreConstraints k (p ∷ ps) = (IsNamed k p.0 × (p.0 ≢ regions.Unique) × IsNamed k p.1 × (p.1 ≢ regions.Unique)) × AreConstraints k ps
 
--- No parameter has a key of the region. A region of an effect is not already open when its key opens it.
+-- Says that no parameter is a key of the region r. Since no parameter is a key of a region of the
+-- effect, such a region is not already open when a key opens it.
 abbrev pub IsKeyless : Region → List Ty → Type 0
 IsKeyless r [] = Unit {0}
 IsKeyless r (t ∷ ts) = (t ≢ Key r) × IsKeyless r ts
@@ -424,8 +437,8 @@ abbrev pub AreKeyless : List Region → List Ty → Type 0
 AreKeyless [] ts = Unit {0}
 AreKeyless (r ∷ rs) ts = ((r ≢ regions.Unique) × IsKeyless r ts) × AreKeyless rs ts
 
--- The body is well-typed in the scope of its parameters. The function declares exactly its numbered locals and regions. The types of the
--- function mention only the regions of the parameters.
+-- Says that a function's body is well-typed in the scope of its parameters. The function declares exactly its numbered locals and
+-- regions. The types of the function mention only the regions of the parameters.
 pub record IsWellTypedFunction (p : Program) (h : Function) : Type 0 where
   pub body : WellTypedItems (body_context p h) h.body
   pub own : h.region ≡ 0
@@ -441,8 +454,8 @@ abbrev pub AreWellTypedFunctions : Program → List Function → Type 0
 AreWellTypedFunctions p [] = Unit {0}
 AreWellTypedFunctions p (h ∷ hs) = IsWellTypedFunction p h × AreWellTypedFunctions p hs
 
--- No global is a handle or a key. The initial value of a global has the global's type: a word (a byte for a char), or null if null is
--- allowed.
+-- Says that a global is neither a handle nor a key. The initial value of a global has the global's type: a word (a byte for a char),
+-- or null if null is allowed.
 abbrev pub IsWellTypedGlobal : GlobalVariable → Type 0
 IsWellTypedGlobal g =
     ((g.of_type ≡ Int) × ((word : ℕ) × (g.value ≡ Word word)))
@@ -453,7 +466,8 @@ abbrev pub AreWellTypedGlobals : List GlobalVariable → Type 0
 AreWellTypedGlobals [] = Unit {0}
 AreWellTypedGlobals (g ∷ gs) = IsWellTypedGlobal g × AreWellTypedGlobals gs
 
--- `main` is a function without parameters, whose result is an int
+-- says that all functions and globals are well-typed; `main` is a function without parameters,
+-- whose result is an int
 pub record IsWellTypedProgram (p : Program) : Type 0 where
   pub functions : AreWellTypedFunctions p p.functions
   pub globals : AreWellTypedGlobals p.globals

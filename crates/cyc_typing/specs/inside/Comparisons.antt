@@ -1,10 +1,10 @@
--- The meaning of a comparison for equality, by its operands' types.
+-- The meaning of a comparison for equality, which depends on the types of its operands.
 use Rattle.cyc_types.specs.TypedTrees as typed
 use Rattle.cyc_types.specs.typing.Expressions.{then_pointer}
 use Rattle.cyc_typing.specs.declared.comparisons.Comparison.{Comparison}
 use Rattle.cyc_typing.specs.declared.comparisons.Comparison.TheVariants as comparison
 
--- the comparison with its right operand, before the rest of its chain
+-- adds a comparison with its right operand in front of the rest of its chain
 abbrev pub then_comparison : Comparison → typed.Expression → typed.Operations → typed.Operations
 then_comparison (comparison.OfInts o) = typed.ThenCompute o
 then_comparison (comparison.OfPointers k o) = then_pointer k o

@@ -1,4 +1,5 @@
--- The arguments and results of the forms, as the rules see them.
+-- The arguments and results of the functions for the expression forms, as the typing rules see
+-- them.
 use Rattle.std.specs.Prelude.{◌≡◌, List, [], ◌∷◌, ◌++◌, Option, Some, None, Result, Ok, Err}
 use Rattle.std.specs.declared.boxed.Box.{Box}
 use Rattle.std.specs.declared.alloc.Global.{Global}
@@ -23,7 +24,7 @@ use Rattle.cyc_operands.specs.declared.made.Made.{Made as MadeCode}
 use Rattle.cyc_typing.specs.declared.places.Reached.{Reached as ReachedCode}
 use Rattle.cyc_typing.specs.declared.objects.Placed.{Placed as PlacedCode}
 
--- an operation before the rest of its chain
+-- adds an operation in front of the rest of its chain
 abbrev pub put_operation : Operation → typed.Operations → typed.Operations
 put_operation (operation.Compute s o e) = typed.ThenCompute o (view.view_expression e)
 put_operation (operation.Test o e) = typed.ThenTest o (view.view_expression e)
@@ -32,7 +33,7 @@ put_operation (operation.PointerPeek n o e) = typed.ThenPointerPeek n o (view.vi
 
 -- ---- values that are passed between parts
 
--- The demands are already settled.
+-- Says that the code's result represents a reached memory cell, whose demands are already settled.
 pub record IsReached (r : Box ReachedCode Global) (w : Reached) : Type 0 where
   pub asked : r.value.settled.known ≡ settled None w.asked
   pub cell : view.view_dereference r.value.cell.value ≡ w.cell
@@ -51,7 +52,7 @@ loaded_after known p d = unless (settled known (content_demanded (type_of_place 
 abbrev pub reached_after : Option Fault → typed.Dereference → Region → Checked Found
 reached_after known d r = unless known (record { side = typed.CellSide d; region = r })
 
--- the result of two lists of demands, each settled separately
+-- the fault of two lists of demands that were settled separately
 abbrev pub merged : Option Fault → Option Fault → Option Fault
 merged known None = known
 merged known (Some f) = lesser known f
@@ -61,12 +62,14 @@ created_after p m =
     unless (merged p.value.settled.known m.value.settled.known)
     (typed.New (view.view_placement p.value.placement) (view.view_initial m.value.initial.value) (Pointer m.value.mark (view_ty m.value.target) p.value.region))
 
--- the assignment of a converted value to a place, and its type
+-- the assignment of a converted value to a variable or memory cell, with the type of the
+-- assignment's value
 abbrev pub stored_in : typed.Side → typed.Converted → ValueType → typed.Expression
 stored_in (typed.VariableSide l t) c u = typed.Assign l c u
 stored_in (typed.CellSide d) c u = typed.Store d c u
 
--- An operation was added after these, and the function returns the type of its result.
+-- Says that one operation was added at the end of the list, and that the function returns the type
+-- of the operation's result.
 abbrev pub Joins : (old new : List Operation) → Result TyCode Stop → Checked Joined → Type 0
 Joins old new (Ok t) checked = (o : Operation) × (new ≡ old ++ o ∷ []) × (checked ≡ Ok (put_operation o, view_ty t))
 Joins old new (Err e) checked = Stops e checked

@@ -1,9 +1,10 @@
--- Simulation as each pass of the compiler proves it, for any two machines. The statements of several passes compose to `Preserves`. The
--- form of simulation for passes is this project's own choice.
+-- This file defines simulation in the form in which each pass of the compiler proves it, for any two machines. The statements of
+-- several passes compose to `Preserves`. The form of simulation for passes is this project's own choice.
 --
--- A state of the lower machine is matched with a state of the upper one. A step above is matched by a sequence of steps below at places
--- owned by that step, each visited at most once. For any price of places, the matching sequence costs at most the sum over the own places
--- of the step above, through any number of passes. If each word of text has the price one, this bounds the number of instructions.
+-- A state of the lower machine is matched with a state of the upper machine. A step of the upper machine is matched by a sequence of
+-- steps of the lower machine at code positions that the upper step owns, each visited at most once. For any price of positions, the
+-- matching sequence costs at most the sum over the positions that the upper step owns, through any number of passes. If each word of text
+-- has the price one, then this sum bounds the number of instructions.
 use Rattle.std.specs.Prelude.{◌≡◌, ℕ, ◌+◌, ◌≤◌, ◌<◌, ◌⊎◌, List, [], ◌∷◌, length, sum_by, Contains}
 use Rattle.std.specs.List.{AllByRecursion}
 use Rattle.cyc_words.specs.Distinct.{IsDistinct}
@@ -11,42 +12,46 @@ use Rattle.cyc_words.specs.Ending.{Ending}
 use Rattle.cyc_words.specs.Seen.{Seen, ComesTo}
 use Rattle.cyc_words.specs.Simulation.{Running, Ended, Failed, Machine, Run}
 
--- From state `old`, the machine may reach `new` by one step from each of these places, in order.
+-- Says that the machine may reach state `new` from state `old` by one step from each of these code
+-- positions, in order.
 abbrev pub Path : (m : Machine) → List m.Place → m.State → m.State → Type 0
 Path m [] old new = new ≡ old
 Path m (p ∷ places) old new = (mid : m.State) × (m.place old ≡ p) × m.Step old mid × Path m places mid new
 
--- Output and consumed input only grow along a step, and no ended state steps to another state.
+-- Says that output and consumed input only grow along a step, and that no ended state steps to
+-- another state.
 pub record IsLawful (m : Machine) : Type 0 where
   pub grows : (old new : m.State) → m.Step old new → ComesTo (m.seen old) (m.seen new)
   pub stays : (old new : m.State) (ending : Ending) → m.status old ≡ Ended ending → m.Step old new → new ≡ old
   pub rests : (s : m.State) (ending : Ending) → m.status s ≡ Ended ending → m.Step s s
 
--- from the state `start` the machine may reach a state with exactly this observation
+-- Says that the machine may reach a state with exactly this observation from the state `start`.
 abbrev pub MayShow : (m : Machine) → m.State → Seen → Type 0
 MayShow m start seen = (n : ℕ) × (s : m.State) × Run m n start s × (seen ≡ m.seen s)
 
 -- ---- the statement that a pass proves
 
--- The run below that has visited the places `met` is in the middle of a step of a run above. `before` lists the places visited before the
--- first step; `own` maps each place above to the places of its step below.
+-- Says that the lower machine's run, which has visited the positions `met`, is in the middle of a step of an upper machine's run.
+-- `before` lists the positions visited before the first step; `own` maps each position of the upper machine to the positions of its step
+-- in the lower machine.
 pub record IsUnderWay (above below : Machine) (before : List below.Place) (own : above.Place → List below.Place) (start : above.State) (met : List below.Place) (now : below.State) : Type 0 where
-  -- the run above, which is also still running
+  -- The run of the upper machine, which is also still running.
   pub places : List above.Place
   pub state : above.State
   pub path : Path above places start state
   pub running : above.status state ≡ Running
   pub goes_on : below.status now ≡ Running
-  -- All output and input above has happened below, and the observation below may still occur above.
+  -- All output and input of the upper machine has happened in the lower machine, and the
+  -- observation of the lower machine may still occur in the upper machine.
   pub ahead : ComesTo (above.seen state) (below.seen now)
   pub following : MayShow above start (below.seen now)
-  -- All places visited, including the present one, cost at most the own places of all steps above, including the present step. A place is
-  -- visited at most once for each step that owns it.
+  -- All positions visited, including the current one, cost at most as much as the positions that all upper steps own, including the
+  -- current step. A position is visited at most once for each step that owns it.
   pub cost : (price : below.Place → ℕ)
       → sum_by price met + price (below.place now)
       ≤ sum_by price before + sum_by (λ p. sum_by price (own p)) places + sum_by price (own (above.place state))
 
--- the run below has ended in the same way as a run above
+-- Says that the lower machine's run has ended in the same way as a run of the upper machine.
 pub record IsOver (above below : Machine) (start : above.State) (now : below.State) : Type 0 where
   pub places : List above.Place
   pub state : above.State
@@ -56,28 +61,30 @@ pub record IsOver (above below : Machine) (start : above.State) (now : below.Sta
   pub over : below.status now ≡ Ended ending
   pub seen : below.seen now ≡ above.seen state
 
--- Each run below is explained by a run above: it is in the middle of a step, or both have ended. In particular no run of the lower machine
--- fails.
+-- Says that each run of the lower machine is explained by a run of the upper machine. The lower run is in the middle of a step, or both
+-- runs have ended. In particular no run of the lower machine fails.
 pub record Follows (above below : Machine) (before : List below.Place) (own : above.Place → List below.Place) (start : above.State) (from : below.State) : Type 0 where
   pub runs : (met : List below.Place) (now : below.State) → Path below met from now
       → IsUnderWay above below before own start met now ⊎ IsOver above below start now
 
 -- ---- the proof method of a pass
 
--- Each run from this state visits these places in order, through states that satisfy `Way`, and then reaches a state that satisfies `Goal`.
+-- Says that each run from this state visits these code positions in order, through states that satisfy `Way`, and then reaches a state that
+-- satisfies `Goal`.
 abbrev pub Comes : (m : Machine) → (Way Goal : m.State → Type 0) → List m.Place → m.State → Type 0
 Comes m Way Goal [] s = Goal s
 Comes m Way Goal (p ∷ places) s =
     (m.place s ≡ p) × Way s × ((next : m.State) → m.Step s next → Comes m Way Goal places next)
 
--- A state between two matches: it is running, it shows at least what the state above shows, and its observation may occur above.
+-- A lower machine's state between two matches: it is running, it shows at least what the upper state shows, and its observation
+-- may occur in the upper machine.
 pub record IsOnTheWay (above below : Machine) (state : above.State) (now : below.State) : Type 0 where
   pub goes_on : below.status now ≡ Running
   pub ahead : ComesTo (above.seen state) (below.seen now)
   pub following : MayShow above state (below.seen now)
 
--- A matching relates states with equal observations. The weight of a state above bounds the number of consecutive steps above that no step
--- below matches.
+-- A matching relates states with equal observations. The weight of an upper state bounds the number of consecutive steps of the upper
+-- machine that no step of the lower machine matches.
 pub record Matching (above below : Machine) : Type 1 where
   pub Matches : above.State → below.State → Type 0
   pub weight : above.State → ℕ
@@ -85,21 +92,23 @@ pub record Matching (above below : Machine) : Type 1 where
   pub alike : (s : above.State) (t : below.State) → Matches s t → below.seen t ≡ above.seen s
   pub endings : (s : above.State) (t : below.State) (ending : Ending) → Matches s t → above.status s ≡ Ended ending → below.status t ≡ Ended ending
 
--- A step above is taken and its result is matched. If no step below was taken, the weight has decreased.
+-- Says that a step of the upper machine is taken and that its result is matched. If the lower machine
+-- took no step, then the weight has decreased.
 pub record IsMatchedStep (above below : Machine) (m : Matching above below) (state : above.State) (places : List below.Place) (now : below.State) : Type 0 where
   pub next : above.State
   pub step : above.Step state next
   pub matches : m.Matches next now
   pub lighter : length places ≡ 0 → m.weight next < m.weight state
 
--- One step above is matched, whatever choices the machine below makes.
+-- Says that one step of the upper machine is matched for every choice that the lower machine makes.
 pub record IsStepped (above below : Machine) (m : Matching above below) (state : above.State) (now : below.State) : Type 0 where
   pub places : List below.Place
   pub distinct : IsDistinct places
   pub inside : AllByRecursion (Contains (m.own (above.place state))) places
   pub comes : Comes below (IsOnTheWay above below state) (IsMatchedStep above below m state places) places now
 
--- every step from matched states is matched, provided that no step above fails
+-- Says that every step from matched states is matched, provided that no step of the upper machine
+-- fails.
 abbrev pub Steps : (above below : Machine) → Matching above below → Type 0
 Steps above below m = (s : above.State) (t : below.State) → m.Matches s t → above.status s ≡ Running
     → ((next : above.State) → above.Step s next → above.status next ≡ Failed → ⊥)

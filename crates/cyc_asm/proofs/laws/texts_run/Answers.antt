@@ -1,4 +1,4 @@
--- The law that texts run is proved by the imported lemma.
+-- The imported lemma proves the law that assembled words run as the labelled code does.
 use Rattle.cyc_asm.proofs.Arranging.{runs}
 use Rattle.cyc_asm.proofs.laws.texts_run.Goals as goal
 

@@ -1,4 +1,4 @@
--- The law that words are shared out is proved by the imported lemma.
+-- The imported lemma proves the law that each word of the text belongs to exactly one line.
 use Rattle.cyc_asm.proofs.Stretches.{own-parts}
 use Rattle.cyc_asm.proofs.laws.words_are_shared_out.Goals as goal
 

@@ -1,4 +1,4 @@
--- The bound on calls.
+-- The law that the bound on calls holds.
 use Rattle.cyc_bound.proofs.CallRuns.{depth_within, calls_within, runs_alike}
 use Rattle.cyc_bound.proofs.laws.calls_stay_within.Goals as goal
 

@@ -1,4 +1,4 @@
--- The bound on steps.
+-- The law that the bound on steps holds.
 use Rattle.cyc_bound.proofs.CostRuns.{runs_end}
 use Rattle.cyc_bound.proofs.laws.steps_end.Goals as goal
 

@@ -1,4 +1,4 @@
--- The characters so far are written, and the remaining bytes are UTF-8.
+-- Invariant of the loop: the characters read so far are written, and the remaining bytes are UTF-8.
 use Rattle.std.proofs.Common.{◌≡◌, ℕ, List, ◌++◌, IsUtf8, chars, flat_map}
 use Rattle.std.specs.Str.Iter.{chars_rest}
 use Rattle.std.specs.Fmt.{HasWritten, IsPlainFormatter}

@@ -26,7 +26,7 @@ returns-in_err-frames-clause-decides c =
     (subst (λ (q : Program). IsProgramOf q c.in_ok-plain.plain) same is) (subst (λ (q : Program). length q.functions ≤ max_functions) same few)
     c.in_ok-plain.ensures.refuses _ c.in_err-frames.field-0.0 c.in_err-frames.ensures)
 
--- The image of the source program that was lowered to the plain one.
+-- The image of a plain program is an image of the source program that was lowered to it.
 image_there : {X F : Type 0} (Image : Program → X → Type 0) (p : Program) (lowered : PlainProgram) (result : Result X F) → IsSound p → IsProgramOf p lowered
     → IfOk result (λ x. (q : Program) → IsSound q → IsProgramOf q lowered → Image q x) → IfOk result (Image p)
 image_there Image p lowered (Ok x) sound is image = image p sound is

@@ -31,11 +31,11 @@ build-requires-clause-can_be c =
     let a = subst (IsAcceptedText c.args.text.now) (sym same) is in
     accepted_can_be_lowered (names_in a.tokens) c.args.text.now a.tokens a.tree (view_program c.in_ok-phases.phases.program.tree) a.has_tokens.rule a.has_tokens.within a.has_tree.has a.has_tree.within a.typed
 
--- The front end's guarantee about its program.
+-- The front end guarantees that an accepted program is sound.
 pub build-requires-clause-sound : goal.build-requires-clause-sound
 build-requires-clause-sound c = c.in_ok-phases.ensures.sound
 
--- A property of the image holds for the whole result.
+-- If a property holds for the image, then it holds for the complete result of the compilation.
 pub returns-in_err-image : goal.returns-in_err-image
 returns-in_err-image c =
     let text = c.args.text.now in

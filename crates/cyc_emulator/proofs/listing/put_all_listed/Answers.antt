@@ -13,14 +13,14 @@ use Rattle.cyc_elf.specs.Reading.{segment_of}
 use Rattle.cyc_emulator.specs.Listing.{listed_lines}
 use Rattle.cyc_emulator.proofs.listing.put_all_listed.Goals as goal
 
--- The segments that headers of a file describe.
+-- Returns the segments that the program headers of a file describe.
 abbrev described : List ℕ → List ProgramHeader → List SegmentContents
 described file loads = map (segment_of file) (map fields_of loads)
 
 described-all : (file : List ℕ) (loads : List ProgramHeader) → length (described file loads) ≡ length loads
 described-all file loads = length-map (map fields_of loads) (segment_of file) ∙ length-map loads fields_of
 
--- The default for a header after the last one.
+-- The default program header for a lookup after the last one.
 abbrev blank : ProgramHeader
 blank = record { kind = 0; offset = 0; vaddr = 0; file_size = 0; memory_size = 0; flags = 0 }
 

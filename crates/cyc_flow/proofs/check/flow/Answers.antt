@@ -15,7 +15,7 @@ use Rattle.cyc_flow.specs.declared.stop.Stop.TheVariants as stops
 use Rattle.cyc_flow.specs.inside.Code.{fault_of, Stops}
 use Rattle.cyc_flow.proofs.check.flow.Goals as goal
 
--- the flow check's result for the functions is its result for the program
+-- The flow check accepts a program if it accepts all of the program's functions.
 allows : (t : TypedTree) (fs : List Function) → fs ≡ t.functions.items → run (rule_functions (map view_function fs)) ≡ Ok tt → IsAllowedProgram (view_program t)
 allows t fs same h = answers_tree (rule_program (view_program t)) tt (ap (λ (gs : List Function). run (rule_functions (map view_function gs))) (sym same) ∙ h)
 

@@ -2,7 +2,7 @@ use Rattle.std.proofs.Common.{◌≡◌, ◌-◌, map, take, length}
 use Rattle.cyc_syntax.specs.Tokens.{spelling_of}
 use Rattle.cyc_format.proofs.comparison.are_spelled_alike.Given as goal
 
--- The tokens so far have equal spellings in both texts.
+-- Loop invariant: the tokens visited so far have equal spellings in both texts.
 abbrev pub invariant-loop-i : goal.invariant-loop-i
 invariant-loop-i l = map (spelling_of l.text) (take l.i l.tokens) ≡ map (spelling_of l.other) (take l.i l.others)
 

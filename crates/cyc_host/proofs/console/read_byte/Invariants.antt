@@ -1,4 +1,4 @@
--- The interrupted reads so far returned no bytes.
+-- The interrupted reads before this one returned no bytes.
 use Rattle.std.specs.Io.KnownBytes.{Keeps}
 use Rattle.cyc_host.proofs.console.read_byte.Given as goal
 

@@ -1,4 +1,4 @@
--- `{:02x}` writes the two hexadecimal digits of a byte.
+-- The format `{:02x}` writes the two hexadecimal digits of a byte.
 use Rattle.std.proofs.Common.{arith, ◌<◌, false}
 use Rattle.std.proofs.lemmas.Fmt.{hex_byte}
 use Rattle.std.proofs.Output.{has_written_of_eq}

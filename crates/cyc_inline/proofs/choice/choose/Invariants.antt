@@ -4,7 +4,7 @@ use Rattle.cyc_inline.specs.declared.limits.TheConstants.{MOST_GROWTH}
 use Rattle.cyc_inline.specs.inside.Emission.{AreChosen}
 use Rattle.cyc_inline.proofs.choice.choose.Given as goal
 
--- The calls chosen so far may be inlined.
+-- Invariant: the calls chosen so far may be inlined.
 abbrev pub invariant-loop-index : goal.invariant-loop-index
 invariant-loop-index l = record {
   chosen : AreChosen l.plain (routine_at l.plain l.number) l.choice.chosen.items l.choice.slots;

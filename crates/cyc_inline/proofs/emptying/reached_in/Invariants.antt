@@ -5,7 +5,7 @@ use Rattle.cyc_plain.specs.inside.Straight.{At}
 use Rattle.cyc_inline.specs.inside.Emptied.{is_reached, LeadsTo}
 use Rattle.cyc_inline.proofs.emptying.reached_in.Given as goal
 
--- Every function called by the reached functions so far is marked.
+-- Invariant: every function called by a reached function visited so far is marked as reached.
 abbrev pub invariant-loop-number : goal.invariant-loop-number
 invariant-loop-number l =
     (length l.reached.items ≡ length l.plain.functions) × (is_reached l.reached.items l.plain.main ≡ true)

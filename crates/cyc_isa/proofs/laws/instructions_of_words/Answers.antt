@@ -1,4 +1,4 @@
--- Each law is proved by an imported lemma.
+-- Each law about words and their instructions is proved by an imported lemma.
 use Rattle.cyc_isa.proofs.Sound.{IsSome-decode_of, word_of-decoded, IsEncodable-decoded}
 use Rattle.cyc_isa.proofs.laws.instructions_of_words.Goals as goal
 

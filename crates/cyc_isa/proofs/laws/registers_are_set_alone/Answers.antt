@@ -1,4 +1,4 @@
--- The law about written registers is proved by the imported lemma.
+-- The law about the registers that an instruction writes is proved by an imported lemma.
 use Rattle.cyc_isa.proofs.UseLemmas.{set_alone}
 use Rattle.cyc_isa.proofs.laws.registers_are_set_alone.Goals as goal
 

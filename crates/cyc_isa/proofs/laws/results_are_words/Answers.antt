@@ -1,4 +1,4 @@
--- The law that each result is a word.
+-- Proves the law that the result of each operation is a word.
 use Rattle.cyc_isa.proofs.EffectLemmas.{IsWord-immediate_result, IsWord-load_upper_result, IsWord-arithmetic_result, IsWord-shift_result, IsWord-high_result, IsWord-low_result, IsWord-memory_address, IsWord-branch_target, IsWord-jump_target}
 use Rattle.cyc_isa.proofs.laws.results_are_words.Goals as goal
 

@@ -1,4 +1,4 @@
--- Each law is proved by an imported lemma.
+-- Each law about instructions and their words is proved by an imported lemma.
 use Rattle.cyc_isa.proofs.Listed.{word_of-fits, IsInstance-word_of}
 use Rattle.cyc_isa.proofs.RoundTrip.{fields-word_of, decode_of-word_of, word_of-injective}
 use Rattle.cyc_isa.proofs.laws.words_of_instructions.Goals as goal

@@ -3,7 +3,7 @@ use Rattle.std.proofs.lemmas.List.FromFn.{get_or-map-range_with_len}
 use Rattle.cyc_syntax.specs.Spelling.{is_space}
 use Rattle.cyc_lex.proofs.classes.is_space.Goals as goal
 
--- the table agrees with the specification at each byte
+-- The table of spaces agrees with the specification at each byte.
 pub returns : goal.returns
 returns c =
     let within : c.from.result < 256 = omega arith in

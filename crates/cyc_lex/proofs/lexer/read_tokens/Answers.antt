@@ -14,7 +14,7 @@ use Rattle.cyc_lex.proofs.LineLemmas.{token_stays, after_one_line}
 use Rattle.cyc_lex.proofs.lexer.read_tokens.Goals as goal
 use Rattle.cyc_lex.proofs.lexer.read_tokens.Goals.{In-Ok}
 
--- the piece that was read at `start`
+-- The piece (token, space or comment) that was read at `start`.
 found : (c : In-Ok) → IsFound (drop c.loop-start.start c.args.text.now) c.in-Ok.found.kind c.in-Ok.found.len
 found c = rw (← take_rest c.args.text.now c.loop-start.start) c.in-Ok.ensures.found
 
@@ -44,7 +44,7 @@ loop-start-smaller-in_ok-push c =
     let some = found_some _ _ _ (found (goal.at.loop-start-smaller-in_ok-push c).In-Ok) in
     omega arith
 
--- a space is skipped
+-- The lexer skips a space.
 pub loop-start-preserved-then-is_space : goal.loop-start-preserved-then-is_space
 loop-start-preserved-then-is_space c =
     let text = c.args.text.now in
@@ -59,7 +59,7 @@ loop-start-preserved-then-is_space c =
     subst (λ n. IsAfter c.place_after-place.result (take start text ++ take n (drop start text))) count (c.place_after-place.ensures (take start text) done.following) in
     blank_read text c.loop-start.tokens.items start 1 c.loop-start.place c.place_after-place.result done here.within next here.piece
 
--- a token lies on the line of its place
+-- A token lies completely on the line on which it begins.
 pub loop-start-preserved-in_ok-push : goal.loop-start-preserved-in_ok-push
 loop-start-preserved-in_ok-push c =
     let text = c.args.text.now in
@@ -80,7 +80,7 @@ loop-start-preserved-in_ok-push c =
     subst (λ ts. IsReadUpTo text ts (start + len) following) (sym c.in_ok-push.ensures.items)
     (token_read text tokens start len place following done here.within next kind room (found_some _ _ _ here) piece)
 
--- a piece that is not a token may contain line feeds
+-- A space or a comment may contain line feeds.
 pub loop-start-preserved : goal.loop-start-preserved
 loop-start-preserved c =
     let text = c.args.text.now in

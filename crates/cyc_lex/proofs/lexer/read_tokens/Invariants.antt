@@ -2,7 +2,7 @@ use Rattle.std.proofs.Common.{◌-◌, length}
 use Rattle.cyc_lex.proofs.LexLemmas.{IsReadUpTo}
 use Rattle.cyc_lex.proofs.lexer.read_tokens.Given as goal
 
--- the invariant: the text before `start` has been read
+-- Invariant of the loop: the text before `start` has been read.
 abbrev pub invariant-loop-start : goal.invariant-loop-start
 invariant-loop-start l = IsReadUpTo l.text l.tokens.items l.start l.place
 

@@ -10,7 +10,7 @@ use Rattle.cyc_lex.proofs.NumberReading.{found_number, large_number, hexadecimal
 use Rattle.cyc_lex.proofs.pieces.read_number.Goals as goal
 use Rattle.cyc_lex.proofs.pieces.read_number.Goals.{After-hex_digits_len-len}
 
--- the text begins with a hexadecimal number whose digits are these
+-- The text begins with a hexadecimal number that has these digits.
 hexadecimal : (c : After-hex_digits_len-len) → is_hexadecimal (take 3 c.args.text.now) ≡ true
 hexadecimal c = sym c.begins_hexadecimal.ensures ∙ c.if-begins_hexadecimal.true
 

@@ -7,7 +7,7 @@ use Rattle.cyc_lex.proofs.CommentLemmas.{ClosesAt, closes_at, first_close, not_y
 use Rattle.cyc_lex.proofs.runs.closed_len.Goals as goal
 use Rattle.cyc_lex.proofs.runs.closed_len.Goals.{Then-b-eq47, else-after_star-via-then-after_star+else-b-eq47, else-after_star-via-else-after_star}
 
--- the comment is closed at this index
+-- The slash at this index closes the comment.
 closes : (c : Then-b-eq47) → ClosesAt c.args.text.now c.loop-i.i
 closes c = closes_at c.args.text.now c.loop-i.i c.loop-i-test.true (sym c.loop-i.invariant.after_star ∙ c.if-after_star.true) c.if-b-eq47.true
 

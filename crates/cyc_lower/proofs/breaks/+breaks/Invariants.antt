@@ -1,10 +1,10 @@
 use Rattle.cyc_lower.proofs.emission.Breaks.{ItemsStay, ClausesStay}
 use Rattle.cyc_lower.proofs.breaks.+breaks.Given as goal
 
--- none of the items so far has a `break`
+-- Loop invariant: none of the items visited so far has a `break`.
 abbrev pub invariant-items_break-loop-item : goal.invariant-items_break-loop-item
 invariant-items_break-loop-item l = ItemsStay l.items l.item-index
 
--- none of the clauses so far has a `break`
+-- Loop invariant: none of the clauses visited so far has a `break`.
 abbrev pub invariant-clauses_break-loop-clause : goal.invariant-clauses_break-loop-clause
 invariant-clauses_break-loop-clause l = ClausesStay l.clauses l.clause-index

@@ -4,6 +4,6 @@ use Rattle.cyc_types.specs.TypedTreeView.{view_function}
 use Rattle.cyc_lower_proof.specs.inside.Lowering.{may_open}
 use Rattle.cyc_lower.proofs.functions.may_open.Given as goal
 
--- none of the functions so far may open a region
+-- Loop invariant: none of the functions visited so far may open a lexical region.
 abbrev pub invariant-loop-function : goal.invariant-loop-function
 invariant-loop-function l = list_any may_open (map view_function (drop l.function-index l.functions)) ≡ list_any may_open (map view_function l.functions)

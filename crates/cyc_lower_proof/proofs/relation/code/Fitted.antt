@@ -1,4 +1,5 @@
--- The tree of a well-typed program that meets the demands on its nodes also meets the demands of lowering.
+-- If the tree of a well-typed program meets the requirements on its nodes, then it also meets the
+-- requirements of lowering.
 use Rattle.std.proofs.Common.{◌≡◌, ◌⊎◌, ℕ, ◌≤◌, ◌<◌, Bool, true, false, List, [], ◌∷◌, length, map, Option, None, Some, slice_get, refl, sym, ap, subst, ◌∙◌, arith, inl, inr, suc, length-append, zero, ◌++◌}
 use Rattle.std.specs.Prelude.{if◌then◌else◌, ◌||◌}
 use Rattle.std.proofs.lemmas.List.{length-map}
@@ -45,7 +46,7 @@ use Rattle.cyc_lower_proof.proofs.relation.code.GivenTypes.{kinds_same, kind_mov
 -- ---- properties of a well-typed tree
 
 module _ (b : Numbering) (types : Types) where
-  -- a context suits a function with these bounds and these types of locals
+  -- Says that a typing context agrees with a function that has these bounds and types of locals.
   record Suits (c : Context) : Type 0 where
     functions : c.functions ≡ b.functions
     structs : c.structs ≡ types.structs
@@ -54,14 +55,14 @@ module _ (b : Numbering) (types : Types) where
     counters : c.counters ≡ length types.counters
     result : c.result ≡ b.result
     locals : length c.variables ≡ b.locals
-    -- a local that is a handle may be the handle of an opened region
+    -- A local that is a region handle may be the handle of a region that the program opens.
     scopes : (n : ℕ) (r : Region) → slice_get c.variables n ≡ Some (type_forms.Handle r) → IsCounting types.scopes
 
   room_in : (c : Context) (n : ℕ) (t : Ty) (kind : Kind) → Suits c → slice_get c.variables n ≡ Some t → kind ≡ kind_of t → HasRoom types n kind
   room_in c n t kind suits at same =
       omega (arith, words-there types.locals n t (ap (λ (ts : List Ty). slice_get ts n) (sym suits.variables) ∙ at), type_words t, ap words_of_kind same)
 
-  -- the number of the local is within the bounds
+  -- The number of a declared local is within the bounds.
   low_in : (c : Context) (n : ℕ) (t : Ty) → Suits c → slice_get c.variables n ≡ Some t → n < b.locals
   low_in c n t suits at = omega (arith, slice_get_within c.variables n t at, suits.locals)
 
@@ -73,7 +74,7 @@ module _ (b : Numbering) (types : Types) where
   global_in c n t kind suits at same =
       omega (arith, words-there types.globals n t (ap (λ (ts : List Ty). slice_get ts n) (sym suits.globals) ∙ at), type_words t, ap words_of_kind same)
 
-  -- a variable has the kind of the target type of a pointer to it
+  -- A variable has the kind that a pointer to it has as its target kind.
   pointed_kind : (mark : PointerKind) (t : Ty) (r : Region) (pointer : Ty) → pointer ≡ type_forms.Pointer mark t r → kind_after pointer ≡ kind_of t
   pointed_kind mark type_forms.Int r pointer is = ap kind_after is
   pointed_kind mark type_forms.Char r pointer is = ap kind_after is
@@ -134,7 +135,7 @@ module _ (b : Numbering) (types : Types) where
   looked_fits a c v suits met well_fits (inr peek) = absurd peek
 
 module _ (b : Numbering) where
-  -- the elements of an array are evaluated with one more counter
+  -- The elements of an array are evaluated in a context with one more counter.
   suits_inside : (types : Types) (c : Context) (slot : ℕ) → Suits b types c → Suits b (counted types slot) (with_counter c)
   suits_inside types c slot suits = record {
     functions = suits.functions;
@@ -269,7 +270,8 @@ module _ (b : Numbering) where
         let (count, words, others) = fit_arguments types ds c ts suits all rest in
         (ap suc count, omega (arith, words, passed_is d, ap words_of_kind kind, type_words t), (fitting, others))
 
-    -- the operators after a left operand with at most this number of words
+    -- The operators after a left operand with at most `words` words meet the requirements of
+    -- lowering.
     fit_operations : (types : Types) → (os : Operations) (c : Context) (left : ValueType) (u : Ty) (words : ℕ) → Suits b types c → OperationsMeet lowering_demands os → IsChain c left os u → operand_words left ≤ words → FitOperations b types words u os
     fit_operations types NoOperations c left u words suits all is few = tt
     fit_operations types (ThenCompute o x os) c left u words suits (one, all) (is, right, rest) few =
@@ -405,7 +407,7 @@ module _ (b : Numbering) (types : Types) where
 
 -- ---- programs
 
--- a function with a local that is a handle may open regions
+-- If a function has a local that is a region handle, then the function may open regions.
 handle_among : (ts : List Ty) (n : ℕ) (r : Region) → slice_get ts n ≡ Some (type_forms.Handle r) → list_any is_handle ts ≡ true
 handle_among [] n r there = absurd (none-some (type_forms.Handle r) there)
 handle_among (t ∷ ts) zero r there = ap (λ (u : Ty). is_handle u || list_any is_handle ts) (same_Some t (type_forms.Handle r) there)
@@ -415,7 +417,7 @@ may_count : (may : Bool) → may ≡ true → IsCounting (scopes_if may)
 may_count true is = (RECORD_WORDS, refl)
 may_count false is = absurd (let f : false ≡ true = is in cc)
 
--- these functions belong to the program
+-- The functions of the list `hs` belong to the program and meet the requirements of lowering.
 functions_fit : (p : Program) (hs : List Function) → (list_any may_open hs ≡ true → list_any may_open p.functions ≡ true) → FunctionsMeet lowering_demands hs → AreWellTypedFunctions p hs
     → AreFitting p.structs p.globals (scopes_of p) (signatures_of p.functions) hs
 functions_fit p [] among met well = tt

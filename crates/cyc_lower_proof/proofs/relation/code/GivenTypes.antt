@@ -1,4 +1,4 @@
--- The types and kinds of the results of a well-typed tree.
+-- This file proves the types and kinds of the results of expressions in a well-typed tree.
 use Rattle.std.proofs.Common.{◌≡◌, ◌⊎◌, ◌≤◌, true, false, List, [], ◌∷◌, map, Option, None, Some, refl, sym, ap, subst, ◌∙◌, arith, inl, inr}
 use Rattle.std.specs.Prelude.{option_map, not, ◌&&◌}
 use Rattle.cyc_syntax.specs.declared.tree.PointerKind.{PointerKind}
@@ -43,7 +43,7 @@ kind_substituted m (type_forms.Handle r) = refl
 kind_substituted m (type_forms.Key r) = refl
 kind_substituted m (type_forms.Struct n rs) = refl
 
--- Giving a pointer another region does not change its kind.
+-- Replacing the region in a pointer type does not change the kind of the type.
 pub kind_moved : (r : Region) (t : Ty) → kind_of (with_region_of r t) ≡ kind_of t
 kind_moved r type_forms.Int = refl
 kind_moved r type_forms.Char = refl
@@ -68,7 +68,8 @@ pub result_substituted : (m : List Region) (t : Option Ty) (u : ValueType) → u
 result_substituted m None u is = omega arith
 result_substituted m (Some t) u is = omega (arith, words_substituted m t, ap result_words is)
 
--- true if values of this type have this kind; a type without values may have any kind
+-- Holds if values of this type have this kind; the type `void`, which has no values, may have any
+-- kind.
 abbrev pub IsGiven : Kind → ValueType → Type 0
 IsGiven kind Void = Unit {0}
 IsGiven kind type_forms.Null = kind ≡ kinds.Nullable
@@ -78,7 +79,7 @@ pub given_result : (m : List Region) (t : Option Ty) (u : ValueType) → u ≡ r
 given_result m None u is = subst (IsGiven kinds.Int) (sym is) tt
 given_result m (Some t) u is = subst (IsGiven (kind_of t)) (sym is) (sym (kind_substituted m t))
 
--- an expression has the type of its result
+-- A memory access has the type of the cell that it reads or writes.
 cell_type : (x : Dereference) (c : Context) (t : Ty) (r : Region) → IsCell c x t r → type_of_place x ≡ t
 cell_type (Target k a u) c t r (m, well, live, kind, same) = sym same
 cell_type (Member k a n f u) c t r (m, rs, s, v, well, thin, live, kind, there, field, substituted, same) = sym same
@@ -112,7 +113,7 @@ fat_words marks.Fat is = omega arith
 fat_words marks.Nullable is = absurd (let f : true ≡ false = is in cc)
 fat_words marks.NonNull is = absurd (let f : true ≡ false = is in cc)
 
--- the result of an operator on pointers has the kind of the operator
+-- The result of a pointer operator has the kind that the operator yields.
 operation_given : (o : PointerOperator) (c : Context) (left right result : ValueType) → PointerOperation c o left right result → IsGiven (operator_kind o) result
 operation_given pointers.AddFat c left right result (adds t r other) = refl
 operation_given pointers.SubtractFat c left right result (subtracts t r other) = refl
@@ -125,7 +126,7 @@ operation_given pointers.FatIsNotNull c left right result (fat_there k t r is) =
 operation_given pointers.NullIs c left right result (null_is k t r) = refl
 operation_given pointers.NullIsNot c left right result (null_is_not k t r) = refl
 
--- the left operand has as many words as the code expects
+-- The left operand of a pointer operator has at least as many words as the code expects.
 pub left_least : (o : PointerOperator) (c : Context) (left right result : ValueType) → PointerOperation c o left right result → words_of_kind (left_kind o) ≤ operand_words left
 left_least pointers.AddFat c left right result (adds t r other) = omega arith
 left_least pointers.SubtractFat c left right result (subtracts t r other) = omega arith
@@ -138,7 +139,7 @@ left_least pointers.FatIsNotNull c left right result (fat_there k t r is) = fat_
 left_least pointers.NullIs c left right result (null_is k t r) = omega arith
 left_least pointers.NullIsNot c left right result (null_is_not k t r) = omega arith
 
--- only sums keep the type of their left operand
+-- Among the pointer operators, only sums keep the type of their left operand.
 sum_words : (o : PointerOperator) (os : Operations) (c : Context) (left right result : ValueType) (u : Ty) → (not (is_comparison o) && are_sums os) ≡ true → PointerOperation c o left right result
     → (are_sums os ≡ true → operand_words result ≤ words_of u) → operand_words left ≤ words_of u
 sum_words pointers.AddFat os c left right result u alone (adds t r other) rest = rest alone
@@ -159,7 +160,7 @@ sums_words (ThenTest o x os) c left u alone is = absurd (let f : false ≡ true 
 sums_words (ThenPointer o x os) c left u alone (v, w, right, operation, rest) = sum_words o os c left v w u alone operation (λ sums. sums_words os c w u sums rest)
 sums_words (ThenPointerPeek n o x os) c left u alone (v, w, right, operation, rest) = sum_words o os c left v w u alone operation (λ sums. sums_words os c w u sums rest)
 
--- the left operand of the following operators has the words of the result of an operator
+-- The left operand of the next operator has as many words as the result of the operator before it.
 pub next_words : (o : PointerOperator) (os : Operations) (c : Context) (left right result : ValueType) (u : Ty) → stands_alone o os ≡ true → PointerOperation c o left right result → IsChain c result os u
     → operand_words result ≤ words_of u
 next_words pointers.AddFat os c left right result u alone operation rest = sums_words os c result u alone rest
@@ -173,7 +174,7 @@ next_words pointers.FatIsNotNull os c left right result u alone (fat_there k t r
 next_words pointers.NullIs os c left right result u alone (null_is k t r) rest = words_positive u
 next_words pointers.NullIsNot os c left right result u alone (null_is_not k t r) rest = words_positive u
 
--- the kind of the result of a chain
+-- The result of an operator chain has the kind that `chain_kind` computes.
 pub chain_given : (os : Operations) (c : Context) (left : ValueType) (kind : Kind) (u : Ty) → IsChain c left os u → IsGiven kind left → IsGiven (chain_kind kind os) (Value u)
 chain_given NoOperations c left kind u is given_left = subst (IsGiven kind) is given_left
 chain_given (ThenCompute o x os) c left kind u (int, right, rest) given_left = chain_given os c (Value type_forms.Int) kinds.Int u rest refl
@@ -181,7 +182,8 @@ chain_given (ThenTest o x os) c left kind u (tested, right, rest) given_left = c
 chain_given (ThenPointer o x os) c left kind u (v, w, right, operation, rest) given_left = chain_given os c w (operator_kind o) u rest (operation_given o c left v w operation)
 chain_given (ThenPointerPeek n o x os) c left kind u (v, w, right, operation, rest) given_left = chain_given os c w (operator_kind o) u rest (operation_given o c left v w operation)
 
--- a left operand is a value, or a peek
+-- The left operand of a chain is a well-typed value, or it is a peek, that is, a read of a local
+-- that keeps its value.
 pub seen_left : (os : Operations) (a : Expression) (c : Context) (v : ValueType) → IsLeft (WellTyped c a v) c a v os → WellTyped c a v ⊎ IsPeek c a v
 seen_left NoOperations a c v well = inl well
 seen_left (ThenCompute o x os) a c v well = inl well

@@ -1,4 +1,4 @@
--- Stores through pointers change slots of pending calls, but neither their return points nor the slots after their locals. Hence stores
+-- Stores through pointers change slots of waiting calls, but neither their return points nor the slots after their locals. Hence stores
 -- through pointers preserve the facts about the control stack and its code.
 use Rattle.std.proofs.Common.{◌≡◌, ℕ, Bool, true, false, suc, ◌+◌, ◌≤◌, ◌<◌, List, [], ◌∷◌, length, Option, Some, refl, sym, ap, subst, arith, inl, inr, zero, set, slice_get, option_map}
 use Rattle.std.specs.Prelude.{option_map, not}
@@ -30,7 +30,7 @@ use Rattle.std.proofs.lemmas.Option.{same_Some, none-some}
 use Rattle.cyc_meaning.specs.Operators.{unary_kind}
 use Rattle.cyc_types.specs.declared.typed.UnaryOperator.TheVariants as unary
 
--- pending calls that are equal except for the words in the slots of their locals
+-- Says that two lists of waiting calls are equal except for the words in the slots of their locals.
 module _ (source : Program) where
   abbrev pub Like : List Frame → List Frame → Type 0
   Like [] [] = Unit {0}
@@ -42,7 +42,7 @@ module _ (source : Program) where
   like_same [] = tt
   like_same (f ∷ frames) = ((f.caller.slots, refl, (λ n least. refl)), like_same frames)
 
-  -- a word of a local is written
+  -- Writing a word of a local leaves the waiting calls alike.
   pub like_set : (frames : List Frame) (i : ℕ) (f : Frame) (slot word : ℕ) → slice_get frames i ≡ Some f → slot < base_of source f.caller.function → Like frames (set frames i (with_slot_of f slot word))
   like_set [] i f slot word at below = absurd (none-some f at)
   like_set (h ∷ frames) zero f slot word at below =
@@ -58,7 +58,7 @@ module _ (source : Program) where
       )
   like_set (h ∷ frames) (suc i) f slot word at below = ((h.caller.slots, refl, (λ n least. refl)), like_set frames i f slot word at below)
 
-  -- several words of a local are written
+  -- Writing several words of a local leaves the waiting calls alike.
   pub like_slots : (frames : List Frame) (i : ℕ) (f : Frame) (slots : Words) → slice_get frames i ≡ Some f → ((n : ℕ) → base_of source f.caller.function ≤ n → slots n ≡ f.caller.slots n)
       → Like frames (set frames i (record f { caller = record f.caller { slots = slots } }))
   like_slots [] i f slots at same = absurd (none-some f at)

@@ -1,5 +1,5 @@
--- The places of the code of expressions and conditions in the code of a function. The places between the parts of a construct are
--- existential.
+-- This file says where the code of expressions and conditions is in the code of a function. The positions between the parts of a
+-- construct are existentially quantified.
 use Rattle.std.proofs.Common.{◌≡◌, ℕ, suc, ◌+◌, ◌<◌, Bool, true, false, List, [], ◌∷◌, length, Option, None, Some, zero, ◌≤◌, max, slice_get, ◌⊎◌}
 use Rattle.std.specs.Prelude.{◌==◌}
 use Rattle.cyc_types.specs.declared.typed.Kind.{Kind}
@@ -40,17 +40,18 @@ use Rattle.cyc_lower_proof.proofs.slots.Widths.{given, HasRoom, HasField, HasGlo
 use Rattle.cyc_types.specs.declared.typed.UnaryOperator.TheVariants as unary
 use Rattle.cyc_meaning.specs.FrameCount.{words_of_all}
 
--- true if an instruction for each of the words is here, with its number in the globals and its slot
+-- Holds if the code at p has one instruction for each of the words, with the word's number in the
+-- globals and its slot.
 abbrev pub EachAt : (code : List Instruction) → (each : (global slot : ℕ) → Instruction) → (words first slot p q : ℕ) → Type 0
 EachAt code each zero first slot p q = p ≡ q
 EachAt code each (suc words) first slot p q = At code p (each first slot) × EachAt code each words (suc first) (suc slot) (p + 1) q
 
--- true if the code at p stores a value with this number of words in a global
+-- Holds if the code at p stores a value with this number of words in a global.
 abbrev pub GlobalAt : (code : List Instruction) → (words first : ℕ) → Operand → (p q : ℕ) → Type 0
 GlobalAt code words first (operands.Slot n) p q = EachAt code store_word words first n p q
 GlobalAt code words first (operands.Word n) p q = At code p (instructions.StoreGlobal first (operands.Word n)) × (p + 1 ≡ q)
 
--- moving a value to a slot, unless it is already there
+-- Says that the code moves a value to slot d, or that the value is already there.
 module _ (code : List Instruction) where
   abbrev pub CopyBy : Bool → (words : ℕ) → Operand → (d p q : ℕ) → Type 0
   CopyBy true words o d p q = p ≡ q
@@ -64,8 +65,8 @@ module _ (code : List Instruction) where
   AddressAt o zero d p q = CopyAt 1 o d p q
   AddressAt o (suc bytes) d p q = At code p (instructions.Binary plain_binary.Add d o (operands.Word (suc bytes))) × (p + 1 ≡ q)
 
--- The code at p loads a cell of a kind into slots. The address of the cell is an operand plus a number of bytes. If the cell has several
--- words, the code first moves the address to slot t.
+-- Says that the code at p loads a cell of a kind into slots. The address of the cell is an operand plus a number of bytes. If the cell
+-- has several words, the code first moves the address to slot t.
 module _ (code : List Instruction) where
   abbrev pub LoadedBy : (narrow : Bool) → Kind → Operand → (bytes d t p q : ℕ) → Type 0
   LoadedBy true kind o bytes d t p q = At code p (load_of kind d o bytes) × (p + 1 ≡ q)
@@ -76,49 +77,53 @@ module _ (code : List Instruction) where
   abbrev pub LoadedAt : Kind → Operand → (bytes d t p q : ℕ) → Type 0
   LoadedAt kind o bytes d t p q = LoadedBy (words_of_kind kind == 1) kind o bytes d t p q
 
-  -- true if the code at p turns the address of the first word of a variable into the address of the variable
+  -- Holds if the code at p turns the address of the first word of a variable into the address of the
+  -- variable.
   abbrev pub LastByteAt : Kind → (d p q : ℕ) → Type 0
   LastByteAt kinds.Char d p q = At code p (instructions.Binary plain_binary.Add d (operands.Slot d) (operands.Word 3)) × (p + 1 ≡ q)
   LastByteAt kind d p q = p ≡ q
 
-  -- true if the code at p jumps over the code after `else`, if there is any
+  -- Holds if the code at p jumps over the code after `else`, or if there is no such code.
   abbrev pub OverAt : (p q : ℕ) → Type 0
   OverAt p q = (p ≡ q) ⊎ At code p (instructions.Jump q)
 
-  -- true if the code at p declares a local of a kind without a value
+  -- Holds if the code at p declares a local of a kind without a value.
   abbrev pub BlankAt : Kind → (slot p q : ℕ) → Type 0
   BlankAt kinds.Char slot p q = At code p (instructions.Move slot (operands.Word 0)) × (p + 1 ≡ q)
   BlankAt kind slot p q = p ≡ q
 
--- the code from p to q, in a function with these bounds and types of locals, with temporaries from slot t on
+-- Says what the code from p to q is, in a function with these bounds and types of locals, whose temporaries
+-- begin at slot t.
 module _ (code : List Instruction) (bounds : Numbering) (types : Types) where
-  -- the first proposition if the condition is true, otherwise the second
+  -- The first proposition if the flag is true, otherwise the second proposition.
   abbrev pub EitherBy : Bool → (there otherwise : Type 0) → Type 0
   EitherBy true first second = first
   EitherBy false first second = second
 
-  -- true if the operand needs no code, or the code at p moves its value to a slot
+  -- Holds if the operand needs no code, or if the code at p moves its value to a slot.
   abbrev pub OperandBy : Option Operand → (computed : Type 0) → (slot : ℕ) → Operand → (p q : ℕ) → Type 0
   OperandBy (Some known) computed slot o p q = (o ≡ known) × (p ≡ q)
   OperandBy None computed slot o p q = (o ≡ operands.Slot slot) × computed
 
-  -- The code at p brings a value to slot d. An int that becomes a char is an operand whose low byte is moved. Any other converted value is
-  -- moved unchanged.
+  -- Says that the code at p brings a value to slot d. An int that becomes a char is an operand whose low byte is moved. Any other
+  -- converted value is moved unchanged.
   abbrev pub BroughtBy : (masking : Bool) → Option Operand → (computed : (r : ℕ) → Type 0) → (slot : ℕ) → (at_once : Type 0) → (d p q : ℕ) → Type 0
   BroughtBy masking known computed slot at_once d p q =
       EitherBy masking ((o : Operand) × (r : ℕ) × OperandBy known (computed r) slot o p r × At code r (low_byte o d) × (r + 1 ≡ q)) at_once
 
-  -- true if the right operand is simple, or the left operand is in a slot
+  -- Holds if the right operand is simple, that is, needs no code, or if the left operand is in a
+  -- slot.
   abbrev pub LeftBy : (simple : Bool) → (in_slot : Type 0) → Type 0
   LeftBy true in_slot = Unit {0}
   LeftBy false in_slot = in_slot
 
-  -- true if a returned value is in the slots of a local, or the code at p moves it to slots
+  -- Holds if a returned value is in the slots of a local, or if the code at p moves it to slots.
   abbrev pub ReturnedAt : Option Operand → (computed : Type 0) → (slot s : ℕ) → (p q : ℕ) → Type 0
   ReturnedAt (Some (operands.Slot n)) computed slot s p q = (s ≡ n) × (p ≡ q)
   ReturnedAt o computed slot s p q = (s ≡ slot) × computed
 
-  -- true if the code at p jumps to the block that raises an exception if a comparison holds
+  -- Holds if the code at p jumps to the block that raises the exception `tag` if a comparison
+  -- holds.
   abbrev pub GuardAt : (tag : ℕ) → Comparison → (l r : Operand) → (p q : ℕ) → Type 0
   GuardAt tag failing l r p q = (s : ℕ) × At code p (instructions.Branch failing l r s) × At code s (raising tag) × (p + 1 ≡ q)
 
@@ -135,13 +140,15 @@ module _ (code : List Instruction) (bounds : Numbering) (types : Types) where
       At code p (scale_of bytes (t + 2) m)
       × At code (p + 1) (instructions.Binary plain_binary.Add t (operands.Slot n) (operands.Slot (t + 2))) × (p + 1 + 1 ≡ q)
 
-  -- true if the code at p computes the cell of a converted pointer, with an assumption about the place that null leads to
+  -- Holds if the code at p computes the cell of a converted pointer; `null` states an assumption about the position to
+  -- which a null pointer jumps.
   abbrev pub ReachedBy : (null : ℕ → Type 0) → (span : Option ℕ) → (n m t p q : ℕ) → Type 0
   ReachedBy null span n m t p q =
       (r : ℕ) × (s : ℕ) × ((x : ℕ) × At code p (instructions.Branch comparisons.Equal (operands.Slot n) (operands.Word 0) x) × null x × (p + 1 ≡ r))
       × BoundsAt (operands.Slot m) (operands.Slot (n + 1)) r s × SteppedAt span n m t s q
 
-  -- true if the code at p scales an index and adds a number of bytes
+  -- Holds if the code at p scales an index to the size of a cell; without a size it contains
+  -- nothing.
   abbrev pub ScaledAt : (span : Option ℕ) → (m x p q : ℕ) → Type 0
   ScaledAt None m x p q = p ≡ q
   ScaledAt (Some bytes) m x p q = At code p (scale_of bytes x m) × (p + 1 ≡ q)
@@ -150,20 +157,20 @@ module _ (code : List Instruction) (bounds : Numbering) (types : Types) where
   SummedAt None n x t p q = p ≡ q
   SummedAt (Some bytes) n x t p q = At code p (instructions.Binary plain_binary.Add t (operands.Slot n) (operands.Slot x)) × (p + 1 ≡ q)
 
-  -- The code at p compares an index with a length. Within bounds it jumps over the code that chooses the exception by the first word of the
-  -- pointer.
+  -- Says that the code at p compares an index with a length. If the index is within bounds, the code jumps over the instructions that
+  -- choose the exception by the pointer's first word.
   abbrev pub InsideAt : (n m p q : ℕ) → Type 0
   InsideAt n m p q =
       At code p (instructions.Branch comparisons.LessUnsigned (operands.Slot m) (operands.Slot (n + 1)) q)
       × At code (p + 1) (instructions.Binary plain_binary.NotEqual (words_of_all types.locals) (operands.Slot n) (operands.Word 0))
       × ((x : ℕ) × At code (p + 2) (instructions.Jump x) × (p + 2 < x) × HasAt code x (telling (words_of_all types.locals))) × (p + 3 ≡ q)
 
-  -- The code at p accesses the target of a fat pointer. The first words of the pointer are in slots n and n + 1, and its index is in slot
-  -- m.
+  -- Says that the code at p accesses the target of a fat pointer. The first words of the pointer are in slots n and n + 1, and its index
+  -- is in slot m.
   abbrev pub ReachedAt : (span : Option ℕ) → (n m t p q : ℕ) → Type 0
   ReachedAt span n m t p q = (s : ℕ) × (u : ℕ) × ScaledAt span m (t + 3) p s × InsideAt n m s u × SummedAt span n (t + 3) t u q
 
-  -- true if the code at p accesses the target of a pointer in an operand
+  -- Holds if the code at p accesses the target of a pointer in an operand.
   abbrev pub FollowedAt : (thin : Bool) → (span : Option ℕ) → Operand → (t p q : ℕ) → Type 0
   FollowedAt true span o t p q = CheckAt null_exception o p q
   FollowedAt false span (operands.Slot n) t p q = ReachedAt span n (n + 2) t p q
@@ -173,14 +180,14 @@ module _ (code : List Instruction) (bounds : Numbering) (types : Types) where
   TestedAt kinds.NonNull o p q = CheckAt null_exception o p q
   TestedAt to o p q = p ≡ q
 
-  -- true if the code at p widens a value in slot t
+  -- Holds if the code at p converts a thin pointer in slot t to a fat pointer.
   abbrev pub WidenedAt : Operand → (t p q : ℕ) → Type 0
   WidenedAt (operands.Slot n) t p q =
       (n ≡ t) × At code p (instructions.Binary plain_binary.NotEqual (n + 1) (operands.Slot n) (operands.Word 0))
       × At code (p + 1) (instructions.Move (n + 2) (operands.Word 0)) × (p + 2 ≡ q)
   WidenedAt (operands.Word w) t p q = ⊥
 
-  -- true if the code at p converts a fat pointer to a thin one
+  -- Holds if the code at p converts a fat pointer to a thin pointer.
   abbrev pub ThinnedAt : (to : Kind) → (span : Option ℕ) → Operand → (t p q : ℕ) → Type 0
   ThinnedAt kinds.NonNull span (operands.Slot n) t p q = (n ≡ t) × ReachedBy (λ x. At code x (raising null_exception)) span n (n + 2) n p q
   ThinnedAt kinds.Nullable span (operands.Slot n) t p q = (n ≡ t) × ReachedBy (λ x. x ≡ q) span n (n + 2) n p q
@@ -192,7 +199,8 @@ module _ (code : List Instruction) (bounds : Numbering) (types : Types) where
   ConversionBy false kinds.Char span o t p q = (o ≡ operands.Slot t) × (p ≡ q)
   ConversionBy false to span o t p q = ThinnedAt to span o t p q
 
-  -- The code at p converts a value in place. If the conversion changes its words, the value is in slot t. A char value is also in slot t.
+  -- Says that the code at p converts a value in place. If the conversion changes the words of the value, then the value is in slot t. A
+  -- char value is also in slot t.
   abbrev pub ConversionAt : (from to : Kind) → (span : Option ℕ) → Operand → (t p q : ℕ) → Type 0
   ConversionAt from to span o t p q = ConversionBy (keeps_words from to) to span o t p q
 
@@ -237,20 +245,22 @@ module _ (code : List Instruction) (bounds : Numbering) (types : Types) where
   LoadAt words (Local w n) d p q = At code p (move_of words d (operands.Slot (slot_of (starts_of types) n))) × (p + 1 ≡ q)
   LoadAt words (Global n) d p q = (n < length types.globals) × EachAt code load_word words (global_of (starts_of types) n) d p q
 
-  -- true if the code at p stores the words of a value from slots to memory, after an address
+  -- Holds if the code at p stores the words of a value from slots to memory, at an address plus an
+  -- offset.
   abbrev pub StoresAt : Kind → (many address offset slot p q : ℕ) → Type 0
   StoresAt kind zero address offset slot p q = p ≡ q
   StoresAt kind (suc many) address offset slot p q =
       At code p (store_of kind (operands.Slot address) offset (operands.Slot slot)) × StoresAt kind many address (offset + 4) (suc slot) (p + 1) q
 
-  -- true if the code at p replaces a number of elements in slot t by their number of words
+  -- Holds if the code at p replaces a number of elements in slot t by the number of words that
+  -- these elements take.
   abbrev pub SizedAt : Kind → (t p q : ℕ) → Type 0
   SizedAt kinds.Char t p q =
       At code p (instructions.Binary plain_binary.Add t (operands.Slot t) (operands.Word 3))
       × At code (p + 1) (instructions.Binary plain_binary.ShiftRight t (operands.Slot t) (operands.Word 2)) × (p + 1 + 1 ≡ q)
   SizedAt kind t p q = At code p (instructions.Binary plain_binary.Multiply t (operands.Slot t) (operands.Word (words_of_kind kind))) × (p + 1 ≡ q)
 
-  -- true if the code at p begins a new array, with its length in slot t
+  -- Holds if the code at p begins a new array whose length is in slot t.
   abbrev pub BegunAt : (handle : Operand) → Kind → (t p q : ℕ) → Type 0
   BegunAt handle kind t p q =
       (m : ℕ) × (r : ℕ) × GuardAt array_size comparisons.GreaterOrEqualUnsigned (operands.Slot t) (operands.Word (most_elements (bytes_of_kind kind) + 1)) p m
@@ -260,7 +270,8 @@ module _ (code : List Instruction) (bounds : Numbering) (types : Types) where
       × At code (r + 1) (instructions.Binary plain_binary.Add (t + 3) (operands.Slot (t + 3)) (operands.Slot t))
       × At code (r + 1 + 1) (instructions.Ask (requests.Allocate t handle (operands.Slot (t + 3)))) × (r + 3 ≡ q)
 
-  -- true if the code at p writes an element and jumps to the next one
+  -- Holds if the code at p writes an element of an array and jumps to the code for the next
+  -- element.
   abbrev pub FilledAt : Kind → (t head p q : ℕ) → Type 0
   FilledAt kind t head p q =
       (m : ℕ) × At code p (scale_of (bytes_of_kind kind) (t + 3 + words_of_kind kind) (t + 2))
@@ -269,14 +280,15 @@ module _ (code : List Instruction) (bounds : Numbering) (types : Types) where
       × At code m (instructions.Binary plain_binary.Add (t + 2) (operands.Slot (t + 2)) (operands.Word 1))
       × At code (m + 1) (instructions.Jump head) × (m + 2 ≡ q)
 
-  -- The code at h fills the elements of an array. The code from h to r tests the counter, and the code from r to s evaluates an element.
-  -- The code at s runs after the last element.
+  -- Says that the code at h fills the elements of an array. The code from h to r tests the counter, and the code from r to s evaluates
+  -- an element. The code at s runs after the last element.
   abbrev pub ElementsBy : (evaluated : Type 0) → Kind → (t d h r s q : ℕ) → Type 0
   ElementsBy evaluated kind t d h r s q =
       At code h (instructions.Branch comparisons.Equal (operands.Slot (t + 2)) (operands.Slot (t + 1)) s) × (h < s) × evaluated × FilledAt kind t h r s
       × At code s (instructions.Move (t + 2) (operands.Word 0)) × CopyAt code 3 (operands.Slot t) d (s + 1) q
 
-  -- true if the words of a stored value are after its address or in a local, or the value is one word
+  -- Holds if the words of a stored value are in slots after its address or in a local, or if the
+  -- value is one word.
   abbrev pub StandsApart : (words address n : ℕ) → Type 0
   StandsApart words address n =
       (words ≡ 1) ⊎ ((address < n) ⊎ ((number : ℕ) × (number < length types.locals) × (slot_of (starts_of types) number ≡ n) × (words ≤ words_in types.locals number)))
@@ -286,28 +298,30 @@ module _ (code : List Instruction) (bounds : Numbering) (types : Types) where
   SavedAt kind address (operands.Slot n) p q = StoresAt kind (words_of_kind kind) address 0 n p q × StandsApart (words_of_kind kind) address n
   SavedAt kind address (operands.Word n) p q = At code p (store_of kind (operands.Slot address) 0 (operands.Word n)) × (p + 1 ≡ q)
 
-  -- The code at p stores values of these kinds, in consecutive slots, in cells of the object whose address is in a slot. The cells begin
-  -- after a number of bytes.
+  -- Says that the code at p stores values of these kinds, from consecutive slots, in cells of the object whose address is in a slot. The
+  -- cells begin `at` bytes after the object's address.
   abbrev pub CellsAt : List Kind → (address at slot p q : ℕ) → Type 0
   CellsAt [] address at slot p q = p ≡ q
   CellsAt (kind ∷ ks) address at slot p q =
       (r : ℕ) × StoresAt kind (words_of_kind kind) address (begins kind at) slot p r × CellsAt ks address (following kind at) (slot + words_of_kind kind) r q
 
-  -- The code at p creates an object with cells of these kinds from the values in the slots from t on. The code also moves the address of
-  -- the new object to slot d.
+  -- Says that the code at p creates an object with cells of these kinds from the values in the slots from t on. The code also moves the
+  -- address of the new object to slot d.
   abbrev pub ObjectAt : (handle : Operand) → List Kind → (t d p q : ℕ) → Type 0
   ObjectAt handle ks t d p q =
       (m : ℕ) × (0 < length ks) × (slots_of_kinds ks ≤ MOST_BLOCK_WORDS)
       × At code p (instructions.Ask (requests.Allocate (t + slots_of_kinds ks) handle (operands.Word (max 1 (words_for (bytes_from 0 ks))))))
       × CellsAt ks (t + slots_of_kinds ks) 0 t (p + 1) m × At code m (instructions.Move d (operands.Slot (t + slots_of_kinds ks))) × (m + 1 ≡ q)
 
-  -- true if the code at p frees the block whose address is in an operand, unless it is 0
+  -- Holds if the code at p frees the block whose address is in an operand, unless this address is
+  -- 0.
   abbrev pub FreedAt : Operand → (p q : ℕ) → Type 0
   FreedAt o p q = At code p (jump_if_zero o q) × At code (p + 1) (instructions.Ask (requests.Free o)) × (p + 1 + 1 ≡ q)
 
 module _ (code : List Instruction) (bounds : Numbering) where
   abbrev mutual
-    -- the code of an expression, whose last instruction moves the value to slot d
+    -- Says that the code of an expression is at p; the last instruction of this code moves the
+    -- value to slot d.
     pub ExpressionAt : (types : Types) → Expression → (d t p q : ℕ) → Type 0
     ExpressionAt types (Number n) d t p q = At code p (instructions.Move d (operands.Word n)) × (p + 1 ≡ q)
     ExpressionAt types NullPointer d t p q = At code p (instructions.Move d (operands.Word 0)) × (p + 1 ≡ q)
@@ -326,7 +340,7 @@ module _ (code : List Instruction) (bounds : Numbering) where
         (given bounds.functions a ≡ kinds.Fat)
         × (r : Operand) × (m : ℕ) × OperandBy code bounds types (operand_of (starts_of types) a) (ExpressionAt types a (value_slot (starts_of types) a t) t p m) (value_slot (starts_of types) a t) r p m
         × CountAt code bounds types r d m q
-    -- a char that is used as an int keeps its word
+    -- Says that a char that is used as an int keeps its word.
     ExpressionAt types (Unary unary.Widen a) d t p q = (words_of_kind (given bounds.functions a) ≡ 1) × ExpressionAt types a d t p q
     ExpressionAt types (Unary o a) d t p q =
         (r : Operand) × (m : ℕ) × OperandBy code bounds types (operand_of (starts_of types) a) (ExpressionAt types a (value_slot (starts_of types) a t) t p m) (value_slot (starts_of types) a t) r p m
@@ -350,7 +364,7 @@ module _ (code : List Instruction) (bounds : Numbering) where
         × At code m (instructions.Ask (requests.CloseDynamic o)) × (m + 1 ≡ q)
     ExpressionAt types (New OnHeap i ty) d t p q = MadeAt types i (operands.Word HEAP) d t p q
     ExpressionAt types (New AsUnique i ty) d t p q = MadeAt types i (operands.Word UNIQUE) d t p q
-    -- the handle stays in slot t
+    -- The region handle stays in slot t while the initial content of the new object is evaluated.
     ExpressionAt types (New (ByHandle a) i ty) d t p q = (m : ℕ) × ExpressionAt types a t t p m × MadeAt types i (operands.Slot t) d (suc t) m q
     ExpressionAt types (AddressOf (Local w n) ty) d t p q =
         (v : Ty) × (slice_get types.locals n ≡ Some v) × At code p (instructions.AddressOf d (slot_of (starts_of types) n) (words_of v)) × LastByteAt code (kind_of v) d (p + 1) q
@@ -363,7 +377,7 @@ module _ (code : List Instruction) (bounds : Numbering) where
         × SavedAt code bounds types (kind_passed v) t o u m)
         × CopyAt code (passed_words v) o d m q
 
-    -- the code of a new object in the region of this handle
+    -- Says that the code from p to q creates a new object in the region of this handle.
     pub MadeAt : (types : Types) → Initial → (handle : Operand) → (d t p q : ℕ) → Type 0
     MadeAt types (Plain kind a) handle d t p q =
         (m : ℕ) × ExpressionAt types a t t p m × (given bounds.functions a ≡ kind) × ObjectAt code bounds types handle (kind ∷ []) t d m q
@@ -373,7 +387,8 @@ module _ (code : List Instruction) (bounds : Numbering) where
         × (level ≡ length types.counters)
         × ElementsBy code bounds types (ExpressionAt (counted types (t + 2)) a (t + 3) (t + 3) (h + 1) r) kind t d h r s q
 
-    -- The code moves the address of a place to an operand, without a number of bytes that are still to be added.
+    -- Says that the code moves the address of a memory access to an operand; c is a number of bytes that is yet
+    -- to be added.
     pub PlaceAt : (types : Types) → Dereference → Operand → (c t p q : ℕ) → Type 0
     PlaceAt types (Target k a ty) o c t p q =
         (x : Operand) × (m : ℕ) × OperandBy code bounds types (operand_of (starts_of types) a) (ExpressionAt types a (value_slot (starts_of types) a t) t p m) (value_slot (starts_of types) a t) x p m
@@ -387,7 +402,7 @@ module _ (code : List Instruction) (bounds : Numbering) where
         × At code r (instructions.Binary plain_binary.Add (t + 2) (operands.Slot (n + 2)) x) × ReachedAt code bounds types (span_in ty) n (t + 2) t (r + 1) q
         × (o ≡ reached_operand (span_in ty) n t) × (c ≡ 0)
 
-    -- the converted value is moved to slot d
+    -- Says that the code moves a converted value to slot d.
     pub InitialAt : (types : Types) → Converted → (d t p q : ℕ) → Type 0
     InitialAt types (Convert from to a) d t p q =
         EitherBy code bounds types (converts_there from to) ((words_of_kind (given bounds.functions a) ≡ words_of_kind to) × BroughtBy code bounds types (masks from to) (operand_of (starts_of types) a) (λ r. ExpressionAt types a (value_slot (starts_of types) a t) t p r) (value_slot (starts_of types) a t) (ExpressionAt types a d t p q) d p q)
@@ -395,17 +410,17 @@ module _ (code : List Instruction) (bounds : Numbering) where
         × OperandBy code bounds types (source_of (starts_of types) (Convert from to a)) (BroughtBy code bounds types (masks from to) (operand_of (starts_of types) a) (λ r. ExpressionAt types a (value_slot (starts_of types) a t) t p r) (value_slot (starts_of types) a t) (ExpressionAt types a (source_slot (starts_of types) (Convert from to a) t) t p m) (source_slot (starts_of types) (Convert from to a) t) p m) (source_slot (starts_of types) (Convert from to a) t) o p m
         × ConversionAt code bounds types from to (span_of a) o t m r × At code r (move_of (words_of_kind to) d o) × (r + 1 ≡ q))
 
-    -- the value is moved to slot t and converted there
+    -- Says that the code moves a value to slot t and converts it there.
     pub ConvertedAt : (types : Types) → Converted → (t p q : ℕ) → Type 0
     ConvertedAt types (Convert from to a) t p q = (m : ℕ) × BroughtBy code bounds types (masks from to) (operand_of (starts_of types) a) (λ r. ExpressionAt types a (value_slot (starts_of types) a t) t p r) (value_slot (starts_of types) a t) (ExpressionAt types a t t p m) t p m × ConversionAt code bounds types from to (span_of a) (operands.Slot t) t m q
 
-    -- the value is converted in place
+    -- Says that the code converts a value in place, in the operand that holds it.
     pub ConvertedOperandAt : (types : Types) → Converted → (t : ℕ) → Operand → (p q : ℕ) → Type 0
     ConvertedOperandAt types (Convert from to a) t o p q =
         (m : ℕ) × OperandBy code bounds types (source_of (starts_of types) (Convert from to a)) (BroughtBy code bounds types (masks from to) (operand_of (starts_of types) a) (λ r. ExpressionAt types a (value_slot (starts_of types) a t) t p r) (value_slot (starts_of types) a t) (ExpressionAt types a (source_slot (starts_of types) (Convert from to a) t) t p m) (source_slot (starts_of types) (Convert from to a) t) p m) (source_slot (starts_of types) (Convert from to a) t) o p m
         × ConversionAt code bounds types from to (span_of a) o t m q
 
-    -- the code of the only argument of `putchar`
+    -- Says that the code evaluates the only argument of `putchar`.
     pub PrintedAt : (types : Types) → Arguments → (t : ℕ) → Operand → (p q : ℕ) → Type 0
     PrintedAt types (MoreArguments c NoArguments) t o p q = ConvertedOperandAt types c t o p q
     PrintedAt types cs t o p q = ⊥
@@ -414,7 +429,8 @@ module _ (code : List Instruction) (bounds : Numbering) where
     ArgumentsAt types NoArguments t p q = p ≡ q
     ArgumentsAt types (MoreArguments c cs) t p q = (m : ℕ) × ConvertedAt types c t p m × ArgumentsAt types cs (t + passed_words c) m q
 
-    -- The left operand is l. If the operator does not accept every operand, l is slot t.
+    -- Says that the code applies operators to the left operand l. If an operator does not accept
+    -- every operand, then l is slot t.
     pub OperationsAt : (types : Types) → Operations → (l : Operand) → (d t p q : ℕ) → Type 0
     OperationsAt types NoOperations l d t p q = (l ≡ operands.Slot d) × (p ≡ q)
     OperationsAt types (ThenCompute o a os) l d t p q =
@@ -434,16 +450,19 @@ module _ (code : List Instruction) (bounds : Numbering) where
         × PointerAt code bounds types o r t (next_slot os d t) m s × OperationsAt types os (operands.Slot (next_slot os d t)) d t s q
 
 module _ (code : List Instruction) (bounds : Numbering) (types : Types) where
-  -- the code of the elements of an array, each of which is the value of this expression
+  -- Says that the code fills the elements of an array, each of which is the value of this
+  -- expression.
   abbrev pub ElementsAt : Expression → Kind → (t d h r s q : ℕ) → Type 0
   ElementsAt a kind t d h r s q = ElementsBy code bounds types (ExpressionAt code bounds (counted types (t + 2)) a (t + 3) (t + 3) (h + 1) r) kind t d h r s q
 
-  -- the code moves a value to slot d before the conversion; for an int that becomes a char it moves only the low byte
+  -- Says that the code moves a value to slot d before its conversion; for an int that becomes a char, it moves only
+  -- the low byte.
   abbrev pub BroughtAt : Converted → (d t p q : ℕ) → Type 0
   BroughtAt (Convert from to a) d t p q =
       BroughtBy code bounds types (masks from to) (operand_of (starts_of types) a) (λ r. ExpressionAt code bounds types a (value_slot (starts_of types) a t) t p r) (value_slot (starts_of types) a t) (ExpressionAt code bounds types a d t p q) d p q
 
-  -- the code of a value for slot d; the flag tells whether it is moved there before the conversion
+  -- Says that the code moves a value to slot d; the flag tells if the value is in slot d before its
+  -- conversion.
   abbrev pub InitialBy : Bool → (from to : Kind) → Expression → (d t p q : ℕ) → Type 0
   InitialBy there from to a d t p q =
       EitherBy code bounds types there ((words_of_kind (given bounds.functions a) ≡ words_of_kind to) × BroughtAt (Convert from to a) d t p q)
@@ -451,11 +470,11 @@ module _ (code : List Instruction) (bounds : Numbering) (types : Types) where
       × OperandBy code bounds types (source_of (starts_of types) (Convert from to a)) (BroughtAt (Convert from to a) (source_slot (starts_of types) (Convert from to a) t) t p m) (source_slot (starts_of types) (Convert from to a) t) o p m
       × ConversionAt code bounds types from to (span_of a) o t m r × At code r (move_of (words_of_kind to) d o) × (r + 1 ≡ q))
 
-  -- the code of an expression whose value is an operand
+  -- Says that the code evaluates an expression whose value is then an operand.
   abbrev pub ValueAt : Expression → (t : ℕ) → Operand → (p q : ℕ) → Type 0
   ValueAt a t o p q = OperandBy code bounds types (operand_of (starts_of types) a) (ExpressionAt code bounds types a (value_slot (starts_of types) a t) t p q) (value_slot (starts_of types) a t) o p q
 
-  -- the code of the second of two compared operands, with l as the first
+  -- Says that the code evaluates the second of two compared operands; l is the first operand.
   abbrev pub SecondAt : Expression → (l r : Operand) → (t p q : ℕ) → Type 0
   SecondAt a l r t p q =
       OperandBy code bounds types (operand_of (starts_of types) a) (LeftBy code bounds types (is_simple (starts_of types) a) (l ≡ operands.Slot t) × ExpressionAt code bounds types a (value_slot (starts_of types) a (suc t)) (suc t) p q) (value_slot (starts_of types) a (suc t)) r p q
@@ -468,25 +487,27 @@ module _ (code : List Instruction) (bounds : Numbering) (types : Types) where
   abbrev pub ConditionAt : Expression → (l r : Operand) → (t p q : ℕ) → Type 0
   ConditionAt a l r t p q = PairAt (compared_of a).left (compared_of a).right l r t p q
 
-  -- A jump compares two operands and leads to f if a condition fails, and to h if it holds.
+  -- Says that a jump compares two operands; control goes to f if a condition fails and to h if it
+  -- holds.
   abbrev pub ForkAt : Comparison → (l r : Operand) → (p f h : ℕ) → Type 0
   ForkAt failing l r p f h =
       (At code p (instructions.Branch failing l r f) × (p + 1 ≡ h)) ⊎ (At code p (instructions.Branch (opposite failing) l r h) × (p + 1 ≡ f))
 
-  -- a jump compares two operands, and each of its two targets has code
+  -- Says that a jump compares two operands and that each of its two targets has the required code.
   abbrev pub Forks : Comparison → (l r : Operand) → (p : ℕ) → (goes : (fails : Bool) → (p : ℕ) → Type 0) → Type 0
   Forks failing l r p goes = (f : ℕ) × (h : ℕ) × ForkAt failing l r p f h × goes true f × goes false h
 
-  -- a condition that compares two operands
+  -- Says that the code of a condition compares two operands and jumps to f if the condition fails,
+  -- and to h if it holds.
   abbrev pub ComparedAt : Expression → (f h t p : ℕ) → Type 0
   ComparedAt a f h t p = (l : Operand) × (r : Operand) × (m : ℕ) × ConditionAt a l r t p m × ForkAt (compared_of a).failing l r m f h
 
-  -- the places that a condition leads to
+  -- The positions to which a condition jumps: f if it fails, and h if it holds.
   abbrev pub Ends : (f h : ℕ) → (fails : Bool) → (p : ℕ) → Type 0
   Ends f h true p = p ≡ f
   Ends f h false p = p ≡ h
 
-  -- The code of a condition leads to f if the condition fails, and to h if it holds. The condition is a single comparison, or its operands
+  -- The code of a condition jumps to f if the condition fails, and to h if it holds. The condition is a single comparison, or its operands
   -- are conditions in turn.
   abbrev mutual
     pub BranchesAt : Expression → (f h t p : ℕ) → Type 0
@@ -496,7 +517,8 @@ module _ (code : List Instruction) (bounds : Numbering) (types : Types) where
         ⊎ ((x : ℕ) × (y : ℕ) × BranchesAt a x y t p × TestsAt (ThenTest u b os) true t x (Ends f h) × TestsAt (ThenTest u b os) false t y (Ends f h))
     BranchesAt a f h t p = ComparedAt a f h t p
 
-    -- the code for a left operand that is known to fail or to hold: it decides, or the right operand is evaluated
+    -- Says what code follows a left operand of `&&` or `||` that is known to fail or to hold: the left operand
+    -- decides, or the right operand is evaluated.
     pub TestsAt : Operations → (fails : Bool) → (t p : ℕ) → (goes : (fails : Bool) → (p : ℕ) → Type 0) → Type 0
     TestsAt NoOperations fails t p goes = goes fails p
     TestsAt (ThenTest logical.AndThen b os) true t p goes = TestsAt os true t p goes
@@ -507,32 +529,35 @@ module _ (code : List Instruction) (bounds : Numbering) (types : Types) where
         (f : ℕ) × (h : ℕ) × BranchesAt b f h t p × TestsAt os true t f goes × TestsAt os false t h goes
     TestsAt os fails t p goes = ⊥
 
-  -- The entry into a loop with these exits and a body at this place. The entry into a loop is the code of the loop's condition, or a jump
-  -- to the condition after the body.
+  -- Says that a loop with these exits and a body at position `body` is entered correctly. The loop is entered through its condition, or
+  -- by a jump to the condition after the body.
   abbrev pub EntryAt : Expression → Exits → (body t test : ℕ) → Type 0
   EntryAt a exits body t test =
       BranchesAt a exits.leaving body t (continue_target exits)
       ⊎ (At code (continue_target exits) (instructions.Jump test) × (continue_target exits < test))
 
-  -- the only operator on pointers of a condition: it compares the left operand with null or with the right operand
+  -- Says that a condition has only one pointer operator, which compares the left operand with null or with the
+  -- right operand.
   abbrev pub PointersAt : PointerOperator → Expression → Comparison → (l r : Operand) → (t p q : ℕ) → Type 0
   PointersAt o b failing l r t p q =
       ((null_compared o b ≡ Some failing) × (r ≡ operands.Word 0) × (p ≡ q)) ⊎ ((pointers_failing o ≡ Some failing) × SecondAt b l r t p q)
 
-  -- the only operator of a condition, a comparison with its right operand
+  -- Says that the only operator of a condition compares the left operand with the right operand.
   abbrev pub ComparesAt : Operations → Comparison → (l r : Operand) → (t p q : ℕ) → Type 0
   ComparesAt (ThenCompute o b NoOperations) failing l r t p q = (failing_comparison o ≡ Some failing) × SecondAt b l r t p q
   ComparesAt (ThenPointer o b NoOperations) failing l r t p q = PointersAt o b failing l r t p q
   ComparesAt (ThenPointerPeek n o b NoOperations) failing l r t p q = PointersAt o b failing l r t p q
   ComparesAt os failing l r t p q = ⊥
 
-  -- the assigned value is moved to its place, and is an operand afterwards
+  -- Says that the code moves the assigned value to its variable, and that the value is an operand
+  -- afterwards.
   abbrev pub AssignmentAt : Lvalue → Converted → Operand → (t p q : ℕ) → Type 0
   AssignmentAt (Local w n) c o t p q = (o ≡ operands.Slot (slot_of (starts_of types) n)) × HasRoom types n (kind_passed c) × InitialAt code bounds types c (slot_of (starts_of types) n) t p q
   AssignmentAt (Global n) c o t p q =
       (r : ℕ) × ConvertedOperandAt code bounds types c t o p r × HasGlobal types n (kind_passed c) × GlobalAt code (passed_words c) (global_of (starts_of types) n) o r q
 
-  -- a value is stored in a cell whose address is in slot t, and is an operand afterwards
+  -- Says that the code stores a value in a cell whose address is in slot t, and that the value is
+  -- an operand afterwards.
   abbrev pub StoredAt : Dereference → Converted → (t : ℕ) → Operand → (p q : ℕ) → Type 0
   StoredAt x v t o p q =
       (a : Operand) × (c : ℕ) × (r : ℕ) × (s : ℕ) × (u : ℕ) × PlaceAt code bounds types x a c t p r × AddressAt code a c t r s × ConvertedOperandAt code bounds types v (t + 1) o s u

@@ -1,4 +1,5 @@
--- The places of the code of statements in the code of a function. The places between the parts of a statement are existential.
+-- This file says where the code of statements is in the code of a function. The positions between the parts of a statement are
+-- existentially quantified.
 use Rattle.std.proofs.Common.{◌≡◌, ℕ, ◌+◌, ◌<◌, List, Option, None, Some}
 use Rattle.cyc_words.specs.Word.{IsWord}
 use Rattle.cyc_types.specs.declared.typed.Kind.{Kind}
@@ -27,33 +28,36 @@ use Rattle.cyc_lower_proof.specs.inside.Lowering.{results_of}
 use Rattle.cyc_lower_proof.proofs.slots.Widths.{kind_of_result, HasRoom, HasGlobal, HasLocal}
 use Rattle.cyc_lower_proof.proofs.relation.code.Stands.{EachAt, GlobalAt, AddressAt, OverAt, BlankAt, OperandBy, ReturnedAt, ConversionAt, LoadAt, StoresAt, ExpressionAt, PlaceAt, InitialAt, PrintedAt, BroughtAt, ValueAt, BranchesAt, EntryAt, AssignmentAt, StoredAt}
 
--- the code from p to q, in a function with these bounds and types of locals, with temporaries from slot t on
+-- Says what the code from p to q is, in a function with these bounds and types of locals, whose temporaries
+-- begin at slot t.
 module _ (code : List Instruction) (bounds : Numbering) (types : Types) where
   -- ---- swaps
 
-  -- true if a side of a swap has room for a value of this kind
+  -- Holds if one side of a swap has room for a value of this kind.
   abbrev pub HasSide : Side → Kind → Type 0
   HasSide (VariableSide (Local w n) ty) kind = HasRoom types n kind
   HasSide (VariableSide (Global n) ty) kind = HasGlobal types n kind
   HasSide (CellSide x) kind = Unit {0}
 
-  -- true if the code at p moves the address of a side that is a cell to slot t
+  -- Holds if the code at p moves the address of one side of a swap to slot t, if this side is a
+  -- cell.
   abbrev pub SideAt : Side → (t p q : ℕ) → Type 0
   SideAt (VariableSide l ty) t p q = p ≡ q
   SideAt (CellSide x) t p q = (o : Operand) × (c : ℕ) × (m : ℕ) × PlaceAt code bounds types x o c t p m × AddressAt code o c t m q
 
-  -- true if the code at p loads the words of a side into slots from d on
+  -- Holds if the code at p loads the words of one side of a swap into slots from d on.
   abbrev pub ReadAt : Side → Kind → (s d p q : ℕ) → Type 0
   ReadAt (VariableSide l ty) kind s d p q = LoadAt code bounds types (words_of_kind kind) l d p q
   ReadAt (CellSide x) kind s d p q = EachAt code (load_at kind s) (words_of_kind kind) 0 d p q
 
-  -- true if the code at p stores the words in slots from v on in a side
+  -- Holds if the code at p stores the words in the slots from v on in one side of a swap.
   abbrev pub WriteAt : Side → Kind → (s v p q : ℕ) → Type 0
   WriteAt (VariableSide (Local w n) ty) kind s v p q = At code p (move_of (words_of_kind kind) (slot_of (starts_of types) n) (operands.Slot v)) × (p + 1 ≡ q)
   WriteAt (VariableSide (Global n) ty) kind s v p q = GlobalAt code (words_of_kind kind) (global_of (starts_of types) n) (operands.Slot v) p q
   WriteAt (CellSide x) kind s v p q = StoresAt code bounds types kind (words_of_kind kind) s 0 v p q
 
-  -- true if the code at p reads both sides, the left one first, and then writes both
+  -- Holds if the code at p reads both sides of a swap, the left side first, and then writes both
+  -- sides.
   abbrev pub ExchangeAt : Kind → (left right : Side) → (t p q : ℕ) → Type 0
   ExchangeAt kind a b t p q =
       (m : ℕ) × (r : ℕ) × (s : ℕ) × ReadAt a kind t (t + 2) p m × ReadAt b kind (right_slot a t) (t + 2 + words_of_kind kind) m r
@@ -73,12 +77,13 @@ module _ (code : List Instruction) (bounds : Numbering) (types : Types) where
 
   -- ---- statements
 
-  -- true if the code at p closes the handlers from the outermost one on, if there are any
+  -- Holds if the code at p closes exception handlers from the outermost one on; without open
+  -- handlers it contains nothing.
   abbrev pub HandlersAt : Option ℕ → (p q : ℕ) → Type 0
   HandlersAt None p q = p ≡ q
   HandlersAt (Some first) p q = At code p (instructions.Leave first) × (p + 1 ≡ q)
 
-  -- true if the code at p closes lexical regions down to the mark in a slot
+  -- Holds if the code at p closes lexical regions until their number is the number saved in a slot.
   abbrev pub ClosedAt : (mark p q : ℕ) → Type 0
   ClosedAt mark p q = At code p (instructions.Ask (requests.CloseTo (operands.Slot mark))) × (p + 1 ≡ q)
 
@@ -86,11 +91,12 @@ module _ (code : List Instruction) (bounds : Numbering) (types : Types) where
   MarksAt None p q = p ≡ q
   MarksAt (Some mark) p q = ClosedAt mark p q
 
-  -- true if the code at p closes what a construct has opened
+  -- Holds if the code at p closes the handlers and regions that a construct has opened.
   abbrev pub LeaveAt : Opened → (p q : ℕ) → Type 0
   LeaveAt opened p q = (r : ℕ) × HandlersAt opened.handler p r × MarksAt opened.mark r q
 
-  -- true if the code at p keeps the number of open lexical regions in a slot for a `try`, whose handler closes the newer ones
+  -- Holds if the code at p saves the number of open lexical regions in a slot for a `try`; the handler of the `try` closes
+  -- the regions opened later.
   abbrev pub KeptAt : (scopes : Option ℕ) → (slot p q : ℕ) → Type 0
   KeptAt None slot p q = p ≡ q
   KeptAt (Some place) slot p q = At code p (instructions.CountLexical slot) × (p + 1 ≡ q)
@@ -109,12 +115,12 @@ module _ (code : List Instruction) (bounds : Numbering) (types : Types) where
   DeclarationAt n kind None t p q = (n < bounds.locals) × BlankAt code kind (slot_of (starts_of types) n) p q
   DeclarationAt n kind (Some c) t p q = (n < bounds.locals) × HasRoom types n (kind_passed c) × InitialAt code bounds types c (slot_of (starts_of types) n) t p q
 
-  -- true if the code at p moves the value of an exception to an operand
+  -- Holds if the code at p evaluates the value of a thrown exception into an operand.
   abbrev pub ThrownAt : Option Expression → Operand → (t p q : ℕ) → Type 0
   ThrownAt None o t p q = (o ≡ operands.Word 0) × (p ≡ q)
   ThrownAt (Some a) o t p q = ValueAt code bounds types a t o p q
 
-  -- true if the code at p moves the value of an exception to the local of a clause
+  -- Holds if the code at p moves the value of an exception to the local of a `catch` clause.
   abbrev pub CaughtAt : (number : Option ℕ) → (t p q : ℕ) → Type 0
   CaughtAt None t p q = p ≡ q
   CaughtAt (Some n) t p q =
@@ -125,14 +131,14 @@ module _ (code : List Instruction) (bounds : Numbering) (types : Types) where
   NamedAt n kind o p q =
       (n < bounds.locals) × HasLocal types n kind × At code p (move_of (words_of_kind kind) (slot_of (starts_of types) n) o) × (p + 1 ≡ q)
 
-  -- true if the code at p opens a lexical region, in a program that may
+  -- Holds if the code at p opens a lexical region, in a program that may open regions.
   abbrev pub OpenedAt : (number t p q : ℕ) → Type 0
   OpenedAt n t p q =
       (place : ℕ) × (types.scopes ≡ Some place) × At code p (instructions.Ask (requests.OpenLexical (t + 1)))
       × At code (p + 1) (instructions.Move t (operands.Slot (t + 2)))
       × NamedAt n kinds.Handle (operands.Slot (t + 1)) (p + 1 + 1) q
 
-  -- the code of statements with these exits
+  -- Says that the code of statements with these exits is at p.
   abbrev mutual
     pub StatementAt : Statement → Exits → (t p q : ℕ) → Type 0
     StatementAt (Block r js) exits t p q = ItemsAt js exits t p q
@@ -166,7 +172,8 @@ module _ (code : List Instruction) (bounds : Numbering) (types : Types) where
     ItemsAt (MoreItems (DeclareKey r n) js) exits t p q =
         (m : ℕ) × At code p (instructions.Ask (requests.OpenDynamic t)) × NamedAt n kinds.Key (operands.Slot t) (p + 1) m × ItemsAt js exits t m q
 
-    -- the code of the clauses of a `try`, each of which ends in a jump to this place
+    -- Says that the code of the clauses of a `try` is at p; the code of each clause ends in a jump
+    -- to `out`.
     pub ClausesAt : Clauses → (out : ℕ) → Exits → (t p q : ℕ) → Type 0
     ClausesAt NoClauses out exits t p q = At code p (goes_on t)
     ClausesAt (Default r js) out exits t p q = ItemsAt js exits t p q

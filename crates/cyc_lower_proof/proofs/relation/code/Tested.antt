@@ -1,4 +1,4 @@
--- The code after tests is reached from each of the tests.
+-- This file proves that the code after a chain of tests is reached from each of the tests.
 use Rattle.std.proofs.Common.{ℕ, Bool, true, false, List, inl}
 use Rattle.cyc_types.specs.declared.typed.LogicalOperator.TheVariants as logical
 use Rattle.cyc_types.specs.declared.typed.UnaryOperator.TheVariants as unary
@@ -11,7 +11,7 @@ use Rattle.cyc_lower_proof.specs.inside.Slots.{Types}
 use Rattle.cyc_lower_proof.proofs.relation.code.Stands.{Forks, ComparedAt, BranchesAt, TestsAt}
 
 module _ (code : List Instruction) (bounds : Numbering) (types : Types) where
-  -- a condition may be a single comparison
+  -- A condition that is a single comparison has the code of a condition.
   pub compared_whole : (a : Expression) (f h t p : ℕ) → ComparedAt code bounds types a f h t p → BranchesAt code bounds types a f h t p
   compared_whole (Unary unary.Not a) f h t p at = inl at
   compared_whole (Binary a (ThenTest u b os) ty) f h t p at = inl at
@@ -26,7 +26,8 @@ module _ (code : List Instruction) (bounds : Numbering) (types : Types) where
   tests_reach reach (ThenTest logical.OrElse b os) true t p (f, h, at_b, first, second) = tests_reach reach os true t f first
   tests_reach reach os fails t p at = absurd at
 
-  -- the continuation of tests may be replaced by another one
+  -- In the code of a chain of tests, the continuation may be replaced by a continuation that
+  -- follows from it.
   pub tests_go : {goes others : (fails : Bool) → (p : ℕ) → Type 0} → ((fails : Bool) (p : ℕ) → goes fails p → others fails p)
       → (os : Operations) (fails : Bool) (t p : ℕ) → TestsAt code bounds types os fails t p goes → TestsAt code bounds types os fails t p others
   tests_go leads NoOperations fails t p at = leads fails p at

@@ -1,4 +1,5 @@
--- The data in slots, variables and globals that are preserved while a step changes other data.
+-- This file is about the data in slots, variables and globals that are preserved while a step
+-- changes other data.
 use Rattle.std.proofs.Common.{◌≡◌, ◌≢◌, ℕ, ◌+◌, ◌≤◌, ◌<◌, Bool, List, [], ◌∷◌, ◌++◌, length, reverse, Option, None, Some, refl, sym, ap, subst, ◌∙◌, arith, inl, inr, length-append}
 use Rattle.std.specs.Prelude.{◌==◌, if◌then◌else◌}
 use Rattle.std.proofs.lemmas.Bool.{cases_eq, eq-eqb, eqb-true, false_from_ne_true}
@@ -56,13 +57,13 @@ contents_made objects x o below = ap content_of (slice_get_before objects x o be
 pub contents_new : (objects : List Object) (x : Object) → contents (objects ++ x ∷ []) (length objects) ≡ content_of (Some x)
 contents_new objects x = ap content_of (slice_get_last objects x)
 
--- true if the objects in a range hold equal values in both worlds
+-- Holds if the objects with numbers in a range contain equal values in both worlds.
 abbrev pub SameBetween : (low high : ℕ) (objects others : List Object) → Type 0
 SameBetween low high objects others = (o : ℕ) → low ≤ o → o < high → contents others o ≡ contents objects o
 
 -- ---- the locals of a call
 
--- the words of one local are outside of the words of another
+-- The words of a local are outside the words of any other local.
 other_outside : (types : Types) (n number many m : ℕ) → n < length types.locals → number < length types.locals → n ≢ number → many ≤ words_in types.locals number
     → slot_of (starts_of types) n ≤ m → m < slot_of (starts_of types) n + words_in types.locals n → Outside (slot_of (starts_of types) number) many m
 other_outside types n number many m inside there other few from to = elim (slot-apart types n number inside there other) [
@@ -70,7 +71,7 @@ other_outside types n number many m inside there other few from to = elim (slot-
   | inr following ↦ inr (omega (arith, following, from, few))
 ]
 
--- the newest entry for a number is found under that number
+-- A lookup of the number that was entered last yields its new entry.
 pub newest_there : (given : ℕ → Option ℕ) (number new : ℕ) → (if number == number then Some new else given number) ≡ Some new
 newest_there given number new = ap (λ (b : Bool). if b then Some new else given number) (eq-eqb number number refl)
 
@@ -91,12 +92,12 @@ module _ (t : Tables) where
   IsWord-is kinds.Key (Key region) word words p same is = is ∙ ap (λ x. Some (Some x)) (sym same)
   IsWord-is kind v word words p same is = absurd is
 
-  -- the words of an operand represent a value
+  -- The value of an operand is represented by words that begin at some position.
   pub in_words : (v : Operand) (slots : Words) (o : Place) → IsIn t v slots o → (words : Words) × (p : ℕ) × (words p ≡ operand_word slots o) × Is t v.kind v.value words p
   in_words v slots (operands.Slot n) is = (slots, n, refl, is)
   in_words v slots (operands.Word w) is = ((λ (i : ℕ). w), 0, refl, IsWord-is v.kind v.value w (λ (i : ℕ). w) 0 refl is)
 
-  -- the word of null is 0
+  -- A null pointer is represented by the word 0.
   pub null_at : (kind : Kind) (words : Words) (p : ℕ) → Is t kind Null words p → words p ≡ 0
   null_at kinds.Nullable words p is = is
   null_at kinds.Fat words p is = is.0
@@ -118,7 +119,7 @@ module _ (t : Tables) where
       let (words, p, same, is_it) = in_words (record { kind = kind; value = Thin object offset }) slots o is in
       subst (Points t object offset) same (points_at kind object offset words p is_it)
 
-  -- a value of one word is determined by that word
+  -- A value of one word is represented by that word.
   pub one_word : (kind : Kind) (v : Value) (words : Words) (p : ℕ) → words_of_kind kind ≡ 1 → Is t kind v words p → IsWord t kind v (words p)
   one_word kinds.Int (Int a) words p one is = is
   one_word kinds.Char (Int a) words p one is = is
@@ -130,11 +131,11 @@ module _ (t : Tables) where
   one_word kinds.Key (Key region) words p one is = is
   one_word kind v words p one is = absurd is
 
-  -- a word equal to the word of a value represents that value
+  -- Words that are equal to the words of a value represent this value.
   pub Is-same : (kind : Kind) (v : Value) (words other : Words) (p q : ℕ) → ((i : ℕ) → i < words_of_kind kind → other (q + i) ≡ words (p + i)) → Is t kind v words p → Is t kind v other q
   Is-same kind v words other p q same is = words_same t kind v words other p q same is
 
-  -- slots that are equal below a height hold equal values there
+  -- If two slot maps are equal below a height, then they hold equal values below this height.
   pub Holds-same : (slots other : Words) (base : ℕ) (vs : List Operand) → ((n : ℕ) → n < height base vs → other n ≡ slots n) → Holds t slots base vs → Holds t other base vs
   Holds-same slots other base [] same holds = tt
   Holds-same slots other base (v ∷ vs) same (is, holds) = (
@@ -142,7 +143,7 @@ module _ (t : Tables) where
     Holds-same slots other base vs (λ n below. same n (omega (arith, below))) holds,
   )
 
-  -- slots that are equal from the end of the locals on hold equal values there
+  -- If two slot maps are equal from the end of the locals on, then they hold equal values there.
   pub Holds-above : (slots other : Words) (base : ℕ) (vs : List Operand) → ((n : ℕ) → base ≤ n → other n ≡ slots n) → Holds t slots base vs → Holds t other base vs
   Holds-above slots other base [] same holds = tt
   Holds-above slots other base (v ∷ vs) same (is, holds) = (
@@ -162,7 +163,7 @@ module _ (t : Tables) where
         (subst (Is t v.kind v.value slots) (let e : first + (words_held vs + words_of_kind u.kind) ≡ first + words_of_kind u.kind + words_held vs = omega arith in e) is),
   )
 
-  -- values that were pushed one by one are in order in the slots
+  -- Values that were pushed one by one are in push order in the slots.
   pub in_order : (slots : Words) (base : ℕ) (vs rest : List Operand) → Holds t slots base (vs ++ rest) → HoldsFrom t slots (height base rest) (reverse vs)
   in_order slots base [] rest holds = tt
   in_order slots base (v ∷ vs) rest (is, holds) =
@@ -170,7 +171,7 @@ module _ (t : Tables) where
       subst (HoldsFrom t slots (height base rest)) (sym (reverse-append (v ∷ []) vs))
       (HoldsFrom-snoc slots (height base rest) (reverse vs) v (in_order slots base vs rest holds) (subst (Is t v.kind v.value slots) place is))
 
-  -- the arguments are copied into the first slots of a call
+  -- A call copies its arguments into the first slots of the callee.
   pub arguments_copied : (from to : Words) (source i many : ℕ) (vs : List Operand) → i + words_held vs ≤ many → HoldsFrom t from (source + i) vs → HoldsFrom t (copied from source many to 0) i vs
   arguments_copied from to source i many [] few holds = tt
   arguments_copied from to source i many (v ∷ vs) few (is, holds) = (
@@ -196,7 +197,8 @@ module _ (t : Tables) where
     small = hold.small;
   }
 
-  -- The word of a char is below 256 in other slots that are equal in the slot of the local.
+  -- If two slot maps are equal in the slot of a local of type char, then the word of the char is
+  -- below 256 in both.
   small_same : (types : Types) (slots other : Words) (number : ℕ) (kind : Kind) → HasRoom types number kind
       → ((m : ℕ) → slot_of (starts_of types) number ≤ m → m < slot_of (starts_of types) number + words_in types.locals number → other m ≡ slots m)
       → slots (slot_of (starts_of types) number) < 256 → other (slot_of (starts_of types) number) < 256
@@ -204,7 +206,7 @@ module _ (t : Tables) where
       let slot = slot_of (starts_of types) number in
       subst (λ (w : ℕ). w < 256) (sym (same slot (omega arith) (omega (arith, room, kind_positive kind)))) low
 
-  -- A local has its value in other slots that are equal in the slots of the local.
+  -- If two slot maps are equal in the slots of a local, then the local has its value in both.
   local_same : (types : Types) (slots other : Words) (number : ℕ) (v : Operand) → number < length types.locals → HasRoom types number v.kind
       → ((m : ℕ) → slot_of (starts_of types) number ≤ m → m < slot_of (starts_of types) number + words_in types.locals number → other m ≡ slots m)
       → Is t v.kind v.value slots (slot_of (starts_of types) number) → Is t v.kind v.value other (slot_of (starts_of types) number)
@@ -228,7 +230,7 @@ module _ (t : Tables) where
         small_same types slots other number r.kind r.room (λ m from to. same m (omega (arith, to, slot-room types number inside))) (hold.small number object at char);
   }
 
-  -- a local is assigned: only the words of its value change
+  -- Assigning a local changes only the words of its value.
   pub locals_assigned : (types : Types) (s : CallSlots) (objects others : List Object) (locals : ℕ → Option ℕ) (low high : ℕ) (slots after : Words) (number object : ℕ) (v : Operand)
       → locals number ≡ Some object → contents others object ≡ Some v → ((o : ℕ) → o ≢ object → contents others o ≡ contents objects o)
       → HasRoom types number v.kind → Is t v.kind v.value after (slot_of (starts_of types) number) → (IsCharAt t object → v.kind ≡ kinds.Char)
@@ -266,7 +268,7 @@ module _ (t : Tables) where
     ];
   }
 
-  -- a local with the newest object is declared, and the words of its value are written
+  -- A local is declared with the newest object, and the words of its value are written.
   pub locals_declared : (types : Types) (s : CallSlots) (objects : List Object) (e : Environment) (low : ℕ) (slots other : Words) (number many : ℕ) (x : Object)
       → number < length types.locals → many ≤ words_in types.locals number → low ≤ length objects → IsLocalRow t types s number (length objects)
       → ((m : ℕ) → Outside (slot_of (starts_of types) number) many m → other m ≡ slots m)
@@ -330,7 +332,7 @@ module _ (t : Tables) where
         ];
       }
 
-  -- no local exists before the first declaration
+  -- Before the first declaration of a call, the call has no locals.
   pub no_locals_hold : (types : Types) (s : CallSlots) (objects : List Object) (low high : ℕ) (slots : Words) → LocalsHold t types s objects (λ (number : ℕ). None) low high slots
   no_locals_hold types s objects low high slots = record {
     within = λ number object at. absurd (none-some object at);
@@ -384,7 +386,7 @@ module _ (t : Tables) where
     data_same g base objects locals outer slots other globals frames same (low, below, hold, waiting, words) =
         (low, below, locals_same_slots (types_at source g) (call_slots source g base) objects locals low (length objects) slots other same hold, waiting, words)
 
-    -- words after the locals are written
+    -- Writing words after the locals preserves the data of the call.
     pub data_above : (g base : ℕ) (objects : List Object) (locals : ℕ → Option ℕ) (outer : List Waiting) (slots after globals : Words) (frames : List Frame) (n many : ℕ)
         → base_of source g ≤ n → ((m : ℕ) → Outside n many m → after m ≡ slots m) → DataAt source t g base objects locals outer slots globals frames → DataAt source t g base objects locals outer after globals frames
     data_above g base objects locals outer slots after globals frames n many above same facts =
@@ -407,7 +409,7 @@ module _ (t : Tables) where
           globals_kept g objects others globals (λ o from to. same o (not o (omega (arith, to, above)))) words,
         )
 
-    -- the words of one global are written, and another global keeps its value
+    -- Writing the words of a global leaves the value of every other global unchanged.
     global_same : (g number other : ℕ) (v u : Operand) (globals after : Words) → HasGlobal (types_at source g) number v.kind → HasGlobal (types_at source g) other u.kind → other ≢ number
         → ((m : ℕ) → Outside (global_of (starts_at source g) number) (words_of_kind v.kind) m → after m ≡ globals m) → Is t u.kind u.value globals (global_of (starts_at source g) other)
         → Is t u.kind u.value after (global_of (starts_at source g) other)
@@ -420,7 +422,7 @@ module _ (t : Tables) where
           | inr following ↦ inr (omega (arith, below, following, room))
         ])) is
 
-    -- the first word of another global is unchanged
+    -- Writing the words of a global leaves the first word of every other global unchanged.
     global_first_same : (g number other : ℕ) (v : Operand) (kind : Kind) (globals after : Words) → HasGlobal (types_at source g) number v.kind → HasGlobal (types_at source g) other kind → other ≢ number
         → ((m : ℕ) → Outside (global_of (starts_at source g) number) (words_of_kind v.kind) m → after m ≡ globals m)
         → after (global_of (starts_at source g) other) ≡ globals (global_of (starts_at source g) other)
@@ -468,7 +470,7 @@ module _ (t : Tables) where
               ),
         )
 
-    -- words after all globals are written
+    -- Writing words after all globals preserves the data.
     pub data_after : (g base : ℕ) (objects : List Object) (locals : ℕ → Option ℕ) (outer : List Waiting) (slots globals after : Words) (frames : List Frame)
         → ((m : ℕ) → m < words_of_all (global_types source.globals) → after m ≡ globals m)
         → DataAt source t g base objects locals outer slots globals frames → DataAt source t g base objects locals outer slots after frames
@@ -504,7 +506,7 @@ module _ (t : Tables) where
           globals_kept g objects (objects ++ x ∷ []) globals (λ o from to. contents_made objects x o (omega (arith, to, above, below))) words,
         )
 
-    -- the callee has no locals yet, and its caller is pending
+    -- When a call begins, the callee has no locals yet, and its caller waits.
     pub data_called : (g base callee callee_base : ℕ) (objects : List Object) (e : Environment) (temporaries : Option ℕ → ℕ → ℕ) (values : List Operand) (outer : List Waiting) (slots other globals : Words) (f : Frame) (frames : List Frame)
         → f.caller.function ≡ g → f.caller.base ≡ base → f.caller.slots ≡ slots → Holds t slots (temporaries (scopes_of source) (base_of source g)) values → DataAt source t g base objects e.locals outer slots globals frames
         → DataAt source t callee callee_base objects (λ (number : ℕ). None) (record { locals = e.locals; temporaries = temporaries; values = values } ∷ outer) other globals (f ∷ frames)
@@ -526,7 +528,7 @@ module _ (t : Tables) where
       words,
     )
 
-    -- the caller continues, with a temporary written
+    -- After a call returns, the data of the caller are preserved, and a temporary has been written.
     pub data_returned : (g base : ℕ) (objects : List Object) (locals : ℕ → Option ℕ) (e : Waiting) (outer : List Waiting) (slots other globals : Words) (f : Frame) (frames : List Frame)
         → ((n : ℕ) → n < base_of source f.caller.function → other n ≡ f.caller.slots n)
         → DataAt source t g base objects locals (e ∷ outer) slots globals (f ∷ frames) → DataAt source t f.caller.function f.caller.base objects e.locals outer other globals frames
@@ -539,7 +541,7 @@ module _ (t : Tables) where
       words,
     )
 
-    -- the values that the caller holds
+    -- The caller still holds its values when a call returns.
     pub held_by_caller : (g base : ℕ) (objects : List Object) (locals : ℕ → Option ℕ) (e : Waiting) (outer : List Waiting) (slots globals : Words) (f : Frame) (frames : List Frame)
         → DataAt source t g base objects locals (e ∷ outer) slots globals (f ∷ frames) → Holds t f.caller.slots (e.temporaries (scopes_of source) (base_of source f.caller.function)) e.values
     held_by_caller g base objects locals e outer slots globals f frames (low, below, hold, (under, less, (waits, values), waiting), words) = values

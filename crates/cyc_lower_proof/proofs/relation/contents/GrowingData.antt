@@ -1,4 +1,5 @@
--- The data in slots, variables and frames that are preserved while tables grow.
+-- This file is about the data in slots, variables and frames that are preserved while the tables of
+-- objects grow.
 use Rattle.std.proofs.Common.{◌≡◌, ℕ, ◌+◌, List, [], ◌∷◌, length, Option, None, Some, slice_get, sym, ◌∙◌, ◌*◌}
 use Rattle.cyc_types.specs.TypedTrees.{Program}
 use Rattle.cyc_plain.specs.inside.State.{Words, Frame}
@@ -26,7 +27,7 @@ module _ (t u : Tables) (grows : Grows t u) where
   HoldsFrom-grows slots first [] holds = tt
   HoldsFrom-grows slots first (v ∷ vs) (is, holds) = (Is-grows grows v.kind v.value slots first is, HoldsFrom-grows slots (first + words_of_kind v.kind) vs holds)
 
-  -- an object that had a row in the table keeps that row
+  -- If an object had a row in the table of objects, then it keeps this row.
   char_before : (object : ℕ) (row : Row) → slice_get t.rows object ≡ Some row → IsCharAt u object → IsCharAt t object
   char_before object row there (address, is) = (address, there ∙ (sym (grows.rows object row there) ∙ is))
 
@@ -58,7 +59,7 @@ module _ (t u : Tables) (grows : Grows t u) where
     frames_grow source objects low frames outer rest,
   )
 
-  -- all data are preserved
+  -- If the tables of objects grow, then all data are preserved.
   pub data_grows : (source : Program) (g base : ℕ) (objects : List Object) (locals : ℕ → Option ℕ) (outer : List Waiting) (slots globals : Words) (frames : List Frame)
       → DataAt source t g base objects locals outer slots globals frames → DataAt source u g base objects locals outer slots globals frames
   data_grows source g base objects locals outer slots globals frames (low, below, hold, waiting, words) = (

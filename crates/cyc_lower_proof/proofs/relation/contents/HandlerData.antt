@@ -1,4 +1,5 @@
--- The handler records that are preserved, and the number of calls in the frames, while a step changes slots.
+-- This file is about the handler records that are preserved while a step changes slots, and about the number
+-- of calls in the frames.
 use Rattle.std.proofs.Common.{◌≡◌, ℕ, suc, ◌+◌, ◌≤◌, ◌<◌, Bool, true, false, List, [], ◌∷◌, length, Option, None, Some, refl, ap, ◌∙◌, arith, inl, inr}
 use Rattle.cyc_types.specs.TypedTrees.{Program}
 use Rattle.cyc_plain.specs.inside.State as plain
@@ -20,7 +21,7 @@ record-least : (scopes : Option ℕ) (slot : ℕ) → slot + RECORD_WORDS ≤ af
 record-least None slot = omega arith
 record-least (Some place) slot = omega arith
 
--- temporaries begin after the locals and the tag slot
+-- Temporaries begin after the locals and after the tag slot.
 following-above : (k : List Entry) (scopes : Option ℕ) (slot : ℕ) → slot < after_records k scopes slot
 following-above [] scopes slot = omega arith
 following-above (Handler handler ∷ k) scopes slot = omega (arith, following-above k scopes slot, record-least scopes (after_records k scopes slot))
@@ -38,7 +39,8 @@ floor-above source g k = following-above k (scopes_of source) (base_of source g)
 pub floor-least : (source : Program) (g : ℕ) (k : List Entry) → base_of source g ≤ floor source g k
 floor-least source g k = following-least k (scopes_of source) (base_of source g)
 
--- a handler record ends before the temporaries, with the number that is kept after it
+-- A handler record ends before the temporaries, and so does the region count that is saved after
+-- it.
 pub record_below : (source : Program) (g : ℕ) (k : List Entry) → floor source g k + RECORD_WORDS ≤ after_record_in (scopes_of source) (floor source g k)
 record_below source g k = record-least (scopes_of source) (floor source g k)
 
@@ -48,7 +50,8 @@ record_kept None slots other slot many same kept = tt
 record_kept (Some place) slots other slot many same kept = same (omega arith) ∙ kept
 
 module _ (source : Program) where
-  -- slots that are equal from the tag slot up to the temporaries contain equal records
+  -- If two slot maps are equal from the tag slot up to the temporaries, then they contain equal
+  -- handler records.
   handlers_above : (g : ℕ) (slots other : Words) (handlers : List plain.Handler) (frames : List Frame) (k : List Entry)
       → ((n : ℕ) → base_of source g < n → n < floor source g k → other n ≡ slots n) → HandlersStand source g slots handlers frames k → HandlersStand source g other handlers frames k
   handlers_above g slots other handlers frames [] same stand = absurd stand
@@ -78,13 +81,13 @@ module _ (source : Program) where
       → ((n : ℕ) → base_of source g ≤ n → n < floor source g k → other n ≡ slots n) → HandlersStand source g slots handlers frames k → HandlersStand source g other handlers frames k
   handlers_same g slots other handlers frames k same stand = handlers_above g slots other handlers frames k (λ n from to. same n (omega (arith, from)) to) stand
 
-  -- a local is written
+  -- Writing a local preserves the handler records.
   pub handlers_beside : (g : ℕ) (slots after : Words) (handlers : List plain.Handler) (frames : List Frame) (k : List Entry) (n many : ℕ) → n + many ≤ base_of source g
       → ((m : ℕ) → Outside n many m → after m ≡ slots m) → HandlersStand source g slots handlers frames k → HandlersStand source g after handlers frames k
   handlers_beside g slots after handlers frames k n many below same stand =
       handlers_same g slots after handlers frames k (λ m from to. same m (inr (omega (arith, below, from)))) stand
 
-  -- words after the records are written
+  -- Writing words after the handler records preserves the data.
   pub data_written : (t : Tables) (g base : ℕ) (objects : List Object) (locals : ℕ → Option ℕ) (k : List Entry) (slots after : Words) (handlers : List plain.Handler) (globals : Words) (frames : List Frame) (n many : ℕ)
       → floor source g k ≤ n → ((m : ℕ) → Outside n many m → after m ≡ slots m)
       → DataAt source t g base objects locals (callers k) slots globals frames × HandlersStand source g slots handlers frames k
@@ -94,7 +97,7 @@ module _ (source : Program) where
     handlers_same g slots after handlers frames k (λ m from to. same m (inl (omega (arith, to, above)))) stand,
   )
 
-  -- the tag slot is written
+  -- Writing the tag slot preserves the data.
   pub data_reported : (t : Tables) (g base : ℕ) (objects : List Object) (locals : ℕ → Option ℕ) (k : List Entry) (slots after : Words) (handlers : List plain.Handler) (globals : Words) (frames : List Frame)
       → ((m : ℕ) → Outside (base_of source g) 1 m → after m ≡ slots m)
       → DataAt source t g base objects locals (callers k) slots globals frames × HandlersStand source g slots handlers frames k
@@ -104,7 +107,7 @@ module _ (source : Program) where
     handlers_above g slots after handlers frames k (λ m from to. same m (inr (omega (arith, from)))) stand,
   )
 
-  -- Each frame is one call, and the running call is one more.
+  -- The number of active calls is the number of frames plus one for the running call.
   pub calls_counted : (g : ℕ) (slots : Words) (handlers : List plain.Handler) (frames : List Frame) (k : List Entry) → HandlersStand source g slots handlers frames k → calls_in k ≡ suc (length frames)
   calls_counted g slots handlers frames [] stand = absurd stand
   calls_counted g slots [] frames (Handler handler ∷ k) stand = absurd stand
@@ -118,7 +121,7 @@ module _ (source : Program) where
   calls_counted g slots handlers frames (CloseLexical region ∷ k) (marked, stand) = calls_counted g slots handlers frames k stand
   calls_counted g slots handlers frames (entry ∷ k) stand = calls_counted g slots handlers frames k stand
 
--- leaving entries of one call does not change the number of active calls
+-- Leaving stack entries of one call does not change the number of active calls.
 pub calls_left : (loop : Bool) (k : List Entry) → calls_in (left_by loop k) ≡ calls_in k
 calls_left loop [] = refl
 calls_left true (Loop condition body ∷ k) = refl

@@ -1,4 +1,5 @@
--- How slots and memory represent the state of a source run: values, objects, locals, globals and pending entries.
+-- This file says how slots and memory represent the state of a source run: values, objects, locals, globals and
+-- stack entries.
 use Rattle.std.proofs.Common.{◌≡◌, ℕ, suc, ◌+◌, ◌*◌, ◌≤◌, ◌<◌, true, List, [], ◌∷◌, ◌++◌, length, Option, None, Some, slice_get, false, Bool}
 use Rattle.std.specs.Prelude.{◌==◌, ◌&&◌, nat_le, if◌then◌else◌}
 use Rattle.cyc_types.specs.declared.typed.Kind.{Kind}
@@ -26,7 +27,7 @@ use Rattle.cyc_lower_proof.proofs.relation.places.Known.{IsGlobalRow}
 
 -- ---- values in slots
 
--- The word represents a value that is not a fat pointer.
+-- Says that a word represents a value that is not a fat pointer.
 abbrev pub IsWord : Tables → Kind → Value → (word : ℕ) → Type 0
 IsWord t kinds.Fat v word = ⊥
 IsWord t kind v word = Is t kind v (λ (i : ℕ). word) 0
@@ -36,12 +37,12 @@ abbrev pub IsIn : Tables → Kinded → Words → Operand → Type 0
 IsIn t v slots (operands.Slot n) = Is t v.kind v.value slots n
 IsIn t v slots (operands.Word w) = IsWord t v.kind v.value w
 
--- true if an operand is a constant, or in a slot up to this one
+-- Holds if an operand is a constant, or is in a slot up to slot t.
 abbrev pub IsLow : Operand → (t : ℕ) → Type 0
 IsLow (operands.Slot n) t = n ≤ t
 IsLow (operands.Word w) t = Unit {0}
 
--- true if these are the words of a fat pointer whose index is separate from the others
+-- Holds if these slots contain the words of a fat pointer whose index is in a separate slot.
 abbrev pub IsParts : Tables → Value → Words → (n m : ℕ) → Type 0
 IsParts t v slots n m = Is t kinds.Fat v (λ j. if j == 0 then slots n else if j == 1 then slots (n + 1) else slots m) 0
 
@@ -49,7 +50,7 @@ abbrev pub words_held : List Kinded → ℕ
 words_held [] = 0
 words_held (v ∷ vs) = words_held vs + words_of_kind v.kind
 
--- the slot after the values, of which the last one is in the first slots
+-- The slot after a list of values; the last value of the list is in the first slots.
 abbrev pub height : ℕ → List Kinded → ℕ
 height base [] = base
 height base (v ∷ vs) = height base vs + words_of_kind v.kind
@@ -58,12 +59,12 @@ abbrev pub Holds : Tables → Words → ℕ → List Kinded → Type 0
 Holds t slots base [] = Unit {0}
 Holds t slots base (v ∷ vs) = Is t v.kind v.value slots (height base vs) × Holds t slots base vs
 
--- true if the slots from this one on hold the values in order
+-- Holds if the slots from `first` on hold the values in order.
 abbrev pub HoldsFrom : Tables → Words → ℕ → List Kinded → Type 0
 HoldsFrom t slots first [] = Unit {0}
 HoldsFrom t slots first (v ∷ vs) = Is t v.kind v.value slots first × HoldsFrom t slots (first + words_of_kind v.kind) vs
 
--- the values that the entries of the running call hold
+-- The values that the stack entries of the running call hold.
 abbrev pub held : List Entry → List Kinded
 held [] = []
 held (Needs (ConvertTo from to target) ∷ k) = held k
@@ -74,11 +75,11 @@ held (Needs (ApplyPointer peek operator left) ∷ k) = left ∷ held k
 held (Needs Decide ∷ k) = held k
 held (Needs CountElements ∷ k) = held k
 held (Needs (Store place) ∷ k) = held k
--- the address of the cell is pending while the stored value is evaluated
+-- The address of the cell is held while the value to store is evaluated.
 held (Needs (StoreCell peek place) ∷ k) = record { kind = kinds.NonNull; value = place } ∷ held k
 held (Needs (Pass callee before rest) ∷ k) = before ++ held k
 held (Needs (PlaceBy initial) ∷ k) = held k
--- the handle stays while the initial content is evaluated
+-- The region handle is held while the initial content of the new object is evaluated.
 held (Needs (BesideHandle region) ∷ k) = record { kind = kinds.Handle; value = Handle region } ∷ held k
 held (Needs (MakePlain owner kind) ∷ k) = held k
 held (Needs (MakeFields owner before fields) ∷ k) = before ++ held k
@@ -100,12 +101,14 @@ held (NeedsPlace (SwapRight kind peek true left) ∷ k) = record { kind = kinds.
 held (NeedsPlace a ∷ k) = held k
 held (entry ∷ k) = []
 
--- The values that remain when a value is passed on: all except a handle that only the new object needed.
+-- The values that are still held when a value is passed on: all except a region handle that only the new
+-- object needed.
 abbrev pub kept : List Entry → List Kinded
 kept (Needs (BesideHandle region) ∷ k) = kept k
 kept k = held k
 
--- The slots of the counters of the running call, outermost first: each slot is the index of the pointer to its array.
+-- The slots of the array counters of the running call, outermost first: each counter is in the slot for the index of
+-- the pointer to its array.
 abbrev pub counters_of : (base : ℕ) → List Entry → List ℕ
 counters_of base [] = []
 counters_of base (Needs (ConvertTo from to target) ∷ k) = counters_of base k
@@ -135,14 +138,15 @@ counters_of base (NeedsPlace TakeAddress ∷ k) = counters_of base k
 counters_of base (NeedsPlace (StoreTo peek c) ∷ k) = counters_of base k
 counters_of base (entry ∷ k) = []
 
--- the number of arrays of the running call that are being filled
+-- The number of arrays that the running call is filling.
 abbrev pub arrays_in : List Entry → ℕ
 arrays_in [] = 0
 arrays_in (Needs (FillElement object count index level kind element) ∷ k) = suc (arrays_in k)
 arrays_in (Caller e ∷ k) = 0
 arrays_in (entry ∷ k) = arrays_in k
 
--- true if the counter of each array that is being filled is found under its level, for the running call and all pending calls
+-- Holds if the counter of each array that is being filled is found under the level of the array, for the running call and all
+-- waiting calls.
 abbrev pub AreCounted : (ℕ → Option ℕ) → List Entry → Type 0
 AreCounted counters [] = Unit {0}
 AreCounted counters (Needs (FillElement object count index level kind element) ∷ k) =
@@ -152,21 +156,22 @@ AreCounted counters (entry ∷ k) = AreCounted counters k
 
 -- ---- new objects
 
--- The handle of the region in which an object with this owner is allocated. The handle is a constant, or in the slot before t if the newest
--- entry keeps it.
+-- Says that `handle` is the handle of the region in which an object with this owner is allocated. The handle is a constant, or it is in the
+-- slot before t if the newest stack entry holds it.
 abbrev pub IsHandleOf : Owner → (handle : Operand) → (t : ℕ) → List Entry → Type 0
 IsHandleOf (InRegion region) (operands.Word n) t k = (region ≡ heap_number) × (n ≡ HEAP)
 IsHandleOf (InRegion region) (operands.Slot n) t (Needs (BesideHandle beside) ∷ k) = (region ≡ beside) × (suc n ≡ t)
 IsHandleOf (Unique true) (operands.Word n) t k = n ≡ UNIQUE
 IsHandleOf owner handle t k = ⊥
 
--- true if this is the word of the handle of this owner
+-- Holds if `word` is the region handle with which objects of this owner are allocated.
 abbrev pub HasHandle : Tables → Owner → (word : ℕ) → Type 0
 HasHandle t (InRegion region) word = slice_get t.handles region ≡ Some (Some word)
 HasHandle t (Unique true) word = word ≡ UNIQUE
 HasHandle t (Unique false) word = ⊥
 
--- a new object with cells of these kinds, which begin at this address
+-- A record of the facts about a new object: its cells have these kinds, and they begin at this
+-- address.
 pub record IsObject (t : Tables) (object address : ℕ) (kinds : List Kind) : Type 0 where
   pub row : slice_get t.rows object ≡ Some (Placed address kinds)
   pub range : InRange address kinds
@@ -186,7 +191,7 @@ abbrev pub content_of : Option Object → Option Kinded
 content_of None = None
 content_of (Some x) = content_of_cell (slice_get x.cells 0)
 
--- the value of a variable, by the number of its object
+-- The value of the variable whose object has this number.
 abbrev pub contents : List Object → ℕ → Option Kinded
 contents objects number = content_of (slice_get objects number)
 
@@ -195,25 +200,26 @@ pub record CallSlots : Type 0 where
   pub code : List Instruction
   pub base : ℕ
 
--- The row of a variable of this kind in the slots from this one on. The variable has this address if the code takes its address. A char is
--- the last byte of its word.
+-- The table row of a variable of this kind in the slots from `slot` on. The variable has an address if the code takes its address. The
+-- address of a char is that of the last byte of its word.
 abbrev pub row_of : CallSlots → (slot : ℕ) → Kind → Row
 row_of s slot kind = if is_pinned s.code slot && nat_le slots_base s.base then Placed (s.base + 4 * slot + variable_bytes kind) (kind ∷ []) else Variable
 
--- true if the object with this number is a char that has an address
+-- Holds if the object with this number is a char that has an address.
 abbrev pub IsCharAt : Tables → (object : ℕ) → Type 0
 IsCharAt t object = (address : ℕ) × (slice_get t.rows object ≡ Some (Placed address (kinds.Char ∷ [])))
 
--- the row of a local, which has the kind of its type and room for its words in its slots
+-- The table row of a local, which has the kind of the local's type and whose words have room in the
+-- local's slots.
 pub record IsLocalRow (t : Tables) (types : Types) (s : CallSlots) (number object : ℕ) : Type 0 where
   pub kind : Kind
   pub room : HasRoom types number kind
   pub of_type : kind_in types.locals number ≡ kind
   pub row : slice_get t.rows object ≡ Some (row_of s (slot_of (starts_of types) number) kind)
 
--- The slots hold the locals of a call, which have these types, and whose objects are from `low` up to `high`.
--- Each local has room in its slots and has its value there. If the local has an address, its slots are the words of its object. A char with
--- an address has a word below 256 even without a value, because a byte store keeps the other bytes of the word.
+-- The slots hold the locals of a call, which have these types, and whose objects are from `low` up to `high`. Each local has room in its
+-- slots and has its value there. If the local has an address, then its slots are the words of its object. A char with an address has a word
+-- below 256 even without a value, because a byte store keeps the other bytes of the word.
 pub record LocalsHold (t : Tables) (types : Types) (s : CallSlots) (objects : List Object) (locals : ℕ → Option ℕ) (low high : ℕ) (slots : Words) : Type 0 where
   pub within : (number object : ℕ) → locals number ≡ Some object → (number < length types.locals) × (low ≤ object) × (object < high)
   pub apart : (number other object : ℕ) → locals number ≡ Some object → locals other ≡ Some object → number ≡ other
@@ -222,8 +228,8 @@ pub record LocalsHold (t : Tables) (types : Types) (s : CallSlots) (objects : Li
       → Is t v.kind v.value slots (slot_of (starts_of types) number) × HasRoom types number v.kind
   pub small : (number object : ℕ) → locals number ≡ Some object → IsCharAt t object → slots (slot_of (starts_of types) number) < 256
 
--- The globals have these types, and each has room for its words and has its value there. The words belong to its object. The word of a char
--- is below 256.
+-- The globals have these types, and each global has room for its words and has its value in them. The words belong to the object of the
+-- global. The word of a char is below 256.
 abbrev pub GlobalsHold : Tables → Types → List Object → Words → Type 0
 GlobalsHold t types objects words =
     (number : ℕ) → number < length types.globals
@@ -232,7 +238,7 @@ GlobalsHold t types objects words =
     × (IsCharAt t number → words (global_of (starts_of types) number) < 256)
 
 -- The first temporary of the running call, given the slot after its locals. Between the locals and the first temporary are that slot, the
--- handler records and the marks of lexical regions.
+-- handler records and the saved counts of open lexical regions.
 abbrev pub after_records : List Entry → (scopes : Option ℕ) → (slot : ℕ) → ℕ
 after_records [] scopes slot = slot + 1
 after_records (Handler clauses ∷ k) scopes slot = after_record_in scopes (after_records k scopes slot)
@@ -241,16 +247,17 @@ after_records (Caller e ∷ k) scopes slot = slot + 1
 after_records (Main ∷ k) scopes slot = slot + 1
 after_records (entry ∷ k) scopes slot = after_records k scopes slot
 
--- the number of open lexical regions of all calls
+-- The number of lexical regions that all active calls have open.
 abbrev pub scopes_in : List Entry → ℕ
 scopes_in k = length (lexicals_of k)
 
--- true if this number of lexical regions may be open: 0 if the program opens none
+-- Holds if `many` lexical regions may be open: `many` is 0 if the program opens none.
 abbrev pub MayBeOpen : (scopes : Option ℕ) → (many : ℕ) → Type 0
 MayBeOpen None many = many ≡ 0
 MayBeOpen (Some place) many = Unit {0}
 
--- a pending call: its locals, its first temporary as a function of the end of its locals, and the values that it holds
+-- A waiting call: its locals, its first temporary as a function of the end of its locals, and the values that it
+-- holds.
 pub record Waiting : Type 0 where
   pub locals : ℕ → Option ℕ
   pub temporaries : Option ℕ → ℕ → ℕ
@@ -261,23 +268,24 @@ callers [] = []
 callers (Caller e ∷ k) = record { locals = e.locals; temporaries = after_records k; values = held k } ∷ callers k
 callers (entry ∷ k) = callers k
 
--- true of the newest open handler
+-- Says that the property `P` holds of the newest open handler.
 abbrev pub Newest : List plain.Handler → ((index first : ℕ) → Words → List plain.Handler → Type 0) → Type 0
 Newest [] P = ⊥
 Newest (plain.Caught ∷ handlers) P = ⊥
 Newest (plain.Open index first contents ∷ handlers) P = P index first contents handlers
 
--- the record of a handler is unchanged since the handler was opened
+-- Says that the record of a handler is unchanged since the handler was opened.
 abbrev pub IsIntact : Words → (first : ℕ) → (contents : Words) → Type 0
 IsIntact slots first contents =
     (slots first ≡ contents 0) × (slots (first + 1) ≡ contents 1) × (slots (first + 2) ≡ contents 2) × (slots (first + 3) ≡ contents 3)
 
--- true if a slot keeps the number of open lexical regions for a `try`
+-- Holds if a slot saves the number of open lexical regions for a `try`.
 abbrev pub IsKept : (scopes : Option ℕ) → Words → (slot many : ℕ) → Type 0
 IsKept None slots slot many = Unit {0}
 IsKept (Some place) slots slot many = slots slot ≡ many
 
--- The remaining entries after a loop or the function is left. The handlers of the remaining entries are the open ones.
+-- The stack entries that remain after a loop or the function is left. The handlers of these entries are the ones that
+-- stay open.
 abbrev pub left_by : (loop : Bool) → List Entry → List Entry
 left_by loop [] = []
 left_by loop (Loop condition body ∷ k) = if loop then k else left_by loop k
@@ -285,14 +293,14 @@ left_by loop (Caller e ∷ k) = Caller e ∷ k
 left_by loop (Main ∷ k) = Main ∷ k
 left_by loop (entry ∷ k) = left_by loop k
 
--- the entries without the handlers that the plain program closes at once
+-- The stack entries without the handlers that the plain program closes at once.
 abbrev pub handling : Focus → List Entry → List Entry
 handling Breaking k = left_by true k
 handling Continuing k = left_by true k
 handling (Returning v) k = left_by false k
 handling focus k = k
 
--- the regions of variables that the entries name
+-- The numbers of the regions of variables that the stack entries name.
 abbrev pub homes : List Entry → List ℕ
 homes [] = []
 homes (CloseRegion region home ∷ k) = region ∷ home ∷ homes k

@@ -1,4 +1,4 @@
--- The contents of slots after a value has been moved.
+-- This file is about the contents of slots after a value has been moved.
 use Rattle.std.proofs.Common.{◌≡◌, ℕ, ◌+◌, ◌<◌, ◌≤◌, Bool, true, false, refl, ap, ◌∙◌, arith, inl, inr}
 use Rattle.std.proofs.lemmas.Bool.{eqb-true}
 use Rattle.std.specs.Prelude.{◌==◌, if◌then◌else◌}
@@ -31,7 +31,7 @@ moves program choice c words d (operands.Slot n) = by (words == 1)
     by true = refl
     by false = refl
 
--- a slot outside the written slots is unchanged
+-- A slot outside the written slots keeps its word.
 pub put_elsewhere : (slots : Words) (d w many m : ℕ) → 1 ≤ many → Outside d many m → put slots d w m ≡ slots m
 put_elsewhere slots d w many m some (inl below) = put-other slots d m w (λ same. absurd (omega (arith, same, below)))
 put_elsewhere slots d w many m some (inr above) = put-other slots d m w (λ same. absurd (omega (arith, same, above, some)))
@@ -48,7 +48,7 @@ moved_elsewhere slots words d (operands.Slot n) m some out = by (words == 1)
     by true = put_elsewhere slots d (slots n) words m some out
     by false = copied_elsewhere slots slots n words d m out
 
--- copied words represent the value of the original words
+-- Copied words represent the value that the original words represent.
 pub copied_is : (t : Tables) (v : Kinded) (from to : Words) (source many d : ℕ) → words_of_kind v.kind ≤ many → Is t v.kind v.value from source → Is t v.kind v.value (copied from source many to d) d
 copied_is t v from to source many d few is =
     Is-same t v.kind v.value from (copied from source many to d) source d (λ i below. copied-inside from to source many d i (omega (arith, below, few))) is

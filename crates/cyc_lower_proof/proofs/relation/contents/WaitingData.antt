@@ -1,4 +1,5 @@
--- A local of a pending call: the place of its call, and what is preserved when the local is assigned.
+-- This file is about a local of a waiting call: the frame of its call, and the data that are
+-- preserved when the local is assigned.
 use Rattle.std.proofs.Common.{◌≡◌, ◌≢◌, ℕ, zero, suc, ◌≤◌, ◌<◌, List, [], ◌∷◌, length, set, Option, Some, slice_get, refl, sym, ap, subst, arith, inr}
 use Rattle.std.proofs.lemmas.Option.{same_Some, none-some}
 use Rattle.cyc_types.specs.TypedTrees.{Program}
@@ -19,18 +20,18 @@ use Rattle.cyc_lower_proof.proofs.relation.contents.HandlerData.{following-least
 use Rattle.cyc_plain.specs.inside.Memory.{IsBelow, AreBelow}
 use Rattle.cyc_types.specs.declared.typed.Kind.TheVariants as kinds
 
--- the frame with other slots
+-- The frame `f` with its slots replaced.
 abbrev pub with_slots_of : Frame → Words → Frame
 with_slots_of f slots = record f { caller = record f.caller { slots = slots } }
 
--- temporaries begin after the locals
+-- The temporaries of a waiting call begin after its locals.
 pub callers_least : (k : List Entry) (scopes : Option ℕ) (i : ℕ) (x : Waiting) → slice_get (callers k) i ≡ Some x → (base : ℕ) → base ≤ x.temporaries scopes base
 callers_least [] scopes i x at base = absurd (none-some x at)
 callers_least (Caller e ∷ k) scopes zero x at base = subst (λ (y : Waiting). base ≤ y.temporaries scopes base) (same_Some _ x at) (following-least k scopes base)
 callers_least (Caller e ∷ k) scopes (suc i) x at base = callers_least k scopes i x at base
 callers_least (entry ∷ k) scopes i x at base = callers_least k scopes i x at base
 
--- the calls keep their places
+-- Writing slots of a waiting call leaves the addresses of all calls unchanged.
 pub below_set : (program : PlainProgram) (function base : ℕ) (frames : List Frame) (i : ℕ) (f : Frame) (slots : Words) → slice_get frames i ≡ Some f → AreBelow program function base frames
     → AreBelow program function base (set frames i (with_slots_of f slots))
 below_set program function base [] i f slots at below = absurd (none-some f at)
@@ -55,7 +56,7 @@ module _ (t : Tables) (source : Program) where
   abbrev Locals : (objects : List Object) → Waiting → Frame → (low high : ℕ) → Type 0
   Locals objects x f low high = LocalsHold t (types_at source f.caller.function) (call_slots source f.caller.function f.caller.base) objects x.locals low high f.caller.slots
 
-  -- the frame of a pending call
+  -- The frame of a waiting call, with the facts about its locals.
   pub record IsFrameAt (objects : List Object) (high : ℕ) (frames : List Frame) (x : Waiting) (i : ℕ) : Type 0 where
     pub frame : Frame
     pub at : slice_get frames i ≡ Some frame

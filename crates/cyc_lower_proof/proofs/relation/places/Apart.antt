@@ -1,4 +1,5 @@
--- No word belongs to two live variables: globals and the locals of active calls do not overlap.
+-- No memory word belongs to two live variables: globals and the locals of active calls do not
+-- overlap.
 use Rattle.std.proofs.Common.{◌≡◌, ◌≢◌, ℕ, zero, suc, ◌+◌, ◌*◌, ◌<◌, ◌≤◌, true, List, [], ◌∷◌, length, Option, None, Some, slice_get, sym, ap, subst, ◌∙◌, arith, inl, inr}
 use Rattle.std.proofs.lemmas.Bool.{cases_eq, cases_lt}
 use Rattle.std.proofs.lemmas.Option.{same_Some, none-some}
@@ -32,7 +33,7 @@ use Rattle.cyc_lower_proof.proofs.relation.places.Leads.{IsNamed, is_global, is_
 use Rattle.cyc_lower_proof.specs.inside.ValueCode.{variable_bytes}
 use Rattle.cyc_lower_proof.proofs.slots.CellBytes.{last_low}
 
--- Of two pending calls, the older one has its slots above the slots of the newer one.
+-- Of two waiting calls, the older one has its slots at higher addresses than the newer one.
 frames_below : (program : PlainProgram) (function base : ℕ) (frames : List Frame) (i j : ℕ) (f h : Frame) → AreBelow program function base frames → slice_get frames i ≡ Some f → slice_get frames j ≡ Some h → i < j
     → f.caller.base + 4 * (routine_at program f.caller.function).slots ≤ h.caller.base
 frames_below program function base [] i j f h below at there less = absurd (none-some f at)
@@ -42,7 +43,8 @@ frames_below program function base (x ∷ frames) zero (suc j) f h (first, rest)
 frames_below program function base (x ∷ frames) (suc i) zero f h below at there less = absurd (omega (arith, less))
 frames_below program function base (x ∷ frames) (suc i) (suc j) f h (first, rest) at there less = frames_below program x.caller.function x.caller.base frames i j f h rest at there (omega (arith, less))
 
--- The place of a word of a variable: in a global, or in a local of the running call or of a pending call.
+-- The position of a word of a variable: it is in a global, or in a local of the running call or of a
+-- waiting call.
 data Lies (source : Program) (locals : ℕ → Option ℕ) (outer : List Waiting) (g base : ℕ) (frames : List Frame) (object word : ℕ) : Type 0 where
   in_global : object < length (global_types source.globals) → (bytes : ℕ) → bytes ≤ 3 → word ≡ GLOBALS_BASE + 4 * first_word (global_types source.globals) object + bytes → (words : ℕ) → 0 < words → words ≤ words_in (global_types source.globals) object
       → GLOBALS_BASE + 4 * (first_word (global_types source.globals) object + words) ≤ STORE_BASE → Lies source locals outer g base frames object word
@@ -74,7 +76,7 @@ module _ (source : Program) {t : Tables} {w : World} {store : StoreState} {local
       let place = local-pointer r points in
       in_other i number x frame.frame waits frame.at here (frame.holds.within number object here).0 (omega (arith, r.room, kind-some r.kind)) place.pinned (variable_bytes r.kind) (last_low r.kind) place.at
 
-  -- two locals of one call do not overlap
+  -- Two locals of one call do not overlap.
   same_call : (h : ℕ) (at a b bytes more : ℕ) → bytes ≤ 3 → more ≤ 3 → a < length (types_at source h).locals → b < length (types_at source h).locals → 1 ≤ words_in (types_at source h).locals a → 1 ≤ words_in (types_at source h).locals b
       → at + 4 * slot_of (starts_at source h) a + bytes ≡ at + 4 * slot_of (starts_at source h) b + more → a ≡ b
   same_call h at a b bytes more few fewer inside around some also same = elim (cases_eq a b) [
@@ -88,7 +90,7 @@ module _ (source : Program) {t : Tables} {w : World} {store : StoreState} {local
   low : slots_base ≤ base
   low = below-low lowered g base frames names.lie
 
-  -- a word of a pending call is above the words of the running call
+  -- A word of a waiting call has a higher address than the words of the running call.
   above_running : (i : ℕ) (f : Frame) (slot other bytes more : ℕ) → bytes ≤ 3 → slice_get frames i ≡ Some f → is_pinned (code_of source g) slot ≡ true → base + 4 * slot + bytes ≢ f.caller.base + 4 * other + more
   above_running i f slot other bytes more low at pinned same =
       absurd (omega (arith, same, low, below-waiting lowered g base frames i f names.lie at, pinned-inside lowered names.well g slot pinned))
@@ -98,7 +100,7 @@ module _ (source : Program) {t : Tables} {w : World} {store : StoreState} {local
   above_other i j f h slot other bytes more low at there less pinned same =
       absurd (omega (arith, same, low, frames_below lowered g base frames i j f h names.lie at there less, pinned-inside lowered names.well f.caller.function slot pinned))
 
-  -- globals are before the store, and slots are after it
+  -- Globals are at lower addresses than the store, and slots are at higher addresses.
   before_slots : (i : ℕ) (f : Frame) → slice_get frames i ≡ Some f → slots_base ≤ f.caller.base
   before_slots i f at = omega (arith, below-waiting lowered g base frames i f names.lie at, low)
 

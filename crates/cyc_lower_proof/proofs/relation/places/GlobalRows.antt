@@ -1,4 +1,4 @@
--- The places of globals: one after the other, all before the store.
+-- This file says where globals are: one after the other, at lower addresses than the store.
 use Rattle.std.proofs.Common.{◌≡◌, ℕ, zero, suc, ◌+◌, ◌*◌, ◌<◌, ◌≤◌, List, [], ◌∷◌, length, None, Some, refl, ap, inl, arith}
 use Rattle.std.specs.Prelude.{slice_get, unwrap_or}
 use Rattle.std.proofs.lemmas.List.{length-map}
@@ -21,7 +21,7 @@ use Rattle.cyc_lower_proof.proofs.slots.Slots.{global-room}
 use Rattle.cyc_lower_proof.proofs.relation.places.Known.{IsGlobalRow, first_word}
 use Rattle.cyc_lower_proof.specs.inside.ValueCode.{variable_bytes}
 
--- the rows of globals whose words begin at this word
+-- The table rows of globals whose words begin at word `first`.
 abbrev pub rows_from : (first : ℕ) → List GlobalVariable → List Row
 rows_from first [] = []
 rows_from first (g ∷ globals) = Placed (GLOBALS_BASE + 4 * first + variable_bytes (kind_of g.of_type)) (kind_of g.of_type ∷ []) ∷ rows_from (first + words_of g.of_type) globals

@@ -1,5 +1,5 @@
--- The targets of pointers. Each object with an address belongs to the store or is a global, and its words are consecutive from one address
--- on.
+-- This file is about the targets of pointers. Each object with an address belongs to the store or is a global, and its words are
+-- consecutive from one address on.
 use Rattle.std.proofs.Common.{◌≡◌, ℕ, ◌+◌, ◌*◌, ◌<◌, ◌≤◌, List, [], ◌∷◌, length, Some, sym, ap, subst, ◌∙◌, inl, inr, arith}
 use Rattle.std.specs.Prelude.{◌⊎◌, slice_get, unwrap_or, ◌%◌, ◌^◌}
 use Rattle.cyc_types.specs.declared.typed.Kind.{Kind}
@@ -24,11 +24,11 @@ use Rattle.cyc_words.proofs.Options.{same_from_some}
 use Rattle.cyc_words.proofs.Items.{below_from_slice_get}
 use Rattle.cyc_lower_proof.specs.inside.ValueCode.{address_of_global, variable_bytes}
 
--- the first word of a global, given the types of all globals
+-- The number of the first word of a global, given the types of all globals.
 abbrev pub first_word : List Ty → (number : ℕ) → ℕ
 first_word globals number = unwrap_or (slice_get (starts_from 0 globals) number) 0
 
--- the row of a global, whose words end before the store begins
+-- The table row of a global, whose words end before the store begins.
 pub record IsGlobalRow (t : Tables) (globals : List Ty) (number : ℕ) : Type 0 where
   pub kind : Kind
   pub row : slice_get t.rows number ≡ Some (Placed (GLOBALS_BASE + 4 * first_word globals number + variable_bytes kind) (kind ∷ []))
@@ -39,25 +39,25 @@ pub record IsGlobalRow (t : Tables) (globals : List Ty) (number : ℕ) : Type 0 
 pub global-row_grows : (t u : Tables) → Grows t u → (globals : List Ty) (number : ℕ) → IsGlobalRow t globals number → IsGlobalRow u globals number
 global-row_grows t u grows globals number r = record { kind = r.kind; row = grows.rows number (Placed (GLOBALS_BASE + 4 * first_word globals number + variable_bytes r.kind) (r.kind ∷ [])) r.row; room = r.room; of_type = r.of_type; low = r.low }
 
--- the row of a variable in a slot, after the store
+-- The table row of a variable in a slot, at a higher address than the store.
 pub record IsSlotRow (t : Tables) (number : ℕ) : Type 0 where
   pub address : ℕ
   pub kind : Kind
   pub row : slice_get t.rows number ≡ Some (Placed address (kind ∷ []))
   pub following : slots_base ≤ address
 
--- the row of a variable: that of a global or of a local, or one without an address
+-- Says that a table row is that of a variable: a global, a local, or a variable without an address.
 abbrev pub IsVariableRow : Tables → (globals : List Ty) → (number : ℕ) → Type 0
 IsVariableRow t globals number = (slice_get t.rows number ≡ Some Variable) ⊎ (IsGlobalRow t globals number ⊎ IsSlotRow t number)
 
 module _ {t : Tables} {w : World} {s : StoreState} (related : Related t w s) (globals : List Ty) where
-  -- an object with the row of a variable was created
+  -- An object whose table row is that of a variable was created.
   pub row-made_there : (number : ℕ) → IsVariableRow t globals number → number < length w.objects
   row-made_there number (inl row) = subst (λ n. number < n) related.rows (below_from_slice_get t.rows number Variable row)
   row-made_there number (inr (inr r)) = subst (λ n. number < n) related.rows (below_from_slice_get t.rows number (Placed r.address (r.kind ∷ [])) r.row)
   row-made_there number (inr (inl r)) = subst (λ n. number < n) related.rows (below_from_slice_get t.rows number (Placed (GLOBALS_BASE + 4 * first_word globals number + variable_bytes r.kind) (r.kind ∷ [])) r.row)
 
-  -- the object of a variable is not an object of the store
+  -- The object of a variable is not an object of the heap store.
   pub row-away : (number h : ℕ) (x : Object) → IsVariableRow t globals number → Alive t w number h x → ⊥
   row-away number h x (inl row) alive = variable-alone related number h x row alive
   row-away number h x (inr (inr r)) alive =
@@ -77,7 +77,8 @@ module _ {t : Tables} {w : World} {s : StoreState} (related : Related t w s) (gl
       let short : 268435456 + 4 * (first_word globals number + words_of_kind r.kind) ≤ 536870912 = r.low in
       omega (arith, low, address, short, kind_bytes r.kind, bytes-some r.kind)
 
--- a pointer to a global leads to its first word, or to the last byte of the word of a char
+-- A pointer to a global is the address of the global's first word or, if the global is a char, of
+-- the last byte of its word.
 pub global-first : {t : Tables} (globals : List Ty) (number offset word : ℕ) (r : IsGlobalRow t globals number) → Points t number offset word
     → (offset ≡ 0) × (word ≡ GLOBALS_BASE + 4 * first_word globals number + variable_bytes r.kind)
 global-first {t} globals number offset word r points =
@@ -96,7 +97,7 @@ global_points {t} globals number r = record {
   at = omega (arith, begins-first r.kind);
 }
 
--- the address of a global, as a word
+-- The address of a global fits in a 32-bit word.
 pub global_address : {t : Tables} (globals : List Ty) (number : ℕ) (r : IsGlobalRow t globals number)
     → address_of_global r.kind (first_word globals number) ≡ GLOBALS_BASE + 4 * first_word globals number + variable_bytes r.kind
 global_address {t} globals number r =
@@ -107,7 +108,7 @@ global_address {t} globals number r =
     = ap (λ n. add_of GLOBALS_BASE (mul_of n 4)) small ∙ (ap (add_of GLOBALS_BASE) product ∙ omega (arith, short)) in
     ap (λ n. add_of n (variable_bytes r.kind)) first ∙ omega (arith, short, kind_bytes r.kind)
 
--- the global has the kind of its cell
+-- A global has the kind of its cell.
 pub global_kind : {t : Tables} {globals : List Ty} {number offset word : ℕ} (r : IsGlobalRow t globals number) (points : Points t number offset word) {kind : Kind} → slice_get points.kinds offset ≡ Some kind → r.kind ≡ kind
 global_kind {t} {globals} {number} {offset} {word} r points {kind} there =
     let (address, kinds) = same-row points.row r.row in

@@ -1,4 +1,5 @@
--- Live variables have names, and the slots of calls do not overlap: both programs preserve this by themselves.
+-- Live variables stay named by a global or by an active call, and the slots of calls do not overlap. The
+-- source program and the plain program each preserve these facts.
 use Rattle.std.proofs.Common.{◌≡◌, ℕ, zero, suc, ◌+◌, ◌<◌, ◌≤◌, true, false, List, [], ◌∷◌, length, Option, None, Some, is_some, slice_get, refl, sym, ap, subst, ◌∙◌, arith, inl, inr}
 use Rattle.std.proofs.lemmas.List.{length-map}
 use Rattle.std.proofs.lemmas.Option.{same_Some, none-some}
@@ -28,7 +29,7 @@ use Rattle.cyc_lower_proof.proofs.relation.simulation.Stacks.{code_of, types_at}
 use Rattle.cyc_lower_proof.proofs.relation.simulation.Shared.{silent}
 use Rattle.cyc_lower_proof.proofs.relation.places.Leads.{IsNamed, is_global, is_local, is_waiting, AreNamed}
 
--- a pending call has these locals
+-- A waiting call of the source has these locals in the list of waiting calls.
 waits : (k : List Entry) (call : ℕ) (locals : Locals) → slice_get (waiting k) call ≡ Some locals → (x : Waiting) × (slice_get (callers k) call ≡ Some x) × (x.locals ≡ locals)
 waits [] call locals at = absurd (none-some locals at)
 waits (Caller e ∷ k) zero locals at = (_, refl, same_Some e.locals locals at)

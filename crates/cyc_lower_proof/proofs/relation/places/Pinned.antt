@@ -1,4 +1,5 @@
--- The slots with addresses are those of whole locals: no temporary, handler record, mark of a region or counter has an address.
+-- The slots whose addresses are taken are those of whole locals: no temporary, handler record, saved region count or counter
+-- has an address.
 use Rattle.std.proofs.Common.{◌≡◌, ℕ, zero, suc, ◌+◌, ◌<◌, ◌≤◌, true, false, List, [], ◌∷◌, map, Some, slice_get, sym, ap, ◌∙◌, arith, inl, inr}
 use Rattle.std.specs.Prelude.{◌&&◌, nat_le, nat_lt, slice_index_or}
 use Rattle.std.specs.List.{AllByRecursion}
@@ -22,7 +23,7 @@ use Rattle.cyc_lower_proof.proofs.sizes.WellFormed.{function_takes}
 
 -- ---- the code of a function
 
--- a slot of a local, all of whose slots have addresses
+-- Says that a slot belongs to a local all of whose slots have addresses.
 pub record IsOfPinned (locals : List Ty) (code : List Instruction) (slot : ℕ) : Type 0 where
   pub number : ℕ
   pub of_type : Ty
@@ -66,7 +67,7 @@ module _ (locals : List Ty) where
     ]
   ]
 
-  -- if one slot of a local has an address, each of its slots has one
+  -- If one slot of a local has an address, then each slot of the local has an address.
   pub pinned-whole : (code : List Instruction) (n : ℕ) (t : Ty) (slot other : ℕ) → AllByRecursion (TakesLocal locals) code → slice_get locals n ≡ Some t → slot_in locals n ≤ slot → slot < slot_in locals n + words_of t
       → is_pinned code slot ≡ true → slot_in locals n ≤ other → other < slot_in locals n + words_of t → is_pinned code other ≡ true
   pinned-whole code n t slot other takes at from below pinned from_other below_other =

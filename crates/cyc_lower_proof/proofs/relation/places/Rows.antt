@@ -1,4 +1,5 @@
--- The rows of locals: if the code takes the address of a local, the local is at the address of its slots, after the store.
+-- This file is about the table rows of locals. If the code takes the address of a local, then the local is at the address
+-- of its slots, which is higher than the store.
 use Rattle.std.proofs.Common.{◌≡◌, ℕ, ◌+◌, ◌*◌, ◌<◌, ◌≤◌, Bool, true, false, List, [], ◌∷◌, length, Option, Some, refl, sym, ap, subst, ◌∙◌, inl, inr, arith}
 use Rattle.std.specs.Prelude.{◌&&◌, nat_le, slice_get}
 use Rattle.std.proofs.lemmas.Bool.{cond-true, cond-false, and_parts, and_from, leb-true, le-leb}
@@ -25,7 +26,7 @@ use Rattle.cyc_memory_relation.proofs.Chars.{char-small}
 use Rattle.cyc_plain.specs.inside.State.{Words}
 use Rattle.cyc_store.specs.State.{StoreState}
 
--- true if the local has an address
+-- Holds if the code takes the address of the local in this slot.
 abbrev pub stands_in : CallSlots → (slot : ℕ) → Bool
 stands_in s slot = is_pinned s.code slot && nat_le slots_base s.base
 
@@ -53,7 +54,7 @@ module _ (s : CallSlots) (slot : ℕ) (kind : Kind) where
       go true is = subst IsOfVariable (sym (row-stands is)) (inr (omega (arith, following is)))
       go false is = subst IsOfVariable (sym (row-nowhere is)) tt
 
--- if the row has the address of a char, the kind is that of a char
+-- If a table row is that of a char with an address, then the kind of the local is `Char`.
 pub char_row : (t : Tables) (s : CallSlots) (slot : ℕ) (kind : Kind) (object : ℕ) → slice_get t.rows object ≡ Some (row_of s slot kind) → IsCharAt t object → kind ≡ kinds.Char
 char_row t s slot kind object there (address, is) = go (stands_in s slot) refl
   where
@@ -64,20 +65,20 @@ char_row t s slot kind object there (address, is) = go (stands_in s slot) refl
     go true stands = let e : Placed (s.base + 4 * slot + variable_bytes kind) (kind ∷ []) ≡ Placed address (kinds.Char ∷ []) = sym (row-stands s slot kind stands) ∙ same in cc
     go false stands = absurd (let e : Variable ≡ Placed address (kinds.Char ∷ []) = sym (row-nowhere s slot kind stands) ∙ same in cc)
 
--- the word of a char that is declared with a value is below 256
+-- The word of a char that is declared with a value is below 256.
 pub declared_low : (t : Tables) (s : CallSlots) (slot : ℕ) (kind : Kind) (object : ℕ) (v : Operand) (slots : Words) → slice_get t.rows object ≡ Some (row_of s slot kind) → v.kind ≡ kind
     → Is t v.kind v.value slots slot → IsCharAt t object → slots slot < 256
 declared_low t s slot kind object v slots there same is is_char =
     char-small t v.value slots slot (subst (λ (k : Kind). Is t k v.value slots slot) (same ∙ char_row t s slot kind object there is_char) is)
 
--- a cell of such an object is a char
+-- A cell of an object that is a char with an address has the kind `Char`.
 pub char_cell : {t : Tables} {w : World} {s : StoreState} (related : Related t w s) (object : ℕ) (x : Object) (c : Cell) → slice_get w.objects object ≡ Some x → slice_get x.cells 0 ≡ Some c
     → IsCharAt t object → c.kind ≡ kinds.Char
 char_cell related object x c there cell (address, row) =
     let kinds : kinds.Char ∷ [] ≡ kinds_of x.cells = related.shapes object address (kinds.Char ∷ []) x there row in
     same_from_some (sym (slice_get-map (λ (z : Cell). z.kind) x.cells 0 c cell) ∙ ap (λ (ks : List Kind). slice_get ks 0) (sym kinds))
 
--- the row is that of a variable
+-- The table row of a local is the row of a variable.
 pub local-row : {t : Tables} {types : Types} {s : CallSlots} {number object : ℕ} (globals : List Ty) → IsLocalRow t types s number object → IsVariableRow t globals object
 local-row {t} {types} {s} {number} {object} globals r = go (stands_in s slot) refl
   where
@@ -88,7 +89,8 @@ local-row {t} {types} {s} {number} {object} globals r = go (stands_in s slot) re
     go true is = inr (inr (record { address = s.base + 4 * slot + variable_bytes r.kind; kind = r.kind; row = r.row ∙ ap (λ (x : Row). Some x) (row-stands s slot r.kind is); following = omega (arith, following s slot r.kind is) }))
     go false is = inl (r.row ∙ ap (λ (x : Row). Some x) (row-nowhere s slot r.kind is))
 
--- a pointer to a local of a kind leads to the first slot that the code names, or to the last byte of a char
+-- A pointer to a local is the address of the local's first slot or, if the local is a char, of the last
+-- byte of this slot.
 pub record IsLocalPointer (types : Types) (s : CallSlots) (number : ℕ) (kind : Kind) (offset word : ℕ) : Type 0 where
   pub pinned : is_pinned s.code (slot_of (starts_of types) number) ≡ true
   pub first : offset ≡ 0
@@ -119,20 +121,20 @@ module _ {t : Tables} {types : Types} {s : CallSlots} {number object offset word
         at = points.at ∙ (ap (λ n. points.address + before n points.kinds) first ∙ omega (arith, address, before-first points.kinds));
       }
 
-  -- a char that a pointer leads to has an address
+  -- A char that a pointer points to has an address.
   pub char_there : r.kind ≡ kinds.Char → IsCharAt t object
   char_there char =
       let address : ℕ = s.base + 4 * slot + variable_bytes r.kind in
       (address, placed ∙ ap (λ (i : Kind). Some (Placed address (i ∷ []))) char)
 
-  -- the kind of the row is that of its cell
+  -- The kind in a local's table row is the kind of the local's cell.
   pub local-kind : {kind : Kind} → slice_get points.kinds offset ≡ Some kind → r.kind ≡ kind
   local-kind {kind} there =
       let (address, kinds) = same-row points.row placed in
       let e : Some r.kind ≡ Some kind = sym (ap (slice_get (r.kind ∷ [])) local-pointer.first) ∙ (sym (ap (λ ks. slice_get ks offset) kinds) ∙ there) in
       cc
 
--- the address that the code names is a pointer to the local
+-- The address that the code computes for a local is a pointer to the local.
 pub local-points : {t : Tables} {types : Types} {s : CallSlots} {number object : ℕ} (r : IsLocalRow t types s number object) → is_pinned s.code (slot_of (starts_of types) number) ≡ true
     → slots_base ≤ s.base → s.base + 4 * (slot_of (starts_of types) number + words_of_kind r.kind) ≤ slots_end → Points t object 0 (s.base + 4 * slot_of (starts_of types) number + variable_bytes r.kind)
 local-points {t} {types} {s} {number} {object} r pinned low high =

@@ -1,4 +1,4 @@
--- A step without a fault found the part that it looked up.
+-- This file proves that a step without a fault has found the object or region that it looked up.
 use Rattle.std.proofs.Common.{◌≡◌, ◌≢◌, ℕ, Bool, true, false, List, length, set, Option, None, Some, slice_get, refl, ap, ◌∙◌, length-set}
 use Rattle.std.specs.Prelude.{if◌then◌else◌, ◌==◌, ◌&&◌}
 use Rattle.std.proofs.lemmas.Bool.{eqb-true}
@@ -18,7 +18,7 @@ use Rattle.cyc_lower_proof.proofs.relation.contents.HeldValues.{with_kind, conte
 abbrev pub IsWell : State → Type 0
 IsWell s = status_in (status_of s) ≡ Failed → ⊥
 
--- a check that did not fail is true
+-- A check in a step without a fault has succeeded.
 pub is_fitting : (fits : Bool) (s : State) (w : World) → IsWell (if fits then s else wrong w) → fits ≡ true
 is_fitting true s w well = refl
 is_fitting false s w well = absurd (well refl)
@@ -32,7 +32,7 @@ pub record IsLoaded (kind : Kind) (object : Option ℕ) (stack : List Entry) (e 
   pub has : contents w.objects number ≡ Some (record { kind = kind; value = value })
   pub gives : loaded_from kind object stack e w ≡ Running (Given (record { kind = kind; value = value })) stack e w
 
--- the step reads the value in a cell
+-- Says that a step reads the value in a cell.
 abbrev Reads : Kind → Option Operand → State → List Entry → Environment → World → Type 0
 Reads kind content s stack e w =
     (v : Value) × (content ≡ Some (record { kind = kind; value = v })) × (s ≡ Running (Given (record { kind = kind; value = v })) stack e w)
@@ -100,7 +100,7 @@ is_stored number v focus stack e w well =
     let (at, object_there, cell_there, same, gives) = store_into (slice_get w.objects number) number v focus stack e w well in
     record { at = at; object_there = object_there; cell_there = cell_there; same = same; gives = gives }
 
--- the contents of the objects afterwards
+-- The contents of the objects after a variable has been written.
 module _ (w : World) (number : ℕ) (at : Located) (v : Value) (object_there : slice_get w.objects number ≡ Some at.object) (cell_there : slice_get at.object.cells 0 ≡ Some at.cell) where
   pub written_here : (kind : Kind) → at.cell.kind ≡ kind → contents (written w number 0 at v).objects number ≡ Some (record { kind = kind; value = v })
   written_here kind same =
@@ -167,7 +167,7 @@ is_closed focus number home stack e w well =
     let (r, is, gives) = closes_found (region_at w number) focus number home stack e w well in
     record { region = r; there = region_is (slice_get w.regions number) r is; gives = gives }
 
--- a variable is declared in an existing region
+-- A variable that is declared without a fault is declared in an existing region.
 pub home_there : (focus : Focus) (number : ℕ) (kind : Kind) (content : Option Value) (stack : List Entry) (e : Environment) (w : World)
     → IsWell (declared (region_at w e.home) focus number kind content stack e w) → (r : Region) × (slice_get w.regions e.home ≡ Some r)
 home_there focus number kind content stack e w well = by (region_at w e.home) refl well

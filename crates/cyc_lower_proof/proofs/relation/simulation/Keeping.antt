@@ -1,11 +1,12 @@
--- An invariant that a machine preserves in every step may be assumed in a matching.
+-- This file proves that an invariant that a machine preserves in every step may be assumed when its
+-- states are matched.
 use Rattle.std.proofs.Common.{List, [], ◌∷◌}
 use Rattle.cyc_words.specs.Simulation.{Machine}
 use Rattle.cyc_words.specs.inside.Following.{Matching, Comes, IsOnTheWay, IsMatchedStep, IsStepped}
 
 module _ (above below : Machine) (m : Matching above below) (Keeps : below.State → Type 0)
     (stays : (old new : below.State) → Keeps old → below.Step old new → Keeps new) where
-  -- the matching of states of the lower machine that satisfy the invariant
+  -- A matching restricted to the states of the lower machine that satisfy the invariant.
   abbrev pub keeping : Matching above below
   keeping = record {
     Matches = λ s t. m.Matches s t × Keeps t;
@@ -28,7 +29,7 @@ module _ (above below : Machine) (m : Matching above below) (Keeps : below.State
     comes = comes_keeping s is.places is.places t keeps is.comes;
   }
 
--- the matching for states of the upper machine that satisfy an invariant
+-- A matching restricted to the states of the upper machine that satisfy an invariant.
 module _ (above below : Machine) (m : Matching above below) (Keeps : above.State → Type 0)
     (stays : (old new : above.State) → Keeps old → above.Step old new → Keeps new) where
   abbrev pub keeping_above : Matching above below

@@ -1,4 +1,4 @@
--- How a step of the source is matched: the parts that all cases share.
+-- This file says how a step of the source is matched, as far as all cases have it in common.
 use Rattle.std.proofs.Common.{◌≡◌, ◌≢◌, ℕ, suc, ◌≤◌, ◌<◌, Bool, true, false, List, [], ◌∷◌, length, Option, None, Some, slice_get, refl, sym, ap, subst, ◌∙◌, arith}
 use Rattle.std.specs.Prelude.{Contains, if◌then◌else◌}
 use Rattle.std.specs.List.{AllByRecursion}
@@ -58,7 +58,8 @@ module _ (source : Program) where
   by_prints (prints_only stack) first second = first stack
   by_prints (gives_byte d at stack) first second = second d stack
 
-  -- the output, and the limits of both machines
+  -- Says that both machines have equal output and input and that the plain machine is within the
+  -- limits of pages and calls.
   abbrev pub Inside : (pages calls : ℕ) → World → Configuration → Type 0
   Inside pages calls w c = (showing c.output c.input ≡ seen_in w) × (demand c.store ≤ pages) × (suc (length c.frames) ≤ calls) × (demand_of (counted w.regions) w.classes ≤ pages)
 
@@ -83,7 +84,7 @@ module _ (source : Program) where
 
   -- ---- active calls
 
-  -- the open handlers determine the number of calls, frame by frame
+  -- The open handlers determine the number of calls, frame by frame.
   counted_in : (t : Tables) (slots : Words) (handled k : List Entry) (e : Environment) (w : World) (c : Configuration) → calls_in handled ≡ calls_in k → DataFor source t slots handled k e w c → calls_in k ≡ suc (length c.frames)
   counted_in t slots handled k e w c same facts = sym same ∙ calls_counted source c.active.function slots c.active.handlers c.frames handled facts.1
 
@@ -153,7 +154,7 @@ module _ (source : Program) (pages calls : ℕ) where
   limited_by true x y e = refl
   limited_by false x y e = absurd (let f : false ≡ true = e in cc)
 
-  -- a step to a matched state is within the limits
+  -- A step that leads to a matched state stays within the limits of pages and calls.
   pub steps_to : (s next : State) (t : plain.State) → step source s ≡ next → Matches source pages calls next t → next ≡ limited_step source pages calls s
   steps_to s next t does m =
       sym (limited_by (is_within pages calls (step source s)) (step source s) (Ended Full (output_of s) (input_of s)) (ap (is_within pages calls) does ∙ matches_within next t m) ∙ does)
@@ -187,7 +188,7 @@ module _ (source : Program) (pages calls : ℕ) where
     endings = endings;
   }
 
-  -- the step from this state is matched
+  -- Says that the next step from a source state is matched by the plain machine.
   abbrev pub IsMatched : State → plain.State → Type 0
   IsMatched s t = IsStepped above below matching s t
 
@@ -198,11 +199,13 @@ module _ (source : Program) (pages calls : ℕ) where
 
   -- ---- steps with instructions
 
-  -- Some instructions are executed from this state, and the step of the source is matched afterwards.
+  -- Says that the plain machine executes some instructions from state t, after which the step of the
+  -- source is matched.
   abbrev pub Executes : State → State → List CodePlace → plain.State → Type 0
   Executes s next places t = Comes below (IsOnTheWay above below s) (λ u. Matches source pages calls next u) places t
 
-  -- there is an instruction here, and it leads on for every choice
+  -- If there is an instruction at the current position, and every choice reaches a state that
+  -- matches, then the plain machine executes it.
   pub executes : (s next : State) (c : Configuration) (i : Instruction) (places : List CodePlace)
       → At (code_of source c.active.function) c.active.next i
       → ((choice : Choice) → plain_step.is_within pages calls (performed (lower_program source) choice c i) ≡ true)
@@ -217,7 +220,7 @@ module _ (source : Program) (pages calls : ℕ) where
         subst (Executes s next places) (sym is) (goes choice),
   )
 
-  -- after at least one instruction, the step is matched
+  -- After at least one instruction, the step of the source is matched.
   matched_at_end : (s next : State) (p : CodePlace) (all places : List CodePlace) (t : plain.State) → step source s ≡ next
       → Executes s next places t → Comes below (IsOnTheWay above below s) (IsMatchedStep above below matching s (p ∷ all)) places t
   matched_at_end s next p all [] t does m = record {
@@ -238,11 +241,11 @@ module _ (source : Program) (pages calls : ℕ) where
     comes = matched_at_end s next p places (p ∷ places) t does comes;
   }
 
-  -- the states on the way, while the shared state is unchanged
+  -- The plain states between two matched states, while the shared state is unchanged.
   pub shared_way : (focus : Focus) (k : List Entry) (e : Environment) (w : World) (c : Configuration) → SharedAt source pages calls k e w c → IsOnTheWay above below (Running focus k e w) (plain.Running c)
   shared_way focus k e w c shared = way_before above below matching (Running focus k e w) (plain.Running c) refl (shared_seen shared)
 
-  -- the states on the way, while memory may have changed
+  -- The plain states between two matched states, while memory may have changed.
   pub seen_way : (focus : Focus) (k : List Entry) (e : Environment) (w : World) (c : Configuration) → plain.seen_of (plain.Running c) ≡ seen_in w → IsOnTheWay above below (Running focus k e w) (plain.Running c)
   seen_way focus k e w c same = way_before above below matching (Running focus k e w) (plain.Running c) refl same
 
@@ -255,12 +258,12 @@ module _ (source : Program) (pages calls : ℕ) where
   pub apart : (c d : Configuration) → c.active.next ≢ d.active.next → place_in c ≢ place_in d
   apart c d other same = other (ap (λ (p : CodePlace). p.index) same)
 
-  -- two different instructions are at two different places
+  -- Two different instructions are at two different code positions.
   pub elsewhere : (p q : CodePlace) (i j : Instruction) → At (code_of source p.function) p.index i → At (code_of source q.function) q.index j → i ≢ j → p ≢ q
   elsewhere p q i j here there other same =
       other (same_Some i j (sym here ∙ ap (λ (place : CodePlace). slice_get (code_of source place.function) place.index) same ∙ there))
 
-  -- one instruction that has this output
+  -- A source step is matched by one instruction that produces the same output.
   pub by_one_seen : {focus : Focus} {k : List Entry} {e : Environment} {w : World} {c : Configuration} {next : State} {i : Instruction}
       → step source (Running focus k e w) ≡ next → plain.seen_of (plain.Running c) ≡ seen_in w → At (code_of source c.active.function) c.active.next i
       → ((choice : Choice) → Matches source pages calls next (performed (lower_program source) choice c i))
@@ -277,7 +280,8 @@ module _ (source : Program) (pages calls : ℕ) where
       → IsMatched (Running focus k e w) (plain.Running c)
   by_one {focus} {k} {e} {w} {c} {next} {i} does shared at goes = by_one_seen does (shared_seen shared) at goes
 
-  -- two instructions at any places, whose first result is given
+  -- A source step is matched by two instructions at any code positions; the configuration after the
+  -- first instruction is given.
   pub by_two_places : {focus : Focus} {k : List Entry} {e : Environment} {w : World} {c : Configuration} {next : State} {i j : Instruction} (d : Configuration)
       → step source (Running focus k e w) ≡ next → SharedAt source pages calls k e w c
       → plain_step.is_within pages calls (plain.Running d) ≡ true → IsOnTheWay above below (Running focus k e w) (plain.Running d)
@@ -292,7 +296,8 @@ module _ (source : Program) (pages calls : ℕ) where
       (λ choice. subst (Executes (Running focus k e w) next (place_in d ∷ [])) (sym (first choice))
       (executes (Running focus k e w) next d j [] at_d (λ later. matches_within_below next (performed (lower_program source) later d j) (goes later)) way_d goes)))
 
-  -- two instructions, whose first result is given
+  -- A source step is matched by two instructions; the configuration after the first instruction is
+  -- given.
   pub by_two_known : {focus : Focus} {k : List Entry} {e : Environment} {w : World} {c : Configuration} {next : State} {i j : Instruction} (d : Configuration)
       → step source (Running focus k e w) ≡ next → SharedAt source pages calls k e w c
       → plain_step.is_within pages calls (plain.Running d) ≡ true → IsOnTheWay above below (Running focus k e w) (plain.Running d)
@@ -303,7 +308,7 @@ module _ (source : Program) (pages calls : ℕ) where
   by_two_known {focus} {k} {e} {w} {c} {next} {i} {j} d does shared within_d way_d at first at_d other goes =
       by_two_places d does shared within_d way_d at first at_d (apart c d other) goes
 
-  -- two instructions, whose first one prints nothing
+  -- A source step is matched by two instructions, of which the first prints nothing.
   pub by_two : {focus : Focus} {k : List Entry} {e : Environment} {w : World} {c : Configuration} {next : State} {i j : Instruction} (d : Configuration)
       → step source (Running focus k e w) ≡ next → SharedAt source pages calls k e w c → SharedAt source pages calls k e w d
       → At (code_of source c.active.function) c.active.next i → ((choice : Choice) → performed (lower_program source) choice c i ≡ plain.Running d)
@@ -313,7 +318,8 @@ module _ (source : Program) (pages calls : ℕ) where
   by_two {focus} {k} {e} {w} {c} {next} {i} {j} d does shared shared_d at first at_d other goes =
       by_two_known d does shared (shared_within k e w d shared_d) (shared_way focus k e w d shared_d) at first at_d other goes
 
-  -- three instructions, whose first two results are given
+  -- A source step is matched by three instructions; the configurations after the first two are
+  -- given.
   pub by_three : {focus : Focus} {k : List Entry} {e : Environment} {w : World} {c : Configuration} {next : State} {i j l : Instruction} (d f : Configuration)
       → step source (Running focus k e w) ≡ next → SharedAt source pages calls k e w c
       → plain_step.is_within pages calls (plain.Running d) ≡ true → IsOnTheWay above below (Running focus k e w) (plain.Running d)

@@ -1,5 +1,5 @@
--- Matching a step of the source by several instructions. Each instruction except the last leads to a given configuration further on in the
--- code, and nothing is printed on the way.
+-- This file matches a step of the source by several instructions. Each instruction except the last reaches a given configuration further
+-- on in the code, and nothing is printed before the last instruction.
 use Rattle.std.proofs.Common.{◌≡◌, ◌≢◌, ℕ, suc, ◌<◌, true, List, [], ◌∷◌, ◌++◌, length, refl, sym, ap, subst, ◌∙◌, arith}
 use Rattle.std.specs.Prelude.{Contains, nat_le, ◌&&◌}
 use Rattle.std.specs.List.{AllByRecursion}
@@ -22,18 +22,19 @@ use Rattle.cyc_lower_proof.proofs.relation.simulation.Stacks.{code_of}
 use Rattle.cyc_lower_proof.proofs.relation.simulation.Shared.{seen_in, shared_seen}
 use Rattle.cyc_lower_proof.proofs.relation.simulation.Matched.{above, below, matching, shared_within, matches_within_below, Executes, executes, by_places, place_in, known, IsMatched}
 
--- an instruction, and the configuration that it leads to
+-- An instruction of a path, and the configuration after it.
 pub record Link : Type 0 where
   pub instruction : Instruction
   pub following : Configuration
 
--- nothing is printed or read, and the limits are unchanged
+-- Says that between two configurations nothing is printed or read, and that the use of pages and
+-- calls is unchanged.
 pub record IsQuiet (c d : Configuration) : Type 0 where
   pub seen : plain.seen_of (plain.Running d) ≡ plain.seen_of (plain.Running c)
   pub demand : demand d.store ≡ demand c.store
   pub frames : length d.frames ≡ length c.frames
 
--- only the slots and the place in the code change
+-- If only the slots and the code position change, then nothing is printed or read.
 pub is_quiet : (c : Configuration) (active : plain.Activation) → IsQuiet c (record c { active = active })
 is_quiet c active = record { seen = refl; demand = refl; frames = refl }
 
@@ -41,7 +42,8 @@ abbrev pub end_of : Configuration → List Link → Configuration
 end_of c [] = c
 end_of c (l ∷ links) = end_of l.following links
 
--- a joined path continues from the end of its first part
+-- The end of two joined paths is the end of the second path, which continues from the end of the
+-- first.
 pub end_joined : (c : Configuration) (first rest : List Link) → end_of c (first ++ rest) ≡ end_of (end_of c first) rest
 end_joined c [] rest = refl
 end_joined c (l ∷ first) rest = end_joined l.following first rest
@@ -63,7 +65,7 @@ module _ (source : Program) (pages calls : ℕ) where
   path_places c [] = []
   path_places c (l ∷ links) = place_in source pages calls l.following ∷ path_places l.following links
 
-  -- places further on in the code are different
+  -- Code positions further on in the code differ from the earlier positions.
   later : (p : CodePlace) (c : Configuration) (links : List Link) → p.index < c.active.next → IsPath source c links
       → AllByRecursion (λ q. p ≢ q) (place_in source pages calls c ∷ path_places c links)
   later p c [] less path = (λ same. absurd (omega (arith, less, ap (λ (q : CodePlace). q.index) same)), tt)
@@ -101,7 +103,7 @@ module _ (source : Program) (pages calls : ℕ) where
       (λ choice. subst (Executes source pages calls (Running focus k e w) next (place_in source pages calls l.following ∷ path_places l.following links)) (sym (leads choice))
       (runs focus k e w next l.following links i inside (quiet.seen ∙ seen) path last goes))
 
-  -- the instructions of a path, and one more
+  -- A source step is matched by the instructions of a path and one more instruction.
   pub by_path : (focus : Focus) (k : List Entry) (e : Environment) (w : World) (c : Configuration) (next : State) (links : List Link) (i : Instruction)
       → step source (Running focus k e w) ≡ next → SharedAt source pages calls k e w c → IsPath source c links
       → At (code_of source (end_of c links).active.function) (end_of c links).active.next i

@@ -1,4 +1,5 @@
--- The relation between a source state and a plain state while the plain program matches the source.
+-- This file defines the relation between a source state and a plain state while the plain program
+-- matches the source.
 use Rattle.std.proofs.Common.{max, ◌≡◌, ◌⊎◌, ℕ, suc, ◌+◌, ◌*◌, ◌≤◌, ◌<◌, true, List, [], ◌∷◌, ◌++◌, length, Option, None, Some, ◌^◌, false, Bool}
 use Rattle.cyc_words.specs.Word.{add_of, IsWord as IsNumber}
 use Rattle.cyc_words.specs.Seen.{showing}
@@ -49,14 +50,15 @@ use Rattle.cyc_lower_proof.proofs.relation.simulation.Stacks.{CallAt, ValueStack
 module _ (source : Program) where
   -- ---- the focus
 
-  -- A right operand is in an operand, and the left one is where it was, unchanged. The code from here on uses both, and then serves all
-  -- pending entries. A right operand may become the left operand of the next operator, or the value of a chain.
+  -- The right operand is in an operand of the plain program, and the left operand is unchanged where it was. The code from position p
+  -- on uses both operands, and then executes the waiting stack entries. A right operand may become the left operand of the next
+  -- operator, or the value of a chain.
   abbrev pub BesideAt : Tables → (ℕ → Option ℕ) → (g : ℕ) → Operand → (p : ℕ) → Words → List Frame → List Entry → Type 0
   BesideAt t locals g o p slots frames (Needs (Apply operator left) ∷ k) =
       (l : Operand) × IsIn t left slots l × IsLow l (top source g k)
       × ((Holds t slots (floor source g k) (held k) × AppliedStack source g locals operator l o p frames k)
       ⊎ ((q : ℕ) × OperatorAt (code_of source g) (bounds_at source g) (types_on source g k) operator (top source g k) l o p q × BesideAt t locals g (operands.Slot (top source g k)) q slots frames k))
-  -- the next jump compares a pointer with null or with the right operand
+  -- The next jump compares a pointer with null or with the right operand.
   BesideAt t locals g o p slots frames (Needs (ApplyPointer peek operator left) ∷ k) =
       (l : Operand) × (failing : Comparison) × IsIn t left slots l × IsLow l (top source g k) × Holds t slots (floor source g k) (held k)
       × (((null_failing operator ≡ Some failing) × ConditionStack source g failing l (operands.Word 0) p frames k)
@@ -72,16 +74,17 @@ module _ (source : Program) where
       At (code_of source g) p (unary_instruction operator (top source g k) o) × BesideAt t locals g (operands.Slot (top source g k)) (p + 1) slots frames k
   BesideAt t locals g o p slots frames k = ⊥
 
-  -- the code of a simple right operand is here
+  -- Says that the code of a simple right operand is at p.
   abbrev pub RightAt : Tables → Expression → (ℕ → Option ℕ) → (g p : ℕ) → Words → List Frame → List Entry → Type 0
   RightAt t a locals g p slots frames k =
       (r : Operand) × (q : ℕ) × (is_simple (starts_on source g k) a ≡ true) × ValueAt (code_of source g) (bounds_at source g) (types_on source g k) a (top source g k) r p q × BesideAt t locals g r q slots frames k
 
-  -- the right operand has been evaluated
+  -- Says that the right operand has been evaluated.
   abbrev pub ReadyAt : Tables → Kinded → (ℕ → Option ℕ) → (g p : ℕ) → Words → List Frame → List Entry → Type 0
   ReadyAt t v locals g p slots frames k = (r : Operand) × IsIn t v slots r × BesideAt t locals g r p slots frames k
 
-  -- a fat pointer whose index is separate from its other words is accessed
+  -- Says that the code at p accesses a fat pointer whose index is in a separate slot from its other
+  -- words.
   abbrev pub PartsAt : Tables → Kinded → (ℕ → Option ℕ) → (g p : ℕ) → Words → List Frame → List Entry → Type 0
   PartsAt t v locals g p slots frames (Needs (Follow pointer target) ∷ k) =
       (n : ℕ) × (m : ℕ) × (q : ℕ) × (pointer ≡ kinds.Fat) × IsParts t v.value slots n m × ((n ≤ top source g k) × (m < top source g k + 3)) × Holds t slots (floor source g k) (held k)
@@ -89,7 +92,7 @@ module _ (source : Program) where
       × PlaceStack source g locals (reached_operand (option_map bytes_of_kind target) n (top source g k)) 0 q frames k
   PartsAt t v locals g p slots frames k = ⊥
 
-  -- the code of an expression, by the destination of its value
+  -- Says that the code of an expression is at p, by the kind of destination of its value.
   pub data EvaluatingAt (t : Tables) (a : Expression) (locals : ℕ → Option ℕ) (g p : ℕ) (slots : Words) (frames : List Frame) (k : List Entry) : Type 0 where
     as_operand : (o : Operand) → (q : ℕ) → ValueAt (code_of source g) (bounds_at source g) (types_on source g k) a (top source g k) o p q → Holds t slots (floor source g k) (held k)
         → ValueStack source g locals (given_at source g a) o q frames k → EvaluatingAt t a locals g p slots frames k
@@ -172,8 +175,8 @@ module _ (source : Program) where
 
   -- ---- states
 
-  -- The condition on the counters of arrays and on the open lexical regions. The condition compares the number of regions that the entries
-  -- close with the number that the source has open.
+  -- The condition on the counters of arrays and on the open lexical regions. It compares the number of regions that stack entries close
+  -- with the number that the source has open.
   abbrev pub ScopesBy : (closing : Option ℕ) → StoreState → (ended now : ℕ) → Type 0
   ScopesBy None store ended now = MayBeOpen (scopes_of source) ended
   ScopesBy (Some mark) store ended now = IsAhead (scopes_of source) store now
@@ -181,7 +184,7 @@ module _ (source : Program) where
   abbrev pub CountsBy : (closing : Option ℕ) → Environment → List Entry → StoreState → (now : ℕ) → Type 0
   CountsBy closing e k store now = AreCounted e.counters k × ScopesBy closing store (scopes_in k) now
 
-  -- the shared state, whether lexical regions are being left or not
+  -- The shared state, while lexical regions are being left and at all other times.
   abbrev pub SharedBy : (closing : Option ℕ) → (pages calls : ℕ) → List Entry → Environment → World → Configuration → Type 0
   SharedBy closing pages calls k e w c =
       Shared pages calls w (e.home ∷ homes k) (CountsBy closing e k c.store (scopes w.regions)) c.output c.input (store_by closing c.store (scopes w.regions)) (length c.frames)
@@ -189,15 +192,16 @@ module _ (source : Program) where
   abbrev pub SharedAt : (pages calls : ℕ) → List Entry → Environment → World → Configuration → Type 0
   SharedAt pages calls k e w c = SharedBy None pages calls k e w c
 
-  -- a handler catches an exception here: this instruction opened it, and its clauses end at the continuation
+  -- Says that a handler catches an exception at this code position: its instruction opened the handler, and
+  -- the code of its clauses ends at the continuation.
   abbrev pub CatchesAt : (g : ℕ) → Clauses → (index : ℕ) → List Frame → List Entry → Type 0
   CatchesAt g handler index frames k =
       (exits : Exits) × (m : ℕ) × (p : ℕ) × (out : ℕ) × (q : ℕ) × At (code_of source g) index (instructions.Try (floor source g k) m)
       × RestoredAt (code_of source g) (bounds_at source g) (types_at source g) (scopes_of source) (floor source g k + RECORD_WORDS) m p
       × ClausesAt (code_of source g) (bounds_at source g) (types_at source g) handler out exits (floor source g k) p q × At (code_of source g) out (instructions.Jump q) × StatementStack source g exits q frames k
 
-  -- The open handlers of the running call and of the pending calls: one for each entry, with its record. Each lexical region has its mark,
-  -- which is the number of regions that were open before it.
+  -- Says that the plain machine has one open handler, with its record, for each handler entry of the running call and of the waiting
+  -- calls. For each lexical region, a slot saves the number of regions that were open before it.
   abbrev pub HandlersStand : (g : ℕ) → Words → List plain.Handler → List Frame → List Entry → Type 0
   HandlersStand g slots handlers frames [] = ⊥
   HandlersStand g slots handlers frames (Handler handler ∷ k) =
@@ -209,7 +213,8 @@ module _ (source : Program) where
   HandlersStand g slots handlers frames (CloseLexical region ∷ k) = (slots (floor source g k) ≡ scopes_in k) × HandlersStand g slots handlers frames k
   HandlersStand g slots handlers frames (entry ∷ k) = HandlersStand g slots handlers frames k
 
-  -- the data of the running call and of the pending calls, given the slots of the running call and the entries of its handlers
+  -- The data of the running call and of the waiting calls, given the slots of the running call and the stack entries of its
+  -- handlers.
   abbrev pub DataFor : Tables → (slots : Words) → (handled k : List Entry) → Environment → World → Configuration → Type 0
   DataFor t slots handled k e w c =
       DataAt source t c.active.function c.active.base w.objects e.locals (callers k) slots c.globals c.frames × HandlersStand c.active.function slots c.active.handlers c.frames handled
@@ -217,7 +222,7 @@ module _ (source : Program) where
   abbrev pub DataIn : Tables → (slots : Words) → List Entry → Environment → World → Configuration → Type 0
   DataIn t slots k e w c = DataFor t slots k k e w c
 
-  -- the data of all calls, except for the slots of one local, whose previous words are given
+  -- The data of all calls, except for the slots of one local, whose earlier words are given.
   abbrev pub DataBut : Tables → (n words : ℕ) → List Entry → Environment → World → Configuration → Type 0
   DataBut t n words k e w c = (old : Words) × ((m : ℕ) → Outside n words m → old m ≡ c.active.slots m) × DataIn t old k e w c
 
@@ -226,14 +231,14 @@ module _ (source : Program) where
       (shared : SharedAt pages calls k e w c) × DataFor shared.tables c.active.slots (handling focus k) k e w c
       × FocusAt shared.tables focus k e.locals c.active.function c.active.next c.active.slots c.frames
 
-  -- true if a branch leads to this place
+  -- Holds if a branch jumps to this code position.
   abbrev pub LeadsTo : Configuration → (p : ℕ) → Type 0
   LeadsTo c p =
       (comparison : Comparison) × (l : Operand) × (r : Operand) × (target : ℕ) × At (code_of source c.active.function) c.active.next (instructions.Branch comparison l r target)
       × ((if compares comparison (operand_word c.active.slots l) (operand_word c.active.slots r) then target else c.active.next + 1) ≡ p)
 
-  -- The place of a value that is passed on. A value that is only tested has no place: the plain program is before the branch on it. The
-  -- plain program takes this branch when the next operand is evaluated or a statement is chosen.
+  -- Says where a value is when it is passed on. A value that is only tested has no slot: the plain program is before the branch on the
+  -- value. The plain program takes this branch when the next operand is evaluated or a statement is chosen.
   pub data GivenAt (t : Tables) (v : Kinded) (k : List Entry) (e : Environment) (w : World) (c : Configuration) : Type 0 where
     in_operand : (o : Operand) → DataIn t c.active.slots k e w c → IsIn t v c.active.slots o
         → Holds t c.active.slots (floor source c.active.function k) (kept k) → ValueStack source c.active.function e.locals v.kind o c.active.next c.frames k → GivenAt t v k e w c
@@ -245,16 +250,16 @@ module _ (source : Program) where
     with_left : DataIn t c.active.slots k e w c → ReadyAt t v e.locals c.active.function c.active.next c.active.slots c.frames k → GivenAt t v k e w c
     in_parts : DataIn t c.active.slots k e w c → PartsAt t v e.locals c.active.function c.active.next c.active.slots c.frames k → GivenAt t v k e w c
 
-  -- A run that continues without a value: after a statement, or after a call without a result. If a value is required, the source has a
-  -- fault next.
+  -- Relates a run that continues without a value: after a statement, or after a call without a result. If a value is required, then the
+  -- next step of the source is a fault.
   pub data ProceedingAt (t : Tables) (k : List Entry) (e : Environment) (w : World) (c : Configuration) : Type 0 where
     following_statement : (exits : Exits) → DataIn t c.active.slots k e w c → StatementStack source c.active.function exits c.active.next c.frames k → ProceedingAt t k e w c
     following_call : (kind : Kind) → (o : Operand) → DataIn t c.active.slots k e w c → ValueStack source c.active.function e.locals kind o c.active.next c.frames k → ProceedingAt t k e w c
     following_wrong : (kind : Kind) → (n : ℕ) → calls_in k ≡ suc (length c.frames) → AheadStack source c.active.function e.locals kind n c.active.next c.frames k → ProceedingAt t k e w c
 
-  -- An exception reaches the newest handler by one instruction, or ends the plain program, while the source leaves one entry after the
-  -- other. The plain program stays at the throw until the source reaches the handler. This handler is the newest one of the call whose
-  -- entries the source leaves (`a`), or of the pending calls (`rest`).
+  -- An exception reaches the newest handler by one instruction, or ends the plain program, while the source leaves one stack entry
+  -- after the other. The plain program stays at the throw until the source reaches the handler. The newest handler belongs to the call
+  -- whose stack entries the source leaves (`a`), or to the waiting calls (`rest`).
   abbrev pub CaughtBy : Activation → List Frame → List Entry → Type 0
   CaughtBy a rest [] = (a.handlers ≡ []) × (rest ≡ [])
   CaughtBy a rest (entry ∷ k) = HandlersStand a.function a.slots a.handlers rest (entry ∷ k)
@@ -266,8 +271,9 @@ module _ (source : Program) where
       × (a : Activation) × (rest : List Frame) × (length rest ≤ length c.frames) × (throws c tag value c.active c.frames ≡ throws c tag value a rest)
       × DataAt source shared.tables a.function a.base w.objects e.locals (callers k) a.slots c.globals rest × CaughtBy a rest k
 
-  -- Entries are left, and lexical regions among them. The plain program closes all of these regions in the step in which the source leaves
-  -- the outermost one. Until then it is before that instruction, with the mark in a slot.
+  -- Stack entries are left, and lexical regions among them. The plain program closes all of these regions in the step in which the source
+  -- leaves the outermost one. Until then the plain program is before the closing instruction, and a slot holds the number of regions that
+  -- stay open.
   abbrev pub IsMark : Option ℕ → Words → (many : ℕ) → Type 0
   IsMark None slots many = Unit {0}
   IsMark (Some mark) slots many = slots mark ≡ many

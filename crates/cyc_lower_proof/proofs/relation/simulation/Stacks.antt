@@ -1,4 +1,5 @@
--- The functions of the program with their slots and data, and the places in their code that serve the entries on the control stack.
+-- This file defines the functions of the program with their slots and data, and the code positions that correspond to the entries
+-- on the control stack.
 use Rattle.std.proofs.Common.{reverse, ◌≡◌, ◌⊎◌, ℕ, suc, ◌+◌, ◌*◌, ◌≤◌, ◌<◌, true, List, [], ◌∷◌, ◌++◌, length, Option, None, Some, slice_get, ◌^◌, false, Bool}
 use Rattle.cyc_words.specs.Word.{IsWord as IsNumber}
 use Rattle.std.specs.Prelude.{if◌then◌else◌, option_map, not}
@@ -61,7 +62,8 @@ module _ (source : Program) where
   abbrev pub bounds_at : ℕ → Numbering
   bounds_at g = bounds_in (slice_get source.functions g)
 
-  -- the types of its locals, its structs and the place of its blocks, and the first slots of its locals
+  -- The types of a function's locals; for the code also the structs, the position of the exception
+  -- blocks, and the first slots of the locals.
   abbrev pub local_types : Option Function → List Ty
   local_types None = []
   local_types (Some h) = slot_types h
@@ -79,7 +81,7 @@ module _ (source : Program) where
   abbrev pub starts_at : ℕ → Starts
   starts_at g = starts_of (types_at g)
 
-  -- the types and slots of a function while these entries are pending, some of which are arrays that are being filled
+  -- The types and slots of a function with these stack entries, some of which are arrays that are being filled.
   abbrev pub types_on : ℕ → List Entry → Types
   types_on g k = record { locals = local_types (slice_get source.functions g); structs = source.structs; raises = raises_in (slice_get source.functions g); counters = counters_of (after_records k (scopes_of source) (words_of_all (local_types (slice_get source.functions g)))) k; globals = global_types source.globals; scopes = scopes_of source }
 
@@ -93,11 +95,11 @@ module _ (source : Program) where
   abbrev pub parameters_at : ℕ → List Ty
   parameters_at g = parameters_in (slice_get source.functions g)
 
-  -- the first slot after the locals
+  -- The first slot after the locals of function g.
   abbrev pub base_of : ℕ → ℕ
   base_of g = words_of_all (types_at g).locals
 
-  -- the kind of the result of an expression in a function, of a callee, and of the enclosing function
+  -- The kind of the result of an expression in function g.
   abbrev pub given_at : ℕ → Expression → Kind
   given_at g a = given (bounds_at g).functions a
 
@@ -107,11 +109,12 @@ module _ (source : Program) where
   abbrev pub returned_at : ℕ → Kind
   returned_at g = kind_of_result (bounds_at g).result
 
-  -- the first slot after the handler records and the marks of lexical regions
+  -- The first slot after the handler records and the saved counts of lexical regions.
   abbrev pub floor : ℕ → List Entry → ℕ
   floor g k = after_records k (scopes_of source) (base_of g)
 
-  -- what was opened inside the enclosing loop, or inside the function
+  -- The handlers and regions that were opened inside the enclosing loop or, without `loop`, inside
+  -- the function.
   abbrev pub opened_by : (loop : Bool) → ℕ → List Entry → Opened
   opened_by loop g [] = nothing_opened
   opened_by loop g (Loop condition body ∷ k) = if loop then nothing_opened else opened_by loop g k
@@ -121,11 +124,11 @@ module _ (source : Program) where
   opened_by loop g (Main ∷ k) = nothing_opened
   opened_by loop g (entry ∷ k) = opened_by loop g k
 
-  -- the slot of the next value
+  -- The slot of the next value to compute.
   abbrev pub top : ℕ → List Entry → ℕ
   top g k = height (floor g k) (held k)
 
-  -- the slot of the next value while a value is passed on
+  -- The slot of the next value to compute while a value is passed on.
   abbrev pub ground : ℕ → List Entry → ℕ
   ground g k = height (floor g k) (kept k)
 
@@ -134,7 +137,8 @@ module _ (source : Program) where
   abbrev pub call_slots : (g base : ℕ) → CallSlots
   call_slots g base = record { code = code_of g; base = base }
 
-  -- the pending calls, whose objects are ordered: an older call has smaller numbers
+  -- Says that the data of the waiting calls hold, and that an older call has objects with smaller
+  -- numbers.
   abbrev pub FramesHold : Tables → List Object → (high : ℕ) → List Frame → List Waiting → Type 0
   FramesHold t objects high [] [] = length (global_types source.globals) ≤ high
   FramesHold t objects high (f ∷ frames) (x ∷ outer) =
@@ -151,52 +155,57 @@ module _ (source : Program) where
 
   -- ---- the control stack and the code
 
-  -- the code leads from p to q: directly, by one jump, or by a jump to a jump
+  -- Says that the code goes from p to q: directly, by one jump, or by a jump to a jump.
   pub data Arrives (code : List Instruction) (p q : ℕ) : Type 0 where
     in_place : p ≡ q → Arrives code p q
     by_jump : At code p (instructions.Jump q) → Arrives code p q
     by_jumps : (m : ℕ) → m < p → At code p (instructions.Jump m) → At code m (instructions.Jump q) → Arrives code p q
 
-  -- true if nothing of the function is open
+  -- Holds if no handler or region of the function is open.
   abbrev pub IsOutside : Exits → Type 0
   IsOutside exits = (exits.in_loop ≡ nothing_opened) × (exits.in_function ≡ nothing_opened)
 
-  -- The code moves a value to slot d. The slot d belongs to a temporary, from `free` on, or to a local that is about to be assigned.
+  -- Says that the code moves a value to slot d. Slot d is a temporary, from `free` on, or it belongs to a local that is about to be
+  -- assigned.
   pub data Lands (base free d words : ℕ) (temporary ahead : Type 0) : Type 0 where
     in_temporary : free ≤ d → temporary → Lands base free d words temporary ahead
     in_local : d + words ≤ base → ahead → Lands base free d words temporary ahead
 
-  -- The value of an assignment is in an operand: it is dropped, stays there, or is moved to another slot.
+  -- Says that the value of an assignment is in an operand: it is dropped, stays in the operand, or is
+  -- moved to another slot.
   pub data HandsOn (code : List Instruction) (words : ℕ) (o : Operand) (p : ℕ) (dropped stays : Type 0) (comes : (d q : ℕ) → Type 0) : Type 0 where
     drops : dropped → HandsOn code words o p dropped stays comes
     leaves : stays → HandsOn code words o p dropped stays comes
     copies : (d q : ℕ) → CopyAt code words o d p q → comes d q → HandsOn code words o p dropped stays comes
 
-  -- a byte is printed, and its value is dropped or moved to a slot
+  -- Says that a byte is printed, and that its value is dropped or moved to a slot.
   pub data Prints (code : List Instruction) (o : Operand) (p : ℕ) (dropped : Type 0) (comes : (d : ℕ) → Type 0) : Type 0 where
     prints_only : dropped → Prints code o p dropped comes
     gives_byte : (d : ℕ) → At code p (low_byte o d) → comes d → Prints code o p dropped comes
 
-  -- the result of an operator is moved to a slot, or is a condition that the next jump tests
+  -- Says that the result of an operator is moved to a slot, or is a condition that the next jump
+  -- tests.
   pub data Yields (value tested : Type 0) : Type 0 where
     to_slot : value → Yields value tested
     to_jump : tested → Yields value tested
 
-  -- a loop, whose condition is after its body, at place p
+  -- Says that a loop, whose condition comes after its body, is at position p.
   abbrev pub LoopAt : (g t : ℕ) → Expression → Statement → (exits outer : Exits) → (p q : ℕ) → Type 0
   LoopAt g t condition body exits outer p q = (b : ℕ) × (exits.in_loop ≡ nothing_opened) × (exits.in_function ≡ outer.in_function)
       × EntryAt (code_of g) (bounds_at g) (types_at g) condition exits b t p × At (code_of g) (break_target exits) (instructions.Jump q)
       × StatementAt (code_of g) (bounds_at g) (types_at g) body exits t b p
       × ((f : ℕ) × BranchesAt (code_of g) (bounds_at g) (types_at g) condition f b t p × ((f ≡ q) ⊎ At (code_of g) f (instructions.Jump q))) × (break_target exits < q)
 
-  -- the statement that a condition chooses, followed by the code of the pending entries
+  -- Says that the code at p is the statement that a condition chooses, followed by the code for the
+  -- stack entries.
   abbrev pub ChosenAt : (g t : ℕ) → (first second : Statement) → (waits : Exits → (q : ℕ) → Type 0) → (fails : Bool) → (p : ℕ) → Type 0
   ChosenAt g t first second waits true p =
       (exits : Exits) × (q : ℕ) × StatementAt (code_of g) (bounds_at g) (types_at g) second exits t p q × waits exits q
   ChosenAt g t first second waits false p =
       (exits : Exits) × (m : ℕ) × (q : ℕ) × StatementAt (code_of g) (bounds_at g) (types_at g) first exits t p m × Arrives (code_of g) m q × waits exits q
 
-  -- The body of a loop if its condition holds. If it fails, the code of the pending entries follows, or a jump to it.
+  -- Says that the code at p is the body of a loop if the loop's condition holds. If the condition fails, the code at
+  -- p is the code for the stack entries, or a jump to this code.
   abbrev pub RepeatedAt : (g t : ℕ) → Expression → Statement → (waits : Exits → (q : ℕ) → Type 0) → (fails : Bool) → (p : ℕ) → Type 0
   RepeatedAt g t condition body waits true p = (outer : Exits) × (q : ℕ) × ((p ≡ q) ⊎ At (code_of g) p (instructions.Jump q)) × waits outer q
   RepeatedAt g t condition body waits false p =
@@ -211,11 +220,12 @@ module _ (source : Program) where
   IsLast (f ∷ frames) k = ⊥
   IsLast [] (entry ∷ k) = ⊥
 
-  -- true if the value is the place that is assigned
+  -- Holds if the value is the address of the variable that is assigned.
   abbrev pub IsPlaceOf : (ℕ → Option ℕ) → Lvalue → Value → Type 0
   IsPlaceOf locals l place = (object : ℕ) × (place ≡ Thin object 0) × (object_of (record { locals = locals; home = 0; counters = λ level. None }) l ≡ Some object)
 
-  -- the value of a kind in an operand is stored, and is in another operand afterwards
+  -- Says that the code stores an operand in a variable of this kind, and that the value is in
+  -- another operand afterwards.
   abbrev pub StoreAt : (g : ℕ) → Kind → Lvalue → (from to : Operand) → (p q : ℕ) → Type 0
   StoreAt g kind (Local w n) from to p q =
       At (code_of g) p (move_of (words_of_kind kind) (slot_of (starts_at g) n) from) × (p + 1 ≡ q) × (to ≡ operands.Slot (slot_of (starts_at g) n))
@@ -225,20 +235,22 @@ module _ (source : Program) where
 
   -- ---- swaps
 
-  -- the place of a side of a swap: a variable is an object, and a cell has its address in a slot
+  -- Says where one side of a swap is: a variable is an object, and a cell has its address in a
+  -- slot.
   abbrev pub IsSideAt : Tables → (ℕ → Option ℕ) → Words → Side → (s object offset : ℕ) → Type 0
   IsSideAt t locals slots (VariableSide l ty) s object offset =
       (offset ≡ 0) × (object_of (record { locals = locals; home = 0; counters = λ level. None }) l ≡ Some object)
   IsSideAt t locals slots (CellSide x) s object offset = Points t object offset (slots s)
 
-  -- the left side, a variable or a cell, while the right place is evaluated
+  -- Says that the left side of a swap is a variable or a cell, while the right side is evaluated.
   abbrev pub IsLeft : (ℕ → Option ℕ) → (is_cell : Bool) → Side → (place : Value) → Type 0
   IsLeft locals false (VariableSide l ty) (Thin object offset) =
       (offset ≡ 0) × (object_of (record { locals = locals; home = 0; counters = λ level. None }) l ≡ Some object)
   IsLeft locals true (CellSide x) (Thin object offset) = Unit {0}
   IsLeft locals is_cell a place = ⊥
 
-  -- words in slots are moved to sides, and then the code continues at q
+  -- Says that words in slots are moved to the sides of a swap, and that the code then continues at
+  -- q.
   abbrev pub WritesAt : Tables → (ℕ → Option ℕ) → (g : ℕ) → Words → List Write → (p q : ℕ) → Type 0
   WritesAt t locals g slots [] p q = p ≡ q
   WritesAt t locals g slots (x ∷ writes) p q =
@@ -247,27 +259,29 @@ module _ (source : Program) where
       × (x.place ≡ Thin object offset) × IsSideAt t locals slots a s object offset × Is t x.operand.kind x.operand.value slots v
       × WritesAt t locals g slots writes r q
 
-  -- true if this function returns a value of this kind
+  -- Holds if function g returns a value of this kind.
   abbrev pub IsReturned : (g : ℕ) → Kind → Type 0
   IsReturned g kind = (results_of (bounds_at g).result ≡ words_of_kind kind) × (kind ≡ returned_at g)
 
-  -- the call of a function, with its arguments in the slots from t on; the result is moved to slot d
+  -- Says that the code calls a function with its arguments in the slots from t on, and moves the
+  -- result to slot d.
   abbrev pub CallAt : (g : ℕ) → Callee → (arguments t d p q : ℕ) → Type 0
   CallAt g callees.Putchar arguments t d p q = ⊥
   CallAt g callees.Getchar arguments t d p q = At (code_of g) p (instructions.ReadByte d) × (p + 1 ≡ q)
   CallAt g (callees.Function n) arguments t d p q = At (code_of g) p (instructions.Call n t arguments d) × (p + 1 ≡ q)
 
-  -- The code from place p on uses a value and serves all pending entries, of the running call and of its callers. The running function is
-  -- g. The value has a kind and is in operand o.
+  -- Says that the code from position p on uses a value and then executes the stack entries of the running call and of its callers. The
+  -- running function is g. The value has the given kind and is in operand o.
   abbrev mutual
     pub ValueStack : (g : ℕ) → (ℕ → Option ℕ) → Kind → Operand → (p : ℕ) → List Frame → List Entry → Type 0
     ValueStack g locals kind o p frames [] = ⊥
-    -- an int that becomes a char is moved to another slot, and any other value stays in its place
+    -- An int that becomes a char is moved to another slot, and any other value stays in its
+    -- operand.
     ValueStack g locals kind o p frames (Needs (ConvertTo from to target) ∷ k) =
         ((d : ℕ) × (to ≡ kinds.Char) × At (code_of g) p (low_byte o d)
         × Lands (base_of g) (top g k) d 1 (ValueStack g locals kinds.Char (operands.Slot d) (p + 1) frames k) (AheadStack g locals kinds.Char d (p + 1) frames k))
         ⊎ ((q : ℕ) × (masks from to ≡ false) × ConversionAt (code_of g) (bounds_at g) (types_on g k) from to (option_map bytes_of_kind target) o (top g k) p q × ValueStack g locals to o q frames k)
-    -- a char that is used as an int stays in its place
+    -- A char that is used as an int stays in its operand.
     ValueStack g locals kind o p frames (Needs (Operate unary.Widen) ∷ k) = ValueStack g locals kinds.Int o p frames k
     ValueStack g locals kind o p frames (Needs (Operate operator) ∷ k) =
         Yields ((d : ℕ) × At (code_of g) p (unary_instruction operator d o)
@@ -387,8 +401,8 @@ module _ (source : Program) where
     ValueStack g locals kind o p frames (Discard ∷ k) = (exits : Exits) × StatementStack g exits p frames k
     ValueStack g locals kind o p frames (entry ∷ k) = ⊥
 
-    -- The code from place p on uses a place and serves all pending entries. The address of the place is the word of an operand plus a
-    -- number of bytes.
+    -- Says that the code from position p on uses the address of a memory access and then executes the stack entries. This address is
+    -- the word of an operand plus a number of bytes.
     pub PlaceStack : (g : ℕ) → (ℕ → Option ℕ) → Operand → (c p : ℕ) → List Frame → List Entry → Type 0
     PlaceStack g locals o c p frames (NeedsPlace (LoadFrom cell) ∷ k) =
         (d : ℕ) × (q : ℕ) × LoadedAt (code_of g) cell o c d (top g k) p q
@@ -412,7 +426,8 @@ module _ (source : Program) where
         × ExchangeAt (code_of g) (bounds_at g) (types_at g) kind a (CellSide y) (floor g k) m q × StatementStack g exits q frames k
     PlaceStack g locals o c p frames k = ⊥
 
-    -- The code from place p on serves all pending entries after a condition that is known to fail or to hold.
+    -- Says that the code from position p on executes the stack entries after a condition that is known to
+    -- fail or to hold.
     pub DecidedStack : (g : ℕ) → (fails : Bool) → (p : ℕ) → List Frame → List Entry → Type 0
     DecidedStack g fails p frames (Needs (Chain operations) ∷ k) =
         TestsAt (code_of g) (bounds_at g) (types_on g k) operations fails (top g k) p (λ fails q. DecidedStack g fails q frames k)
@@ -422,12 +437,14 @@ module _ (source : Program) where
     DecidedStack g fails p frames (Needs (Test condition body) ∷ k) = RepeatedAt g (floor g k) condition body (λ exits q. StatementStack g exits q frames k) fails p
     DecidedStack g fails p frames k = ⊥
 
-    -- The code from place p on serves all pending entries after a value that is dropped and has no place.
+    -- Says that the code from position p on executes the stack entries after a value that is dropped and
+    -- is in no slot.
     pub DroppedStack : (g p : ℕ) → List Frame → List Entry → Type 0
     DroppedStack g p frames (Discard ∷ k) = (exits : Exits) × StatementStack g exits p frames k
     DroppedStack g p frames k = ⊥
 
-    -- The code from place p on serves all pending entries after a value that is already in slot n of a local that is about to get it.
+    -- Says that the code from position p on executes the stack entries after a value that is already in slot n of the local to which
+    -- it will be assigned.
     pub AheadStack : (g : ℕ) → (ℕ → Option ℕ) → Kind → (n p : ℕ) → List Frame → List Entry → Type 0
     AheadStack g locals kind n p frames (Needs (ConvertTo from to target) ∷ k) =
         (converts_there from to ≡ true) × (masks from to ≡ false) × (words_of_kind kind ≡ words_of_kind to) × AheadStack g locals to n p frames k
@@ -443,7 +460,7 @@ module _ (source : Program) where
         (exits : Exits) × (q : ℕ) × (slot_of (starts_at g) number ≡ n) × HasRoom (types_at g) number kind × (kind_in (types_at g).locals number ≡ wanted) × ItemsAt (code_of g) (bounds_at g) (types_at g) items exits (floor g k) p q × StatementStack g exits q frames k
     AheadStack g locals kind n p frames k = ⊥
 
-    -- The code from place p on serves all pending entries, which await no value.
+    -- Says that the code from position p on executes the stack entries, which await no value.
     pub StatementStack : (g : ℕ) → Exits → (p : ℕ) → List Frame → List Entry → Type 0
     StatementStack g exits p frames (Rest items ∷ k) =
         (q : ℕ) × ItemsAt (code_of g) (bounds_at g) (types_at g) items exits (floor g k) p q × StatementStack g exits q frames k
@@ -465,16 +482,18 @@ module _ (source : Program) where
     StatementStack g exits p frames (Main ∷ k) = (s : ℕ) × At (code_of g) p (instructions.Finish s) × IsOutside exits × IsLast frames k
     StatementStack g exits p frames k = ⊥
 
-  -- The code from place p on serves all pending entries after a condition, which fails if this comparison holds.
+  -- Says that the code from position p on executes the stack entries after a condition, which fails if this
+  -- comparison holds.
   abbrev pub ConditionStack : (g : ℕ) → Comparison → (l r : Operand) → (p : ℕ) → List Frame → List Entry → Type 0
   ConditionStack g failing l r p frames k = Forks (code_of g) (bounds_at g) (types_on g k) failing l r p (λ fails q. DecidedStack g fails q frames k)
 
-  -- a value of a kind is moved to slot d, and the code from place p on uses it
+  -- Says that a value of a kind is moved to slot d, and that the code from position p on uses it.
   abbrev pub LandsStack : (g : ℕ) → (ℕ → Option ℕ) → Kind → (d p : ℕ) → List Frame → List Entry → Type 0
   LandsStack g locals kind d p frames k =
       Lands (base_of g) (top g k) d (words_of_kind kind) (ValueStack g locals kind (operands.Slot d) p frames k) (AheadStack g locals kind d p frames k)
 
-  -- The pointer to a new object is moved to slot d, and the code from place p on uses it. The slot may be that of the handle.
+  -- Says that the pointer to a new object is moved to slot d, and that the code from position p on uses it. Slot d may be the
+  -- slot of the region handle.
   abbrev pub LandsMade : (g : ℕ) → (ℕ → Option ℕ) → Kind → (d p : ℕ) → List Frame → List Entry → Type 0
   LandsMade g locals kind d p frames k =
       Lands (base_of g) (ground g k) d (words_of_kind kind) (ValueStack g locals kind (operands.Slot d) p frames k) (AheadStack g locals kind d p frames k)
@@ -488,13 +507,14 @@ module _ (source : Program) where
       At (code_of g) p (instructions.WriteByte o)
       × Prints (code_of g) o (p + 1) (DroppedStack g (p + 1) frames k) (λ d. LandsStack g locals kinds.Int d (p + 1 + 1) frames k)
 
-  -- the result of a binary operator is moved to a slot, or tested
+  -- Says that the result of a binary operator is moved to a slot, or is tested by the next jump.
   abbrev pub AppliedStack : (g : ℕ) → (ℕ → Option ℕ) → Operator → (l r : Operand) → (p : ℕ) → List Frame → List Entry → Type 0
   AppliedStack g locals operator l r p frames k =
       Yields ((d : ℕ) × (q : ℕ) × OperatorAt (code_of g) (bounds_at g) (types_on g k) operator d l r p q × LandsStack g locals kinds.Int d q frames k)
       ((failing : Comparison) × (failing_comparison operator ≡ Some failing) × ConditionStack g failing l r p frames k)
 
-  -- an index is added to a fat pointer in slot n, and an access through it is made
+  -- Says that the code adds an index to a fat pointer in slot n and accesses memory through the
+  -- pointer.
   abbrev pub AdvancesAt : (g : ℕ) → (ℕ → Option ℕ) → Kind → (span : Option ℕ) → (n : ℕ) → Operand → (p q : ℕ) → List Frame → List Entry → Type 0
   AdvancesAt g locals kind span n x p q frames k =
       ((kind ≡ kinds.Fat) × At (code_of g) p (instructions.Binary plain_binary.Add (top g k + 2) (operands.Slot (n + 2)) x))

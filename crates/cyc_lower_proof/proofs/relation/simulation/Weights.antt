@@ -1,4 +1,5 @@
--- The weight of a source state, which falls with each step that no plain instruction matches.
+-- This file defines the weight of a source state, which falls with each step that no plain
+-- instruction matches.
 use Rattle.std.proofs.Common.{ℕ, suc, ◌+◌, List, [], ◌∷◌, Option, None, Some, length}
 use Rattle.cyc_types.specs.TypedTrees.{Array, Load, New, ByHandle, Initial, HeapRegion, FreeKey, Plain, Fields, Dereference, Target, Expression, Number, NullPointer, Copy, Call, Unary, Binary, Assign, Converted, Convert, Arguments}
 use Rattle.cyc_types.specs.TypedTrees.{NoArguments, MoreArguments, Operations, NoOperations, ThenCompute, ThenTest, ThenPointer, Statement, Block, Empty, Evaluate, If, While, Break, Continue, Items, NoItems, MoreItems, Execute, Declare}
@@ -6,8 +7,8 @@ use Rattle.cyc_types.specs.TypedTrees.{OpenRegion, DeclareAlias, Move, Peek, The
 use Rattle.cyc_types.specs.TypedTrees as typed
 use Rattle.cyc_meaning.specs.State.{Awaiting, Chain, Pass, PlaceBy, MakeFields, Initialise, OpenBy, AliasOf, Entry, Needs, Rest, Loop, Focus, Evaluating, Locating, Executing, Entering, Binding, State, Running, AwaitingPlace, StoreTo, NeedsPlace, SwapLeft, Writing, Catching, Index}
 
--- An expression that is an operand may have no code. An expression that begins with another one weighs more than that and its pending
--- entry. A decided test has no weight; in an undecided test, the first operand needs no weight.
+-- An expression that is an operand may have no code. An expression that begins with a subexpression weighs more than the
+-- subexpression and its stack entry. A decided test has no weight; in an undecided test, the first operand needs no weight.
 abbrev mutual
   pub expression_weight : Expression → ℕ
   expression_weight (Number n) = 1
@@ -57,7 +58,7 @@ abbrev mutual
   operations_weight (ThenPointer o a os) = suc (suc (expression_weight a + operations_weight os))
   operations_weight (ThenPointerPeek n o a os) = suc (suc (expression_weight a + operations_weight os))
 
--- the weight of a side of a swap, with its pending entry
+-- The weight of one side of a swap, with its stack entry.
 abbrev pub side_weight : Side → ℕ
 side_weight (VariableSide l t) = 0
 side_weight (CellSide x) = suc (dereference_weight x)
@@ -92,13 +93,14 @@ abbrev mutual
   items_weight (MoreItems (DeclareAlias r n t p lent) js) = 2
   items_weight js = 0
 
--- an exception that reaches the default of a `try` continues at the default
+-- An exception that reaches the `default` clause of a `try` continues with the statements of this
+-- clause.
 abbrev pub clauses_weight : Clauses → ℕ
 clauses_weight NoClauses = 1
 clauses_weight (Default r js) = suc (suc (suc (items_weight js)))
 clauses_weight (Case tag x r js cs) = 0
 
--- Each entry has a weight, so a stack without it is lighter.
+-- Each stack entry has a weight, so a stack becomes lighter when an entry is removed.
 abbrev pub awaiting_weight : Awaiting → ℕ
 awaiting_weight (Chain os) = operations_weight os
 awaiting_weight (Index peek target i) = suc (expression_weight i)

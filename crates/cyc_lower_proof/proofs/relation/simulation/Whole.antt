@@ -1,4 +1,4 @@
--- Each run of the plain program is a run of the source.
+-- Each run of the plain program is a run of the source program.
 use Rattle.std.proofs.Common.{◌≡◌, ℕ, zero, suc, ◌≤◌, ◌<◌, Bool, true, false, List, [], ◌∷◌, ◌++◌, length, map, Option, None, Some, slice_get, slice_index, refl, sym, ap, subst, ◌∙◌, arith, inl, inr, ◌+◌, ◌-◌, ◌*◌}
 use Rattle.std.specs.Prelude.{◌==◌, if◌then◌else◌, replicate}
 use Rattle.std.proofs.lemmas.Bool.{le-leb, and_from}
@@ -85,7 +85,7 @@ use Rattle.cyc_memory_relation.proofs.Chars.{char-small}
 
 -- ---- the initial globals
 
--- the initial words of a global represent its value
+-- The initial words of a global represent the initial value of the global.
 abbrev begun : (constant : Constant) → Ty → (rest : List ℕ) → Words
 begun constant u rest = slice_index (initial_word constant ∷ replicate (words_of u - 1) 0 ++ rest)
 
@@ -116,7 +116,8 @@ initial_is t g rest v constant (types.Handle r) (inr (inr (k, u, s, is, non_null
 initial_is t g rest v constant (types.Key r) (inr (inr (k, u, s, is, non_null, null))) e = absurd (let f : types.Key r ≡ types.Pointer k u s = is in cc)
 initial_is t g rest v constant (types.Struct n rs) (inr (inr (k, u, s, is, non_null, null))) e = absurd (let f : types.Struct n rs ≡ types.Pointer k u s = is in cc)
 
--- the words of each global, which are after those of the previous ones, are its initial words
+-- The words of each global come after those of the earlier globals, and they are the initial words
+-- of this global.
 globals_start : (t : Tables) (gs : List GlobalVariable) (number : ℕ) (v : Kinded) → AreWellTypedGlobals gs → contents (map global_object gs) number ≡ Some v
     → Is t v.kind v.value (slice_index (lower_globals gs)) (slot_in (global_types gs) number) × (words_of_kind v.kind ≤ words_in (global_types gs) number)
 globals_start t [] number v well has = absurd (none-some v has)
@@ -133,14 +134,14 @@ globals_start t (g ∷ gs) (suc number) v (well, rest) has =
     ∙ ap (λ (n : ℕ). slice_index (lower_globals gs) n) (let e : words_of g.of_type + following + j - words_of g.of_type ≡ following + j = omega arith in e) in
     (Is-same t v.kind v.value (slice_index (lower_globals gs)) (slice_index (lower_globals (g ∷ gs))) following (words_of g.of_type + following) (λ j below. next j) is, room)
 
--- each global has a value
+-- Each global has an initial value.
 global_has : (gs : List GlobalVariable) (number : ℕ) → number < length (global_types gs)
     → (v : Kinded) × (contents (map global_object gs) number ≡ Some v) × (v.kind ≡ kind_in (global_types gs) number)
 global_has [] number few = absurd (omega (arith, few))
 global_has (g ∷ gs) zero few = (record { kind = kind_of g.of_type; value = constant_value g.value }, refl, refl)
 global_has (g ∷ gs) (suc number) few = global_has gs number (omega (arith, few))
 
--- a global with the row of a char has that kind
+-- A global whose table row is that of a char has the kind `Char`.
 char_global : (t : Tables) (globals : List Ty) (number : ℕ) (r : IsGlobalRow t globals number) → IsCharAt t number → r.kind ≡ kinds.Char
 char_global t globals number r (address, is) =
     let start : ℕ = GLOBALS_BASE + 4 * first_word globals number + variable_bytes r.kind in
@@ -185,7 +186,7 @@ module _ (source : Program) (pages calls : ℕ) (well_typed : AreWellTypedGlobal
   stepping (Repeating object count index level wanted element) k e w c well nested words names related = repeating source pages calls object count index level wanted element k e w c well related
   stepping (Swapping kind left right before) k e w c well nested words names related = swapping source pages calls kind left right before k e w c names well related
 
-  -- a failed state is within all limits
+  -- A failed state counts as within all limits.
   failed_within : (s : State) → status_in (status_of s) ≡ Failed → is_within pages calls s ≡ true
   failed_within (Running focus k e w) failed = absurd (let f : simulation.Running ≡ Failed = failed in cc)
   failed_within (Ended ending output input) failed = absurd (let f : simulation.Ended ending ≡ Failed = failed in cc)
@@ -196,7 +197,7 @@ module _ (source : Program) (pages calls : ℕ) (well_typed : AreWellTypedGlobal
   goes_well s never failed =
       never (step source s) (sym (ap (λ (b : Bool). if b then step source s else Ended Full (output_of s) (input_of s)) (failed_within (step source s) failed))) failed
 
-  -- values remain words, and calls do not overlap
+  -- Values in the plain machine remain 32-bit words, and calls do not overlap.
   abbrev Lies : plain.State → Type 0
   Lies t = plain.HoldsWords t × LieBelow (lower_program source) t
 
@@ -205,14 +206,16 @@ module _ (source : Program) (pages calls : ℕ) (well_typed : AreWellTypedGlobal
       let stepped = of_uniform (lower_program source) (no_enter source typed_words) pages calls old new uniform in
       (words_stay (lower_program source) pages calls 1 old new of_words words (new, stepped, refl), below_step (lower_program source) pages calls old new lie stepped)
 
-  -- regions are nested, and live variables have names
+  -- Says that regions are nested and that every live variable is named by a global or by an active
+  -- call.
   abbrev Named : State → Type 0
   Named s = NestsAndNames (length source.globals) s
 
   named_kept : (old new : State) → Named old → new ≡ limited_step source pages calls old → Named new
   named_kept old new both is = both_kept (length source.globals) source rise pages calls old new both is
 
-  -- the matching of source states and plain states that satisfy these invariants
+  -- The matching of source states and plain states that also satisfy the invariants of both
+  -- machines.
   abbrev matching_lies : Matching (above source pages calls) (below source pages calls)
   matching_lies = keeping (above source pages calls) (below source pages calls) (matching source pages calls) Lies lies_kept
 
@@ -296,7 +299,8 @@ module _ (source : Program) (pages calls : ℕ) (well_typed : AreWellTypedGlobal
 
   follows_source : (base : ℕ) (store : StoreState) (input : List ℕ) → IsNew pages store → 1 ≤ pages → pages ≤ MOST_PAGES → 1 ≤ calls → AllByRecursion (λ b. b < 256) input
       → IsBelow (lower_program source) (lower_program source).main base slots_end → FollowsSource source (lower_program source) pages calls base store input
-  -- (proved for the machine with equal limits at each instruction, because the lowered code has no `Enter`)
+  -- The proof uses the machine with equal limits at each instruction, because the lowered code has no
+  -- `Enter`.
   follows_source base store input new some_page few_pages some_call bytes lies never =
       let (h, starts, there) = from_start (slice_get source.functions source.main) input refl some_call (never 0 (start source input) refl) in
       follows_uniform (lower_program source) (no_enter source typed_words) pages calls (above source pages calls) [] (λ state. places_of (lower_program source)) (start source input) (plain_step.start (lower_program source) base store input)
@@ -313,7 +317,8 @@ module _ (source : Program) (pages calls : ℕ) (well_typed : AreWellTypedGlobal
         (nests_start source input, names_start source input rise),
       ))
 
--- The lowered program of a fitting source program has the behaviour of the source program.
+-- The lowered program has the behaviors of the source program, if the source program fits the
+-- requirements of lowering.
 pub follows : (source : Program) → IsFitting source → IsOfWordsProgram source → FunctionsRise source → words_of_all (global_types source.globals) ≤ MOST_GLOBALS → HasWords (lower_program source) → (pages calls base : ℕ) (store : StoreState) (input : List ℕ)
     → IsNew pages store → 1 ≤ pages → pages ≤ MOST_PAGES → 1 ≤ calls → AllByRecursion (λ b. b < 256) input → IsBelow (lower_program source) (lower_program source).main base slots_end → FollowsSource source (lower_program source) pages calls base store input
 follows source fitting typed_words rise few_globals of_words pages calls base store input new some_page few_pages some_call bytes lies =

@@ -1,4 +1,4 @@
--- The change that a step makes.
+-- Proves the law that a step makes at most one change.
 use Rattle.cyc_meaning.proofs.RunLaws.{step_changes}
 use Rattle.cyc_meaning.proofs.laws.one_change_at_most.Goals as goal
 

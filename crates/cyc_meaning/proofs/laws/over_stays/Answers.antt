@@ -1,4 +1,4 @@
--- A run that is over stays as it is.
+-- Proves the law that a run that is over stays as it is.
 use Rattle.cyc_meaning.proofs.RunLaws.{over_stays, limited_over_stays}
 use Rattle.cyc_meaning.proofs.laws.over_stays.Goals as goal
 

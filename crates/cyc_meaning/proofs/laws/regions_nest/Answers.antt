@@ -1,4 +1,4 @@
--- The nesting of regions.
+-- Proves the law that regions nest.
 use Rattle.cyc_meaning.proofs.Nested.{nests_run, only_accesses_die}
 use Rattle.cyc_meaning.proofs.laws.regions_nest.Goals as goal
 

@@ -1,4 +1,4 @@
--- The step is a function.
+-- Proves the law that the step is a function of the state.
 use Rattle.std.proofs.Common.{◌∙◌, sym}
 use Rattle.cyc_meaning.specs.Run.{start}
 use Rattle.cyc_meaning.proofs.RunLaws.{steps-add, steps-last}

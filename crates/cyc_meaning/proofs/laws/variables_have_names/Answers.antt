@@ -1,4 +1,4 @@
--- The names of variables.
+-- Proves the law that variables have names.
 use Rattle.cyc_meaning.proofs.VariableRuns.{named_at, distinct_at, apart_at, again_at}
 use Rattle.cyc_meaning.proofs.laws.variables_have_names.Goals as goal
 

@@ -1,4 +1,4 @@
--- Reading and writing cells.
+-- This file proves the law about reading and writing cells.
 use Rattle.cyc_memory_relation.proofs.Cells.{found-either, element-found, cell-live, cell-read, related-written}
 use Rattle.cyc_memory_relation.proofs.laws.cells_are_read_and_written.Goals as goal
 

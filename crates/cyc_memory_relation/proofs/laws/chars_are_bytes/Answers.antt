@@ -1,4 +1,4 @@
--- Chars in cells and in variables.
+-- This file proves the law about chars in cells and in variables.
 use Rattle.std.proofs.Common.{◌+◌, ◌%◌, ap, ◌∙◌}
 use Rattle.cyc_words.specs.Bytes.{byte_in}
 use Rattle.cyc_words.proofs.Numbers.{last_byte_of_word}

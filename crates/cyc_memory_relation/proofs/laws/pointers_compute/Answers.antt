@@ -1,4 +1,4 @@
--- Arithmetic and tests for null.
+-- This file proves the law about pointer arithmetic and tests for null.
 use Rattle.cyc_memory_relation.proofs.Pointers.{fat-moved, thin-null_test, fat-null_test}
 use Rattle.cyc_memory_relation.proofs.laws.pointers_compute.Goals as goal
 

@@ -1,4 +1,4 @@
--- Opening and closing regions.
+-- This file proves the law about opening and closing regions.
 use Rattle.cyc_memory_relation.proofs.Services.{opened-lexical, opened-dynamic, refusal-close, closed-dynamic}
 use Rattle.cyc_memory_relation.proofs.laws.regions_open_and_close.Goals as goal
 

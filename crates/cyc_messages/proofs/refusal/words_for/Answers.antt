@@ -16,7 +16,7 @@ use Rattle.cyc_rendering.specs.inside.Reading.{HasTree}
 use Rattle.cyc_messages.specs.inside.Refusal.{is_explained}
 use Rattle.cyc_messages.proofs.refusal.words_for.Goals as goal
 
--- The test that two faults are equal.
+-- A boolean whose negation is false is true.
 not_false : (x : Bool) → false ≡ not x → x ≡ true
 not_false true e = refl
 not_false false e = cc
@@ -33,7 +33,7 @@ same_fault a b e =
     ∙ (ap (λ (line : ℕ). fault_of b.code line a.column) (eqb-true a.line b.line lines)
     ∙ ap (λ (column : ℕ). fault_of b.code b.line column) (eqb-true a.column b.column columns))
 
--- A fault that the checker finds in a text's tree is a fault of the text.
+-- If the checker finds a fault in the syntax tree of a text, it is a fault of the text.
 refused : (text : List ℕ) (t : Tree) (found fault : Fault) → is_explained fault.code ≡ true → HasTree text t
     → (found ≡ memory_fault) ⊎ IsRefusedProgram t.names (declarations_of t) found → found ≡ fault → IsRefusedText text fault
 refused text t found fault explained has (inl memory) same =

@@ -1,4 +1,4 @@
--- The law about requests to the store.
+-- The proof of the law about requests to the store (the heap of regions).
 use Rattle.cyc_plain.proofs.Steps.{step_serves, step_full}
 use Rattle.cyc_plain.proofs.laws.calls_are_served.Goals as goal
 

@@ -1,4 +1,4 @@
--- The law about the addresses of the calls.
+-- The proof of the law that the slots of different calls have disjoint addresses.
 use Rattle.cyc_plain.specs.inside.Step.{start}
 use Rattle.cyc_plain.proofs.CallLaws.{below_run, below_start}
 use Rattle.cyc_plain.proofs.laws.calls_lie_apart.Goals as goal

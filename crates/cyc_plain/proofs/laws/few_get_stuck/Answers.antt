@@ -1,4 +1,4 @@
--- The law about stuck states.
+-- The proof of the law about the states in which a run gets stuck.
 use Rattle.cyc_plain.proofs.Placed.{few_get_stuck}
 use Rattle.cyc_plain.proofs.laws.few_get_stuck.Goals as goal
 

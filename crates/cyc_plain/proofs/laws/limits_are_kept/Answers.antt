@@ -1,4 +1,4 @@
--- The law about limits.
+-- The proof of the law that a run stays within its limits of pages and calls.
 use Rattle.cyc_plain.specs.inside.Step.{step, limit_at}
 use Rattle.cyc_plain.proofs.RunLaws.{starts_within, stays_within, limited-within, limited-full}
 use Rattle.cyc_plain.proofs.laws.limits_are_kept.Goals as goal

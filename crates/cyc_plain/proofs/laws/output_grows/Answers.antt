@@ -1,4 +1,4 @@
--- The law about output and input.
+-- The proof of the law that output grows and input is consumed from its front.
 use Rattle.cyc_plain.proofs.RunLaws.{output_grows, input_shrinks}
 use Rattle.cyc_plain.proofs.laws.output_grows.Goals as goal
 

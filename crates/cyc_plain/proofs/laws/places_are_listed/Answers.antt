@@ -1,4 +1,4 @@
--- The law that the places of a program are listed.
+-- The proof of the law that all code positions of a program are listed.
 use Rattle.cyc_plain.proofs.Steps.{place_known}
 use Rattle.cyc_plain.proofs.laws.places_are_listed.Goals as goal
 

@@ -1,4 +1,4 @@
--- The law about checks of stack room.
+-- The proof of the law about `Enter`, which checks for stack space.
 use Rattle.cyc_plain.proofs.Rooms.{as_called, enters, enters_full}
 use Rattle.cyc_plain.proofs.laws.room_is_asked.Goals as goal
 

@@ -1,4 +1,4 @@
--- The law about programs without checks of stack room.
+-- The proof of the law about programs without `Enter`, which check for no stack space.
 use Rattle.cyc_plain.proofs.Uniform.{of_uniform, to_uniform}
 use Rattle.cyc_plain.proofs.laws.room_is_not_asked.Goals as goal
 

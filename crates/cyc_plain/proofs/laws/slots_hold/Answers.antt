@@ -1,4 +1,4 @@
--- The law about writes to slots.
+-- The proof of the law about writes to slots.
 use Rattle.cyc_plain.proofs.SlotLaws.{put-same, put-other, copied-inside, copied-below, copied-above}
 use Rattle.cyc_plain.proofs.laws.slots_hold.Goals as goal
 

@@ -1,4 +1,4 @@
--- The law that a step exists.
+-- The proof of the law that a step exists in each state, except at some calls and requests.
 use Rattle.cyc_plain.proofs.RunLaws.{goes_on, goes_on_called, goes_on_refused}
 use Rattle.cyc_plain.proofs.laws.steps_go_on.Goals as goal
 

@@ -1,4 +1,4 @@
--- The law about straight-line code.
+-- The proof of the law about runs of straight-line code.
 use Rattle.cyc_plain.proofs.Straight.{runs, following-distinct}
 use Rattle.cyc_plain.proofs.laws.straight_code_runs.Goals as goal
 

@@ -1,4 +1,4 @@
--- The law that all values are words.
+-- The proof of the law that all values in a run are machine words.
 use Rattle.cyc_plain.specs.inside.Step.{start}
 use Rattle.cyc_plain.proofs.WordLaws.{words_stay, words_at_start}
 use Rattle.cyc_plain.proofs.laws.values_are_words.Goals as goal

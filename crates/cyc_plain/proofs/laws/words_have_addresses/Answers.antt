@@ -1,4 +1,4 @@
--- The law that words have addresses.
+-- The proof of the law that each word of memory is found at its address.
 use Rattle.cyc_plain.proofs.MemoryLaws.{memory-store, memory-global, memory-active, memory-waiting}
 use Rattle.cyc_plain.proofs.laws.words_have_addresses.Goals as goal
 

@@ -1,4 +1,4 @@
--- A conversion gives a value of its target type.
+-- A conversion yields a value of its target type.
 use Rattle.cyc_soundness.proofs.types.ValueLemmas.{converted_by}
 use Rattle.cyc_soundness.proofs.laws.conversions_fit.Goals as goal
 

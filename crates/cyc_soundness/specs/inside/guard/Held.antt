@@ -1,6 +1,6 @@
--- The locals that are known to hold a value at a program point, in the form for proofs about runs. A lent local still holds its value:
--- loans nest like blocks, so they belong to the surrounding scope and not to this state. Joins lose no information about loans, and each
--- exit from a block ends its loans.
+-- This file defines the set of locals that are known to hold a value at a program point, in the form for proofs about runs. A lent local
+-- still holds its value: loans nest like blocks, so they belong to the enclosing scope and not to this set. Joins lose no information
+-- about loans, and each exit from a block ends the block's loans.
 use Rattle.std.specs.Prelude.{◌≡◌, ℕ, Bool, true, false, nat_eq, if◌then◌else◌, Option, Some, None}
 
 pub data Held : Type 0 where
@@ -9,7 +9,8 @@ pub data Held : Type 0 where
   -- each local for which the function is true holds a value
   Holds : (ℕ → Bool) → Held
 
--- All facts of the second state hold in the first. Unreachable code satisfies all facts; reachable code is not known to be unreachable.
+-- Says that all facts of the second state hold in the first. Unreachable code satisfies all facts; reachable code is not known to be
+-- unreachable.
 abbrev pub IsAtLeast : Held → Held → Type 0
 IsAtLeast Never g = Unit {0}
 IsAtLeast (Holds f) Never = ⊥
@@ -18,23 +19,25 @@ IsAtLeast (Holds f) (Holds g) = (n : ℕ) → g n ≡ true → f n ≡ true
 abbrev pub updated : (ℕ → Bool) → ℕ → Bool → ℕ → Bool
 updated f n b m = if nat_eq n m then b else f m
 
--- the state in which this local is marked as holding a value, or as empty
+-- The state in which local n is marked as holding a value, or as empty.
 abbrev pub with_held : Bool → Held → ℕ → Held
 with_held b Never n = Never
 with_held b (Holds f) n = Holds (updated f n b)
 
--- the state in which this local, if there is one, holds a value
+-- The state in which a local, if there is one, is marked as holding a value.
 abbrev pub and_held : Option ℕ → Held → Held
 and_held None f = f
 and_held (Some n) f = with_held true f n
 
--- THE SURROUNDINGS OF A TREE, which restrict its use of locals.
+-- The guard of a tree, which restricts how the tree may use locals.
 pub record Guard : Type 0 where
-  -- locals that an enclosing catch relies on to hold their values: they are not emptied
+  -- The locals on which an enclosing `catch` relies to hold their values: the code must not empty
+  -- them.
   pub relied : ℕ → Bool
-  -- locals that enclosing items have lent to the end of their blocks: they are neither peeked at, used nor assigned
+  -- The locals that enclosing items have lent to the end of their blocks: they are neither peeked at, used nor
+  -- assigned.
   pub locked : ℕ → Bool
-  -- locals with a pending peek: they may only be peeked at
+  -- The locals with a peek whose value is not yet used: they may only be peeked at.
   pub peeked : ℕ → Bool
 
 abbrev pub nowhere : ℕ → Bool
@@ -44,46 +47,46 @@ nowhere n = false
 abbrev pub no_guard : Guard
 no_guard = record { relied = nowhere; locked = nowhere; peeked = nowhere }
 
--- the guard while a peek of this local is pending, if there is one
+-- The guard while the peek of a local, if there is one, is not yet used.
 abbrev pub peeking : Option ℕ → Guard → Guard
 peeking None p = p
 peeking (Some n) p = record p { peeked = updated p.peeked n true }
 
--- the guard inside the body of a `try` whose clauses rely on these locals
+-- The guard inside the body of a `try` whose clauses rely on the locals r.
 abbrev pub relying : (ℕ → Bool) → Guard → Guard
 relying r p = record p { relied = r }
 
 -- ---- demands on a local; unreachable code has none
 
--- the value of the local may be peeked at
+-- Says that the value of a local may be peeked at.
 abbrev pub IsSeen : Guard → ℕ → Held → Type 0
 IsSeen p n Never = Unit {0}
 IsSeen p n (Holds f) = (f n ≡ true) × (p.locked n ≡ false)
 
--- the value of the local may be used
+-- Says that the value of a local may be used.
 abbrev pub IsUsable : Guard → ℕ → Held → Type 0
 IsUsable p n Never = Unit {0}
 IsUsable p n (Holds f) = (f n ≡ true) × (p.locked n ≡ false) × (p.peeked n ≡ false)
 
--- the local may be assigned, whether it holds a value or not
+-- Says that a local may be assigned, even if it holds no value.
 abbrev pub IsAssignable : Guard → ℕ → Held → Type 0
 IsAssignable p n Never = Unit {0}
 IsAssignable p n (Holds f) = (p.locked n ≡ false) × (p.peeked n ≡ false)
 
--- the local may be emptied
+-- Says that a local may be emptied.
 abbrev pub IsSpared : Guard → ℕ → Held → Type 0
 IsSpared p n Never = Unit {0}
 IsSpared p n (Holds f) = p.relied n ≡ false
 
 -- ---- catches
 
--- The clauses of a `try` may rely on these locals. The reliable locals include those that an enclosing catch relies on, and each of them
--- holds a value at the start of the `try`.
+-- Says that the clauses of a `try` may rely on the locals r. They include the locals on which an enclosing `catch` relies, and each of
+-- them holds a value at the start of the `try`.
 abbrev pub IsReliable : Guard → (ℕ → Bool) → Held → Type 0
 IsReliable p r Never = Unit {0}
 IsReliable p r (Holds f) = ((n : ℕ) → p.relied n ≡ true → r n ≡ true) × ((n : ℕ) → r n ≡ true → f n ≡ true)
 
--- the state at the start of a clause, given the state at the start of its `try`
+-- The facts at the start of a clause, given the facts at the start of its `try`.
 abbrev pub at_catch : (ℕ → Bool) → Held → Held
 at_catch r Never = Never
 at_catch r (Holds f) = Holds r

@@ -1,4 +1,4 @@
--- Allocated and freed blocks.
+-- This file proves the law about allocated and freed blocks.
 use Rattle.cyc_store.proofs.BlockLemmas.{serves-made, serves-freed, serves-closed}
 use Rattle.cyc_store.proofs.laws.blocks_come_and_go.Goals as goal
 

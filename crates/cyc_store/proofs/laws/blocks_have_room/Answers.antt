@@ -1,4 +1,4 @@
--- Blocks have the requested size.
+-- This file proves the law that blocks have the requested size.
 use Rattle.std.proofs.Common.{◌^◌, refl}
 use Rattle.cyc_words.specs.Demand.{class_of}
 use Rattle.cyc_words.proofs.Numbers.{when_equal}

@@ -1,4 +1,4 @@
--- Live blocks are disjoint.
+-- This file proves the law that live blocks are disjoint.
 use Rattle.cyc_store.proofs.ServiceLemmas.{one_block, word-live}
 use Rattle.cyc_store.proofs.laws.blocks_stand_apart.Goals as goal
 

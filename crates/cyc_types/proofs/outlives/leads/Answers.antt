@@ -10,7 +10,7 @@ use Rattle.cyc_types.proofs.SearchLemmas.{IsSearched, leads-found, searched-take
 use Rattle.cyc_types.proofs.outlives.leads.Goals as goal
 use Rattle.cyc_types.proofs.outlives.leads.Goals.{then-is_outlived_by_live+then-is_known+else-is_above_live, else-is_outlived_by_live, else-is_outlived_by_live-via-then-is_outlived_by_live+else-is_known, else-is_outlived_by_live-via-else-is_outlived_by_live}
 
--- the default for a read of a scope past the end
+-- the scope that a read past the end of the scope list returns
 abbrev default : Scope
 default = record { region = Heap; kind = Block }
 

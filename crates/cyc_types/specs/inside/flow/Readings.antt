@@ -1,5 +1,5 @@
--- The flow rules in their usual form. The premises of a rule value compute to a statement about trees and states of locals. Each reading in
--- this file is the rule of that name, and `refl` proves it.
+-- The flow rules in their usual form: premises and a conclusion. The premises of a rule value compute to a statement about trees and states
+-- of locals. Each lemma in this file states the rule of its name as such a statement, and `refl` proves it.
 use Rattle.std.specs.Prelude.{◌≡◌, ◌⊎◌, ℕ, true, not, ◌&&◌, List, [], ◌∷◌, ◌++◌, Some, refl}
 use Rattle.cyc_words.specs.declared.fault.Code.TheVariants as codes
 use Rattle.cyc_words.specs.declared.fault.Fault.{Fault}
@@ -19,24 +19,26 @@ use Rattle.cyc_types.specs.flow.Programs.{in_function, start_of, rule_function}
 -- ---- expressions
 
 module _ (q : List ℕ) where
-  -- a consumed local holds a value that is neither lent out nor peeked at; after that it is empty
+  -- a move out of a local requires that the local holds a value that is neither lent out nor peeked
+  -- at; afterwards the local is empty
   consumed : (p : Place) (n : ℕ) (t : Ty) (f g : State)
       → Derives (rule q (Move p n t) f) g
       ≡ (((not (is_vacant (fullness f n)) ≡ true) × ((not (is_locked (fullness f n)) ≡ true) × ((is_free q n f ≡ true) × Unit {0}))) × (g ≡ with_fullness Vacant f n))
   consumed p n t f g = refl
 
-  -- a local that is only peeked at may already be peeked at
+  -- a peek of a local is allowed even while another peek of the local is pending
   looked_at : (p : Place) (n : ℕ) (t : Ty) (f g : State)
       → Derives (rule q (Peek p n t) f) g ≡ (((not (is_vacant (fullness f n)) ≡ true) × ((not (is_locked (fullness f n)) ≡ true) × Unit {0})) × (g ≡ f))
   looked_at p n t f g = refl
 
-  -- an assignment fills its local after the value was evaluated
+  -- an assignment evaluates its value first and then fills its local
   filled : (p : Place) (n : ℕ) (c : Converted) (t : ValueType) (f h : State)
       → Derives (rule q (Assign (Local p n) c t) f) h
       ≡ ((g : State) × Derives (rule_converted q c f) g × (((not (is_locked (fullness g n)) && is_free q n g ≡ true) × Unit {0}) × (h ≡ with_fullness Full g n)))
   filled p n c t f h = refl
 
-  -- the local through which a place is reached counts as peeked at until the stored value has been evaluated
+  -- if a cell is reached through a local, a peek of this local is pending until the value to store has been
+  -- evaluated
   put_there : (d : Dereference) (c : Converted) (t : ValueType) (f h : State)
       → Derives (rule q (Store d c t) f) h ≡ ((g : State) × Derives (rule_place q d f) g × Derives (rule_converted (and_peeked (peek_after d) q) c g) h)
   put_there d c t f h = refl
@@ -45,12 +47,14 @@ module _ (q : List ℕ) where
       → Derives (rule_operations q (ThenPointerPeek n o a os) f) h ≡ ((g : State) × Derives (rule (q ++ (n ∷ [])) a f) g × Derives (rule_operations q os g) h)
   compared n o a os f h = refl
 
-  -- the state after an operand that may be skipped is the meet with the state before it
+  -- the state after an operand that `&&` or `||` may skip is the meet of the states before and
+  -- after the operand
   tested : (o : LogicalOperator) (a : Expression) (os : Operations) (f h : State)
       → Derives (rule_operations q (ThenTest o a os) f) h ≡ ((g : State) × Derives (rule q a f) g × Derives (rule_operations q os (meet f g)) h)
   tested o a os f h = refl
 
-  -- the elements of an array leave no local emptier, and there may be no element
+  -- evaluating the elements of an array must leave no local emptier, because the array may have no
+  -- element
   elements : (p : Place) (l : ℕ) (n : Expression) (k : Kind) (a : Expression) (f g : State)
       → Derives (rule_initial q (Array p l n k a) f) g
       ≡ ((head : State) × Derives (rule q n f) head × ((h : State) × Derives (rule q a head) h × (((is_at_least h head ≡ true) × Unit {0}) × (g ≡ head))))
@@ -59,7 +63,7 @@ module _ (q : List ℕ) where
 -- ---- statements
 
 module _ (c : Around) where
-  -- the two variables of a swap are used after both places were evaluated
+  -- a swap uses its two variables after both sides have been evaluated
   swapped : (x y : Side) (f i : State)
       → Derives (rule_swapped x y f) i
       ≡ ((g : State) × Derives (rule_side [] x f) g × ((h : State) × Derives (rule_side (and_peeked (peeked_side x) []) y g) h × (AllKept (swap_demanded x y h) × (i ≡ h))))
@@ -71,8 +75,8 @@ module _ (c : Around) where
       × ((l : Known) × Derives (rule_statement c t (record { now = g; breaks = k.breaks })) l × (Unit {0} × (m ≡ record { now = meet k.now l.now; breaks = l.breaks })))))
   branches a s t f b m = refl
 
-  -- At the end of the body of a loop, no local is emptier than at the head. After the loop, its condition was evaluated last, or a break
-  -- left it.
+  -- At the end of a loop's body, no local is emptier than at the loop's head. The state after a loop is the meet of the state after its
+  -- condition and the states at its breaks.
   loops : (p : Place) (a : Expression) (s : Statement) (f b : State) (m : Known)
       → Derives (rule_statement c (While p a s) (record { now = f; breaks = b })) m
       ≡ ((g : State) × Derives (rule [] a f) g
@@ -80,7 +84,7 @@ module _ (c : Around) where
       × (((is_at_least k.now f ≡ true) × Unit {0}) × (m ≡ record { now = meet g k.breaks; breaks = b }))))
   loops p a s f b m = refl
 
-  -- the locals locked since the start of a loop's body are full again after a break
+  -- after a `break`, the locals locked since the start of the loop's body hold their values again
   breaks : (f b : State) (m : Known) → Derives (rule_statement c Break (record { now = f; breaks = b })) m ≡ (Unit {0} × (m ≡ record { now = Unreached; breaks = meet b (with_each Full c.locks f) }))
   breaks f b m = refl
 
@@ -89,7 +93,8 @@ module _ (c : Around) where
       ≡ (((is_at_least (with_each Full ks f) l.head ≡ true) × Unit {0}) × (m ≡ record { now = Unreached; breaks = b }))
   continues l ks f b m = refl
 
-  -- a clause begins with the state at the `try`, except that the locals touched by the body are empty
+  -- a catch clause begins with the state at the `try`, except that the locals touched by the body are
+  -- empty
   clauses : (s : Statement) (cs : Clauses) (f b : State) (m : Known)
       → Derives (rule_statement c (Try s cs) (record { now = f; breaks = b })) m
       ≡ ((k : Known) × Derives (rule_statement c s (record { now = f; breaks = b })) k × Derives (rule_clauses c (emptied (touched_statement s []) f) cs k) m)
@@ -100,7 +105,7 @@ module _ (c : Around) where
       ≡ ((k : Known) × Derives (rule_items c js (record { now = start; breaks = b })) k × (Unit {0} × (m ≡ record { now = meet f (with_each Full (locks_of js) k.now); breaks = k.breaks })))
   default_clause start r js f b m = refl
 
-  -- the locals that the items of a block lock are full again at its end
+  -- at the end of a block, the locals that its items lock hold their values again
   blocks : (r : ℕ) (js : Items) (k m : Known)
       → Derives (rule_statement c (Block r js) k) m ≡ ((l : Known) × Derives (rule_items c js k) l × (Unit {0} × (m ≡ record { now = with_each Full (locks_of js) l.now; breaks = l.breaks })))
   blocks r js k m = refl
@@ -117,7 +122,7 @@ module _ (c : Around) where
 
 -- ---- functions
 
--- the end of a function with a result is never reached
+-- if a function has a result, execution never reaches the function's end
 returns : (h : Function) (t : Ty)
     → Derives (rule_function (record h { result = Some t })) tt
     ≡ ((k : Known) × Derives (rule_items in_function h.body (record { now = start_of h; breaks = Unreached })) k × (((not (is_reached k.now) ≡ true) × Unit {0}) × (◌≡◌ {A = Unit {0}} tt tt)))

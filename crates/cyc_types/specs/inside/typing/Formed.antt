@@ -1,6 +1,7 @@
--- THE REGIONS IN THE DECLARED TYPES OF A PROGRAM. The type of a local mentions only regions declared before it. The type of a global
--- mentions no variable. The type of a field mentions only the parameters of its struct. No type of a field refers to a region that is
--- declared later. No field of a struct is a key. The choice of these conditions on declared types is this project's own choice.
+-- The regions in the declared types of a program. The type of a local mentions only regions declared before the local. The type of a
+-- global mentions no region variable. The type of a field mentions only the region parameters of its struct. No type of a field
+-- refers to a region that is declared later. No field of a struct is a key. The choice of these conditions on declared types is this
+-- project's own choice.
 use Rattle.std.specs.Prelude.{◌≡◌, ℕ, suc, ◌+◌, ◌<◌, false, List, [], ◌∷◌}
 use Rattle.cyc_types.specs.declared.region.Region.{Region}
 use Rattle.cyc_types.specs.declared.region.Region.TheVariants as regions
@@ -15,7 +16,7 @@ abbrev pub AllOf : (Region → Type 0) → List Region → Type 0
 AllOf P [] = Unit {0}
 AllOf P (r ∷ rs) = P r × AllOf P rs
 
--- the predicate holds of all regions in a type
+-- says that a predicate holds of all regions in a type
 abbrev pub AllIn : (Region → Type 0) → Ty → Type 0
 AllIn P Int = Unit {0}
 AllIn P Char = Unit {0}
@@ -24,7 +25,7 @@ AllIn P (Handle r) = P r
 AllIn P (Key r) = P r
 AllIn P (Struct n rs) = AllOf P rs
 
--- if the region is a variable, its number is below this one
+-- says that a region is not a variable, or is a variable with a number below n
 abbrev pub IsKnown : ℕ → Region → Type 0
 IsKnown n regions.Heap = Unit {0}
 IsKnown n regions.Unique = Unit {0}
@@ -40,7 +41,7 @@ abbrev mutual
   IsFormedStatement n (Try s cs) = IsFormedStatement n s × AreFormedClauses (n + declared_regions s) cs
   IsFormedStatement n s = Unit {0}
 
-  -- an alias has the type of the pointer that it shares, except for its own region
+  -- an alias has the type of the unique pointer that it shares, except for the alias's own region
   pub AreFormedItems : ℕ → Items → Type 0
   AreFormedItems n NoItems = Unit {0}
   AreFormedItems n (MoreItems (Execute s) js) = IsFormedStatement n s × AreFormedItems (n + declared_regions s) js
@@ -65,7 +66,7 @@ abbrev pub AreFormedGlobals : List GlobalVariable → Type 0
 AreFormedGlobals [] = Unit {0}
 AreFormedGlobals (v ∷ vs) = AllIn (IsKnown 0) v.of_type × AreFormedGlobals vs
 
--- the types of the fields of a struct with this many parameters
+-- says that the field types of a struct mention only its region parameters and are not keys
 abbrev pub AreFormedFields : (parameters : ℕ) → List Ty → Type 0
 AreFormedFields n [] = Unit {0}
 AreFormedFields n (t ∷ ts) = AllIn (IsKnown n) t × (is_key t ≡ false) × AreFormedFields n ts

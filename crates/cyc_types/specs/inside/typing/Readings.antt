@@ -1,5 +1,5 @@
--- The typing rules of the whole language in their usual form. The premises of a rule value compute to a statement about trees, so each
--- reading in this file is the rule of that name: The proof of each reading is `refl`.
+-- The typing rules of the whole language in their usual form: premises and a conclusion. The premises of a rule value compute to a
+-- statement about trees. Each lemma in this file states the rule of its name as such a statement, and `refl` proves it.
 use Rattle.std.specs.Prelude.{◌≡◌, true, not, nat_eq, ◌&&◌, List, ◌++◌, Option, Some, length, refl}
 use Rattle.cyc_words.specs.declared.fault.Code.TheVariants as codes
 use Rattle.cyc_words.specs.declared.fault.Fault.{Fault}
@@ -23,7 +23,8 @@ use Rattle.cyc_types.specs.typing.Statements.{swapped, local_type, rule_initial,
 module _ (g : Scope) where
   -- ---- variables and places
 
-  -- A variable is read by a copy, or by a move if it is a unique pointer or key in a local. A unique pointer in a global cannot be read.
+  -- A variable is read by a copy, or by a move if the variable is a local that holds a unique pointer or key. A unique pointer in a
+  -- global cannot be read.
   variable_typed : (l : Lvalue) (t : Ty) (home : _) (p : Place) (a : typed.Expression)
       → Derives (read (scopes.Variable l t home) p) a ≡ (((is_readable l t ≡ true) × Unit {0}) × (a ≡ variable_read l t))
   variable_typed l t home p a = refl
@@ -31,7 +32,8 @@ module _ (g : Scope) where
   unknown_refused : (p : Place) (f : Fault) → Refuses (read Unknown p) f ≡ (f ≡ fault_at codes.UnknownName p)
   unknown_refused p f = refl
 
-  -- a cell is read only if the region of the pointer is live, and if it holds neither a struct nor a unique pointer
+  -- reading `*e` requires that the pointer's region is live, and that the target is neither a struct nor a unique
+  -- pointer
   loaded_typed : (p : Place) (e : Expression) (a : typed.Expression)
       → Derives (rule g (Prefixed p prefixes.Dereference e)) a
       ≡ ((b : typed.Expression) × Derives (rule_looked g e (rule g e)) b
@@ -40,7 +42,7 @@ module _ (g : Scope) where
       × (a ≡ typed.Load (pointed g (place_of e) b).cell)))
   loaded_typed p e a = refl
 
-  -- a cell as a place only demands that the pointer may be dereferenced
+  -- using `*e` as an lvalue requires only that the pointer may be dereferenced
   place_typed : (p q : Place) (e : Expression) (x : Found)
       → Derives (rule_place g p (Prefixed q prefixes.Dereference e) (rule g (Prefixed q prefixes.Dereference e))) x
       ≡ ((b : typed.Expression) × Derives (rule_looked g e (rule g e)) b
@@ -56,7 +58,7 @@ module _ (g : Scope) where
       × (a ≡ address_of x.side (pointer_to x))))
   address_typed p e a = refl
 
-  -- an assigned value is converted to the type of the place, which is evaluated first
+  -- an assignment evaluates its target first; the assigned value is converted to the target's type
   assignment_typed : (e v : Expression) (a : typed.Expression)
       → Derives (rule g (Assign e v)) a
       ≡ ((x : Found) × Derives (rule_place g (place_of e) e (rule g e)) x
@@ -67,7 +69,8 @@ module _ (g : Scope) where
 
   -- ---- other expressions
 
-  -- negation takes an int or a pointer, which is only peeked at; a char counts as an int
+  -- the operator `!` takes an int or a pointer, and only peeks at the pointer; a char operand is
+  -- widened to an int
   negation_typed : (p : Place) (e : Expression) (a : typed.Expression)
       → Derives (rule g (Prefixed p prefixes.Not e)) a
       ≡ ((b : typed.Expression) × Derives (rule_looked g e (rule g e)) b × (((is_tested (type_of (as_int b)) ≡ true) × Unit {0}) × (a ≡ typed.Unary unary.Not (as_int b))))
@@ -87,8 +90,9 @@ module _ (g : Scope) where
   unique_region_refused : (p : Place) (f : Fault) → Refuses (rule g (UniqueRegion p)) f ≡ (f ≡ fault_at codes.RegionOrKeyMisused p)
   unique_region_refused p f = refl
 
-  -- A call has as many arguments as parameters, each of which is converted. No variable denotes the unique region, the constraints hold,
-  -- and the effect is live. Of all violated demands of a call, the lowest code and then the first is the fault.
+  -- A call has as many arguments as the function has parameters, and each argument is converted. No region variable of a called
+  -- signature denotes the unique region, the constraints hold, and the effect is live. Of all violated demands of a call, the one with
+  -- the lowest code is reported, and the first if several have it.
   call_typed : (c : Callee) (s : Signature) (p : Place) (es : Expressions) (as' : List typed.Expression) (a : typed.Expression)
       → Derives (called g (Routine c s) p es as') a
       ≡ (((nat_eq (length as') (length s.parameters) ≡ true)
@@ -100,18 +104,18 @@ module _ (g : Scope) where
 
   -- ---- statements and items
 
-  -- the two places of a swap have equal types, and are not structs
+  -- the two sides of a swap have equal types, and are not structs
   swap_typed : (p : Place) (x y : Found) (t : typed.Statement)
       → Derives (swapped p x y) t ≡ (((ty_eq (type_of_side x.side) (type_of_side y.side) && not (is_struct (type_of_side x.side)) ≡ true) × Unit {0}) × (t ≡ typed.Swap x.side y.side))
   swap_typed p x y t = refl
 
-  -- a label is new in its function, and known in its block
+  -- a label is new in its function, and its name is known in its block
   labelled_typed : (l : Named) (b : Body) (t : typed.Statement)
       → Derives (rule_statement g (Labelled l b)) t
       ≡ ((u : Unit {0}) × (((not (is_taken g l) ≡ true) × Unit {0}) × (u ≡ tt)) × ((js : typed.Items) × Derives (rule_body (in_labelled l g) b) js × (Unit {0} × (t ≡ typed.Block g.next_region js))))
   labelled_typed l b t = refl
 
-  -- the initial value of a local is checked first; then, of the faults of its name and its conversion, the lowest code is reported
+  -- the initial value of a local is checked first; then the fault of its name or its conversion with the lowest code is reported
   local_typed : (w : WrittenType) (x : Named) (e : Expression) (c : Ty × Option Converted)
       → Derives (rule_initial g w x (Some e)) c
       ≡ ((a : typed.Expression) × Derives (rule g e) a
@@ -119,7 +123,7 @@ module _ (g : Scope) where
       × (c ≡ (local_type g (type_of a) w, Some (typed.Convert (kind_of_value (type_of a)) (kind_of (local_type g (type_of a) w)) a)))))
   local_typed w x e c = refl
 
-  -- a lexical region has a new name, and a handle
+  -- a lexical region has a new region name, and its handle has a new local name
   region_typed : (r h : Named) (j : typed.Item)
       → Derives (rule_lexical g r h) j ≡ (((not (is_taken g r) ≡ true) × ((not (is_declared g h) ≡ true) × Unit {0})) × (j ≡ typed.DeclareRegion g.next_region g.next_local))
   region_typed r h j = refl

@@ -1,4 +1,4 @@
--- Alike endings are equal.
+-- Two endings that are alike are equal.
 use Rattle.cyc_words.proofs.EndingLemmas.{same_when_alike, alike_when_same}
 use Rattle.cyc_words.proofs.laws.endings.Goals as goal
 

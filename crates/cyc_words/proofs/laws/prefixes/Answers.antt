@@ -1,4 +1,4 @@
--- The prefix relation is a partial order.
+-- This file proves the law that the prefix relation is a partial order.
 use Rattle.cyc_words.proofs.PrefixLemmas.{IsPrefix-refl, IsPrefix-trans, IsPrefix-antisym}
 use Rattle.cyc_words.proofs.laws.prefixes.Goals as goal
 

@@ -1,4 +1,4 @@
--- A word and its bytes determine each other.
+-- This file proves the law that a word and its bytes determine each other.
 use Rattle.cyc_words.proofs.BytesLemmas.{word_of_bytes-bytes_of_word, bytes_of_word-word_of_bytes}
 use Rattle.cyc_words.proofs.laws.word_bytes.Goals as goal
 

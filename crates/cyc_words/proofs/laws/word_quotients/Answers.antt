@@ -1,4 +1,4 @@
--- Quotients, remainders and arithmetic shifts.
+-- This file proves the law about quotients, remainders and arithmetic shifts.
 use Rattle.cyc_words.proofs.WordLemmas.{divided, signed-div_of, signed-rem_of, least_by_minus_one, signed-sar_of}
 use Rattle.cyc_words.proofs.laws.word_quotients.Goals as goal
 

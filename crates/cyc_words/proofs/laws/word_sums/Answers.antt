@@ -1,4 +1,4 @@
--- Sums, differences and products wrap.
+-- This file proves the law that sums, differences and products of words wrap.
 use Rattle.cyc_words.proofs.WordLemmas.{add_of-signed, sub_of-signed, mul_of-signed}
 use Rattle.cyc_words.proofs.laws.word_sums.Goals as goal
 

@@ -1,4 +1,4 @@
--- The signed and the unsigned view of a word agree.
+-- The signed and the unsigned view of a word agree modulo 2 ^ 32.
 use Rattle.cyc_words.proofs.WordLemmas.{views_agree, unsigned-signed, signed-unsigned, FitsSigned-signed, IsWord-unsigned}
 use Rattle.cyc_words.proofs.laws.word_views.Goals as goal
 

@@ -1,4 +1,4 @@
--- The bytes are displayed character by character exactly if they are UTF-8.
+-- The display of bytes goes character by character exactly if the bytes are UTF-8.
 use Rattle.std.proofs.lemmas.Bool.{false_from_ne_true}
 use Rattle.std.proofs.lemmas.Str.{IsUtf8-from_is_utf8, is_utf8-from_IsUtf8}
 use Rattle.cyc_cli.proofs.excerpt.BlankDisplay.fmt.Goals as goal

@@ -8,7 +8,7 @@ use Rattle.cyc_store.proofs.KeptClosing.{close-there, close-kept}
 use Rattle.cyc_store.proofs.KeptUnwinding.{newest-named, newest-left, newest-blocks, newest-unwinds}
 use Rattle.cyc_plainstore.proofs.plain.PlainStore.close_newest.Goals as goal
 
--- Some lexical region is open.
+-- If the number of open lexical regions is positive, it is not zero.
 never : (count some : ℕ) → count ≡ some → 0 < some → count ≡ 0 → ⊥
 never count some is more none = omega (arith, is, more, none)
 

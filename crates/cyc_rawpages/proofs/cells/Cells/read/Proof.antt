@@ -59,7 +59,7 @@ read_spec 𝓤 𝓛 𝓜 𝓡 wired =
     move ! (1 ∷ []) $ heard ! Asked (λ asked. split ! $ split ! $ move ! (2 ∷ []) $ fsplit ! $ fsplit ! $ keep ! (1 ∷ 3 ∷ []) $
     enter ! _ _ _ _ _ $ alloc_all ! (λ l. pass_all ! refl ((tt, tt), (start_typed p, ((tt, record { fits = are.1.1.0.1 }), tt))) $
     let w = asked.1.0 in let lt : i < length h.slots = filled_within h.slots i w asked.1.1 in
-    -- The proof's resources at this point: a `&` to the struct; the token.
+    -- The proof's resources at this point: a `&` reference to the struct; the lifetime token.
     unhide ! $ fsplit ! $ drop ! $ in_a_block ! h.at (λ q. lent_at q h.slots κs.0) (id⊢ 𝓤 (never 𝓤)) (λ b' o' e.
     let few = h.few in let far : i * 4 < 2 ^ 64 = omega (arith, few, lt) in let at = i * 4 + o' in
     take_at ! 2 $ rewrite ! 0 (λ (q : Ptr). ‵ (fat full_share (layout S) (l 2) 0 (start_val q))) (asked.0 ∙ e) refl $ give_at ! 2 $
@@ -67,7 +67,7 @@ read_spec 𝓤 𝓛 𝓜 𝓡 wired =
     rewrite ! 0 (λ (s : Option ℕ). ‵ (place_lent b' at s κs.0)) asked.1.1 refl $ hide ! $
     looks ! tt u32 (uint_Copied 𝓛 w32).opens w b' at (λ q' us. move ! (1 ∷ []) $ fsplit ! $ feq_l ! (λ is. flt_l ! (λ fits.
     rewrite ! 0 (λ (us : List Val). ‵ (cell_at q' u32.mir us b' at)) is refl $ move ! (2 ∷ []) $ drop ! $
-    -- The proof's resources at this point: the word's cell; the way to restore the loan.
+    -- The proof's resources at this point: the word's cell; the assertion that restores the loan.
     first ! $ blocks ! $
     sets ! (bin ! (get ! refl) (lit ! tt) (record { fits = far })) refl (tt, record { fits = far }) $
     sets ! (bin ! (get_in ! (fld ! refl (stop !)) (sub ! 0 refl (whole !))) (get ! refl) tt) refl (tt, tt) $

@@ -5,11 +5,11 @@ use Rattle.cyc_syntax.proofs.NameIndexLemmas.{by_first, by_other}
 use Rattle.cyc_syntax.proofs.interning.Names.add.Goals as goal
 use Rattle.cyc_syntax.proofs.interning.Names.add.Goals.{then-contains_key+in_ok-other+in_ok-insert, else-contains_key+in_ok-insert-2}
 
--- the bytes of a stored text
+-- Returns the bytes of a stored text.
 abbrev items_of : Vec ℕ Global → List ℕ
 items_of v = v.items
 
--- the texts after one owned text is appended
+-- Appending an owned text to the stored texts appends its bytes to the list of texts.
 texts_pushed : (before : List (Vec ℕ Global)) (owned : Vec ℕ Global) (text : List ℕ) → owned.items ≡ text → map items_of (before ++ owned ∷ []) ≡ map items_of before ++ text ∷ []
 texts_pushed before owned text is = map-append items_of before (owned ∷ []) ∙ ap (λ t. map items_of before ++ t ∷ []) is
 

@@ -10,7 +10,7 @@ returns-in-Some-clause-given c =
     let has = has_number c.args.self.now c.args.text.now c.in-Some.number c.in-Some.ensures in
     rw has.1 (slice_get-number_of c.args.self.now c.args.text.now has.0)
 
--- the interned text had no number before
+-- If a text is interned as new, it had no number before.
 new : (c : In_default) → is_among c.args.text.now c.args.self.now ≡ false
 new c = has_no_number c.args.self.now c.args.text.now c.in_default.ensures
 

@@ -1,4 +1,4 @@
--- Invariant: the bytes before the index were taken, and the device has not failed.
+-- Invariant of the loop: the device has taken the bytes before the index, and it has not failed.
 use Rattle.std.proofs.Common.{◌≡◌, take}
 use Rattle.std.specs.Io.KnownBytes.{Appends}
 use Rattle.cyc_words.proofs.device.ByteOut.put_all.Given as goal

@@ -1,4 +1,5 @@
--- A part that fails leaves the parts before it taken, and a prefix of its own bytes.
+-- If a part fails, then the device has taken the parts before it and a prefix of the part's own
+-- bytes.
 use Rattle.std.specs.Borrow.{Bor}
 use Rattle.std.proofs.Common.{ℕ, List, []}
 use Rattle.cyc_words.proofs.DeviceLemmas.{TakesText_part_exit}

@@ -1,4 +1,5 @@
--- Invariant: the parts before the index were taken whole, and the device has not failed.
+-- Invariant of the loop: the device has taken the parts before the index completely, and it has not
+-- failed.
 use Rattle.std.proofs.Common.{◌≡◌, take}
 use Rattle.std.specs.Prelude.{flat_map}
 use Rattle.std.specs.Io.KnownBytes.{Appends}
