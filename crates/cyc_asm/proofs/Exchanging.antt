@@ -34,8 +34,7 @@ use Rattle.cyc_asm.proofs.Fillings.{label_named}
 
 -- ---- exchanged code
 
--- `IsExchange` says that the second code is the first one in which the instructions of two adjacent
--- lines are exchanged.
+-- `IsExchange` says that the second code is the first one in which the instructions of two adjacent lines are exchanged.
 pub record IsExchange (code exchanged : List Line) (number : ℕ) (first second : Instr) : Type 0 where
   pub movable : is_movable first ≡ true
   pub passing : passes first second ≡ true
@@ -274,8 +273,7 @@ module _ (code : Labelled) (exchanged : List Line) (number : ℕ) (first second 
   follows store calls input never =
       simulates above below matching matched (code_is_lawful new_code addresses) [] (labelled.start code store calls input) never (labelled.start new_code store calls input) refl (inl (refl, (λ same. omega (arith, same))))
 
-  -- If two ways to assign places to lines have equal costs for each line, they have equal costs for
-  -- each run.
+  -- If two ways to assign places to lines have equal costs for each line, they have equal costs for each run.
   module _ (one other : ℕ → List ℕ) (same : (price : ℕ → ℕ) (line : ℕ) → sum_by price (one line) ≡ sum_by price (other line)) (from : labelled.State) (w : World) where
     sums : (price : ℕ → ℕ) (places : List ℕ) → sum_by (λ (p : ℕ). sum_by price (one p)) places ≡ sum_by (λ (p : ℕ). sum_by price (other p)) places
     sums price [] = refl

@@ -58,8 +58,7 @@ filled code (suc before) i is = unless (is_named code (suc before)) refl is
     unless true named is = absurd (let e : None ≡ Some i = is in cc)
     unless false unnamed is = by (slice_get code before) (slice_get code (suc before)) refl refl is unnamed
 
--- If an instruction fills the delay slot of a line, the instruction may be moved, and the line is a
--- branch or a jump.
+-- If an instruction fills the delay slot of a line, the instruction may be moved, and the line is a branch or a jump.
 pub filled_moves : (i : Instr) (line : Line) → moves i line ≡ true → (is_movable i ≡ true) × (is_jump line ≡ true)
 filled_moves i (lines.Ordinary other) may = absurd (let e : false ≡ true = may in cc)
 filled_moves i (lines.Branch condition label) may = (and_left (is_movable i) _ may, refl)
@@ -151,8 +150,7 @@ filling_reached code number i f reached = by f.line f.at f.moves
     at_after : (line : Line) → slice_get code number ≡ Some line → slice_get code (suc f.before) ≡ Some line
     at_after line at = ap (slice_get code) (sym f.is) ∙ at
 
-    -- If the instruction before a branch or jump, which fills its delay slot, is unreachable, so is
-    -- the branch or jump.
+    -- If the instruction before a branch or jump, which fills its delay slot, is unreachable, so is the branch or jump.
     neither : (line : Line) → slice_get code number ≡ Some line → may_lack (fills_after code (suc f.before)) (Some line) ≡ true → is_unreached code f.before ≡ true → is_unreached code (suc f.before) ≡ true
     neither line at lacks unreached =
         ap (λ b. is_unreached_after b code (suc f.before)) unreached

@@ -87,8 +87,7 @@ find code addresses address (suc count) within = elim (find code addresses addre
 running_over : (end : End) → phases.Running ≡ phases.Over end → ⊥
 running_over end is = let e : phases.Running ≡ phases.Over end = is in cc
 
--- The inverse of a branch is taken exactly if the branch is not. (The function `words` maps each register
--- to its word.)
+-- The inverse of a branch is taken exactly if the branch is not. (The function `words` maps each register to its word.)
 pub holds-inverse : (words : ℕ → ℕ) (condition : Condition) → holds_of words (inverse_of condition) ≡ not (holds_of words condition)
 holds-inverse words (conditions.Registers Equal left right) = refl
 holds-inverse words (conditions.Registers NotEqual left right) = sym (not_not (nat_eq (words left.number) (words right.number)))
@@ -109,8 +108,7 @@ module _ (code : Labelled) (addresses : ℕ → ℕ) where
   abbrev pub above : Machine
   above = labelled.machine code addresses
 
-  -- Returns the registers after a branch or jump, before its delay slot: a call has stored its
-  -- return address.
+  -- Returns the registers after a branch or jump, before its delay slot: a call has stored its return address.
   abbrev linked_in : (number : ℕ) → Line → Configuration → List ℕ
   linked_in number (lines.Call label) c = (with_register (core_of c) RETURN_ADDRESS (addresses (suc number))).registers
   linked_in number line c = c.registers
@@ -156,8 +154,7 @@ module _ (code : Labelled) (addresses : ℕ → ℕ) where
       (not-true (reads i RETURN_ADDRESS) (and_left (not (reads i RETURN_ADDRESS)) (not (writes i RETURN_ADDRESS)) free)) ∙ allowed
   headed_allowed number lines.Return c i may allowed = allowed
 
-  -- An instruction that may be moved into the delay slot of a branch or jump does not change the
-  -- target of this branch or jump.
+  -- An instruction that may be moved into the delay slot of a branch or jump does not change the target of this branch or jump.
   pub leads_moves : (number : ℕ) (line : Line) (c : Configuration) (i : Instr) → moves i line ≡ true → leads number line c ≡ leads number line (did c i)
   leads_moves number (lines.Ordinary other) c i may = refl
   leads_moves number (lines.Branch condition label) c i may =
@@ -221,8 +218,7 @@ module _ (code : Labelled) (addresses : ℕ → ℕ) where
 
     -- ---- a branch or jump and its delay slot
 
-    -- If a line is a branch or jump, the text contains its words, with its delay slot filled or
-    -- empty.
+    -- If a line is a branch or jump, the text contains its words, with its delay slot filled or empty.
     pub jump_stands : (number : ℕ) (line : Line) → is_jump line ≡ true → Stands code words addresses number line → StandsFilled (filling code.lines number) code words addresses number line
     jump_stands number (lines.Ordinary i) jumps stands = absurd (let e : false ≡ true = jumps in cc)
     jump_stands number (lines.Branch condition label) jumps stands = stands

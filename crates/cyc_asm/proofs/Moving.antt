@@ -301,8 +301,7 @@ division_cause left right = first_of (
     ∷ (false, causes.BadService)
     ∷ [])
 
--- If an instruction does not read a register, the machine refuses it after this register is set
--- exactly if it refuses it before.
+-- If an instruction does not read a register, the machine refuses it after this register is set exactly if it refuses it before.
 pub same_refusal : (c : Configuration) (i : Instr) (n w : ℕ) → is_movable i ≡ true → reads i n ≡ false → cause_of (machine_of (with_word c n w)) i ≡ cause_of (machine_of c) i
 same_refusal c (Memory LoadWord t b h) n w movable free = ap (λ (x : ℕ). memory_cause c false (memory_address x h)) (unread_register c n w b.number free)
 same_refusal c (Memory StoreWord t b h) n w movable free =

@@ -14,8 +14,7 @@ use Rattle.cyc_asm.specs.inside.Slots.{is_movable}
 use Rattle.cyc_asm.specs.inside.Order.{is_apart, passes}
 use Rattle.cyc_asm.proofs.Moving.{did, with_word, unwritten_stays, commutes, same_refusal}
 
--- If an instruction may be moved past another one, the other one may itself be moved, and the
--- machine never refuses it.
+-- If an instruction may be moved past another one, the other one may itself be moved, and the machine never refuses it.
 pub passed_movable : (i j : Instr) → passes i j ≡ true → is_movable j ≡ true
 passed_movable i (Immediate op t b h) may = refl
 passed_movable i (LoadUpper t h) may = refl
@@ -113,8 +112,7 @@ either_order c i (Exception op x) movable may = cc
 either_order c i (MoveFrom op d) movable may = cc
 either_order c i (MultiplyDivide op l r) movable may = cc
 
--- The machine refuses an instruction after another one exactly if it refuses it before, if the
--- instruction may be moved past the other.
+-- The machine refuses an instruction after another one exactly if it refuses it before, if the instruction may be moved past the other.
 pub passing_refusal : (c : Configuration) (i j : Instr) → is_movable i ≡ true → passes i j ≡ true → cause_of (machine_of (did c j)) i ≡ cause_of (machine_of c) i
 passing_refusal c i (Immediate op t b h) movable may =
     same_refusal c i t.number _ movable (apart_reads i t (and_left (is_apart i t) (not (writes i b.number)) may))

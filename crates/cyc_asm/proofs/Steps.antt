@@ -1,5 +1,4 @@
--- Each step of the labelled machine is matched by steps of the MIPS machine that runs the assembled
--- words.
+-- Each step of the labelled machine is matched by steps of the MIPS machine that runs the assembled words.
 use Rattle.std.proofs.Common.{◌≡◌, ℕ, suc, ◌+◌, ◌*◌, ◌%◌, ◌≤◌, ◌<◌, List, [], ◌∷◌, length, Bool, true, false, cond, not, Option, None, Some, refl, sym, ap, subst, ◌∙◌, arith, inl, inr}
 use Rattle.std.specs.Prelude.{Contains, slice_get, slice_set}
 use Rattle.std.proofs.lemmas.Option.{slice_get_within}
@@ -132,8 +131,7 @@ module _ (code : Labelled) (addresses : ℕ → ℕ) (words : List ℕ) (text : 
         let mine : filling code.lines (suc c.line) ≡ Some i = some ∙ ap (λ (x : Instr). Some x) one in
         (mine, filled code.lines (suc c.line) i mine)
 
-    -- The line after a branch is reachable, and its delay slot is not filled; so is the branch's
-    -- target.
+    -- The line after a branch is reachable, and its delay slot is not filled; so is the branch's target.
     next_met : (condition : Condition) (label : ℕ) → slice_get code.lines c.line ≡ Some (lines.Branch condition label) → IsMet code.lines (c.line + 1)
     next_met condition label found =
         subst (IsMet code.lines) (let e : suc c.line ≡ c.line + 1 = omega arith in e) (after_met code.lines c.line (lines.Branch condition label) found refl refl reached)
@@ -395,8 +393,7 @@ module _ (code : Labelled) (addresses : ℕ → ℕ) (words : List ℕ) (text : 
         aligned : here % 4 ≡ 0
         aligned = multiple line mid.found fine_here
 
-        -- After the instruction in the delay slot, the MIPS machine is at the target of the branch
-        -- or jump.
+        -- After the instruction in the delay slot, the MIPS machine is at the target of the branch or jump.
         after_slot : (u : World) → Goes w u → u ≡ world_at words (headed code addresses c.line line c) (leads code addresses c.line line c) (add_of (leads code addresses c.line line c) 4) false
         after_slot u goes =
             slot_goes code addresses words text (headed code addresses c.line line mid.before) few_before i may_move_here (headed_allowed code addresses c.line line mid.before i mid.moves mid.allowed) here (leads code addresses c.line line mid.before) slot_here aligned u
@@ -415,8 +412,7 @@ module _ (code : Labelled) (addresses : ℕ → ℕ) (words : List ℕ) (text : 
               (few, met.reached, at_empty code addresses words c' u met.empty (after_slot u goes ∙ same (leads code addresses c.line line c) ∙ ap (λ (n : ℕ). world_at words c' n (add_of n 4) false) is)),
             ))
 
-        -- If a far branch is taken, the MIPS machine also executes the jump that it skips
-        -- otherwise.
+        -- If a far branch is taken, the MIPS machine also executes the jump that it skips otherwise.
         round_slot : (condition : Condition) (label : ℕ) → line ≡ lines.Branch condition label → addresses (suc c.line) ≡ here + 12 → IsJumpAt words Plain nothing (from + 8) (addresses label)
             → headed code addresses c.line line c ≡ c → leads code addresses c.line line c ≡ here + 4 → May line (labelled.Running (record c { line = label })) → Stepped w
         round_slot condition label is_branch next jumps same goes_round may =
@@ -463,8 +459,7 @@ module _ (code : Labelled) (addresses : ℕ → ℕ) (words : List ℕ) (text : 
         (ap (λ b. labelled.Running (record c { line = cond b label (c.line + 1) })) (sym untaken)) small (goes_met false condition label mid.found)
         (ap (λ b. cond b (taken_to code addresses (is_near code.lines c.line label) c.line label) (addresses (suc c.line))) untaken ∙ ap addresses (sym same)) (λ n. refl)
 
-    -- A branch whose delay slot was executed is matched, in each case of near or far and taken or
-    -- not.
+    -- A branch whose delay slot was executed is matched, in each case of near or far and taken or not.
     branch_slotted : (near taken : Bool) (condition : Condition) (label : ℕ) → is_near code.lines c.line label ≡ near → holds_of (word_in c) condition ≡ taken
         → (i : Instr) (some : filling code.lines c.line ≡ Some i) (w : World) (mid : Between code addresses words c i (lines.Branch condition label) w)
         (never : (next : labelled.State) → labelled.Step code addresses (labelled.Running c) next → labelled.status_of next ≡ Failed → ⊥)

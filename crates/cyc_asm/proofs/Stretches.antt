@@ -28,8 +28,7 @@ in_stretch from (suc count) zero address below is = (0, (omega arith), (omega ar
 in_stretch from (suc count) (suc k) address below is =
     let (i, inside, at) = in_stretch (from + 4) count k address (omega arith) (omega arith) in (suc i, (omega (arith, inside)), at)
 
--- If a line takes `count` words, its own words are at the `count` addresses from the line's address
--- on.
+-- If a line takes `count` words, its own words are at the `count` addresses from the line's address on.
 pub own-stretch : (addresses : ℕ → ℕ) (number count : ℕ) → addresses (suc number) ≡ addresses number + 4 * count → own addresses number ≡ stretch (addresses number) count
 own-stretch addresses number count next = ap (stretch (addresses number)) (let e : (addresses (suc number) - addresses number) / 4 ≡ count = omega arith in e)
 
@@ -45,8 +44,7 @@ stretch-append from (suc m) n =
     ∙ ap (λ (rest : List ℕ). from ∷ rest) (stretch-append (from + 4) m n)
     ∙ ap (λ (a : ℕ). from ∷ (stretch (from + 4) m ++ stretch a n)) (let e : from + 4 + 4 * m ≡ from + 4 * suc m = omega arith in e)
 
--- If the lines are partitioned in any way, the words that belong to the parts are together all
--- words of the text.
+-- If the lines are partitioned in any way, the words that belong to the parts are together all words of the text.
 pub own-parts : (code : Labelled) (addresses : ℕ → ℕ) (words : List ℕ) → IsTextOf code addresses words → (some others : List ℕ)
     → some ++ others ≡ range_with_len 0 (length code.lines)
     → length (flat_map (own addresses) some) + length (flat_map (own addresses) others) ≡ length words

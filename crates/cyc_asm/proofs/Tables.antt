@@ -72,8 +72,7 @@ width_here code number d line below here = ap (width_in code number) (line_here 
 pub words_here : (code : List Line) (number : ℕ) (d line : Line) → number < length code → get_or code number d ≡ line → words_in code number (slice_get code number) ≡ words_of_line code number line
 words_here code number d line below here = ap (words_in code number) (line_here code number d line below here)
 
--- Loop invariant: the table of maximum word counts stays correct when it is extended by one more
--- line.
+-- Loop invariant: the table of maximum word counts stays correct when it is extended by one more line.
 pub most_of_more : (code : List Line) (number : ℕ) (most : List ℕ) (before words : ℕ) (d : Line) → number < length code
     → most ≡ map (most_before code) (range_with_len 0 number) → before ≡ most_before code number → words ≡ words_of (get_or code number d)
     → (most ++ before ∷ [] ≡ map (most_before code) (range_with_len 0 (number + 1))) × (before + words ≡ most_before code (number + 1))
@@ -115,8 +114,7 @@ width_some code number lines.Return = omega arith
 width_by : (code : List Line) (number : ℕ) (b : Bool) → is_unreached code number ≡ b → width_at code number ≡ cond b 0 (width_in code number (slice_get code number))
 width_by code number b is = ap (λ (x : Bool). cond x 0 (width_in code number (slice_get code number))) is
 
--- The position of the next line is that of this line plus its width, or the same if this line is
--- unreachable.
+-- The position of the next line is that of this line plus its width, or the same if this line is unreachable.
 position_by : (code : List Line) (number : ℕ) (b : Bool) → is_unreached code number ≡ b
     → position code (number + 1) ≡ position code number + cond b 0 (width_in code number (slice_get code number))
 position_by code number b is =
@@ -179,8 +177,7 @@ pub tail_of_branch_here : (code : List Line) (number : ℕ) (d : Line) (conditio
 tail_of_branch_here code number d condition label b slot below here near =
     tail_here code number d (lines.Branch condition label) slot below here ∙ ap (λ b. slot ∷ round_words b code label) near
 
--- If a branch is near, its position and the table's position of its label are within the reach of
--- an offset.
+-- If a branch is near, its position and the table's position of its label are within the reach of an offset.
 pub reach_here : (code : List Line) (positions : List ℕ) (number label from : ℕ) (d : Line) (condition : Condition) → Fits code → positions ≡ position_of_each code → number < length code → label < length code
     → get_or code number d ≡ lines.Branch condition label → is_near code number label ≡ true → IsHeadPosition code number from
     → (from ≤ get_or positions label 0 + MAX_REACH) × (get_or positions label 0 ≤ from + MAX_REACH)
@@ -222,8 +219,7 @@ head_before_line code positions number d i is below here =
 
 -- The words to which a line is translated are consecutive in the text.
 
--- If the next line's delay slot is not filled, an ordinary instruction is translated to its own
--- word.
+-- If the next line's delay slot is not filled, an ordinary instruction is translated to its own word.
 
 pub words_alone : (code : List Line) (number : ℕ) (i : Instr) → filling code (number + 1) ≡ None → word_of i ∷ [] ≡ words_ordinary (filling code (number + 1)) code number i
 words_alone code number i none = sym (ap (λ o. words_ordinary o code number i) none)
@@ -240,8 +236,7 @@ words_moved code number word from i slotted some place is =
 pub within_moved : (code : List Line) (number : ℕ) (slotted : Instr) → filling code (number + 1) ≡ Some slotted → number + 1 < length code
 within_moved code number slotted some = let f = filled code (number + 1) slotted some in slice_get_within code (number + 1) f.line f.at
 
--- If its delay slot is filled, a branch or jump is translated to its words with the filling
--- instruction.
+-- If its delay slot is filled, a branch or jump is translated to its words with the filling instruction.
 
 pub words_after : (code : List Line) (number : ℕ) (d line : Line) (slotted : Instr) → number < length code → get_or code number d ≡ line → filling code number ≡ Some slotted
     → tail_in code number (slice_get code number) (word_of slotted) ≡ filled_in code number (slice_get code number)

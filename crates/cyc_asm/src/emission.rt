@@ -150,8 +150,7 @@ fn push_tail(
     }
 }
 
-/// Appends the word of an ordinary instruction, or of the branch or jump after it if the instruction fills its delay
-/// slot.
+/// Appends the word of an ordinary instruction, or of the branch or jump after it if the instruction fills its delay slot.
 fn push_ordinary(
     words: &mut Vec<u32>,
     lines: &[Line],
@@ -182,8 +181,7 @@ fn push_ordinary(
     }
 }
 
-/// Appends the words of the branch or jump of line `number`, with the instruction in its delay
-/// slot.
+/// Appends the words of the branch or jump of line `number`, with the instruction in its delay slot.
 fn push_jump(
     words: &mut Vec<u32>,
     lines: &[Line],
@@ -262,8 +260,7 @@ fn push_line(
     push_reached(words, lines, named, most, positions, number)
 }
 
-/// Returns true if line `number` is unreachable and takes no word. Every reachable line takes at least one
-/// word.
+/// Returns true if line `number` is unreachable and takes no word. Every reachable line takes at least one word.
 fn is_left_out(lines: &[Line], positions: &[u32], number: usize) -> bool
     requires within { number < length lines.now }
     requires positions { positions.now ≡ position_of_each lines.now }

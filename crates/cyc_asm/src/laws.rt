@@ -23,22 +23,19 @@ pub fn orders_have_each_line()
     ensures { (code : List Line) → IsPermutation code (arranged code) }
 {}
 
-/// If the lines of code are partitioned in any way, each word of the text belongs to exactly one
-/// part.
+/// If the lines of code are partitioned in any way, each word of the text belongs to exactly one part.
 pub fn words_are_shared_out()
     ensures { (code : Labelled) (addresses : ℕ → ℕ) (words : List ℕ) → IsTextOf code addresses words
         → (some others : List ℕ) → some ++ others ≡ range_with_len 0 (length code.lines)
         → length (flat_map (own addresses) some) + length (flat_map (own addresses) others) ≡ length words }
 {}
 
-/// In a run of the MIPS machine, the output only grows, and a run that has ended stays in its
-/// state.
+/// In a run of the MIPS machine, the output only grows, and a run that has ended stays in its state.
 pub fn worlds_are_lawful()
     ensures { IsLawful world_machine }
 {}
 
-/// Words that represent labelled code behave as the code does, whatever the addresses of its lines
-/// are.
+/// Words that represent labelled code behave as the code does, whatever the addresses of its lines are.
 pub fn texts_run()
     ensures { (code : Labelled) (addresses : ℕ → ℕ) (words : List ℕ) → IsTextOf code addresses words → Runs code addresses words }
 {}

@@ -85,8 +85,7 @@ fn passes_at(lines: &[Line], named: &[bool], from: usize, number: usize) -> bool
     !named[number] && passes_line(&lines[from], &lines[number])
 }
 
-/// Returns true if the instruction of line `from` may be moved past the next `count` lines, to which
-/// no line jumps.
+/// Returns true if the instruction of line `from` may be moved past the next `count` lines, to which no line jumps.
 fn passes_all(lines: &[Line], named: &[bool], from: usize, count: usize) -> bool
     requires within { from + count < length lines.now }
     requires named { AreNamed lines.now (length lines.now) named.now }

@@ -12,8 +12,7 @@ use cyc_select::{Code, Line};
 use cyc_words::Fault;
 use std::alloc::{AllocError, Global};
 
-/// Returns the number of lines past which an instruction is moved to fill the delay slot of line `number`, or 0 if
-/// none is moved.
+/// Returns the number of lines past which an instruction is moved to fill the delay slot of line `number`, or 0 if none is moved.
 fn passed(lines: &[Line], named: &[bool], number: usize) -> usize
     requires within { number < length lines.now }
     requires named { AreNamed lines.now (length lines.now) named.now }
@@ -30,8 +29,7 @@ fn passed(lines: &[Line], named: &[bool], number: usize) -> usize
     0
 }
 
-/// Moves an instruction's number past the next `count` numbers in the list, to just before line
-/// `number`.
+/// Moves an instruction's number past the next `count` numbers in the list, to just before line `number`.
 fn sink_number(numbers: &mut [usize], number: usize, count: usize) {
     for left in 0..count {
         let following = number.saturating_sub(count - left);
@@ -63,8 +61,7 @@ fn number_at(numbers: &[usize], number: usize) -> usize {
     numbers.get(number).copied().unwrap_or(0)
 }
 
-/// Appends, for each word of line `number` in the new order, which is reachable, the number of its
-/// source line.
+/// Appends, for each word of line `number` in the new order, which is reachable, the number of its source line.
 fn push_sources(
     sources: &mut Vec<usize>,
     numbers: &[usize],

@@ -128,8 +128,7 @@ fn goes_on(line: &Line) -> bool
     }
 }
 
-/// Returns true if line `number` is unreachable, computed from the reachability of the line before
-/// it.
+/// Returns true if line `number` is unreachable, computed from the reachability of the line before it.
 #[inline]
 pub(crate) fn is_unreached_after(
     unreached: bool,

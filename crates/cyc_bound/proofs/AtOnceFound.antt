@@ -25,8 +25,7 @@ use Rattle.cyc_bound.specs.inside.Reached.{AreReached}
 
 -- ---- lists
 
--- says that the greater of the cost found so far and the cost of the items from index i on is the cost of all
--- items
+-- says that the greater of the cost found so far and the cost of the items from index i on is the cost of all items
 abbrev pub ItemsLeft : Measure → (costs : List ℕ) → List ItemCode → (i most : ℕ) → Type 0
 ItemsLeft m costs js i most = (min too_many (max most (items_at_once m costs (items_of (drop i js)))) ≡ min too_many (items_at_once m costs (items_of js))) × (most ≤ too_many)
 
@@ -43,8 +42,7 @@ module _ (m : Measure) (costs : List ℕ) where
       ap (λ (x : Stmt). statement_at_once m costs (view_statement x)) is ∙ ap (λ (s : Statement). statement_at_once m costs s) (view_block r v)
       ∙ ap (λ (js : List ItemCode). items_at_once m costs (items_of js)) (sym same)
 
-  -- the cost of clauses with a default clause is the greater of the cost of the other clauses and
-  -- the cost of the default clause
+  -- the cost of clauses with a default clause is the greater of the cost of the other clauses and the cost of the default clause
   clauses_with : (cs : List Clause) (default : Clauses) → clauses_at_once m costs (clauses_of cs default) ≡ max (clauses_at_once m costs (clauses_of cs NoClauses)) (clauses_at_once m costs default)
   clauses_with [] default = omega arith
   clauses_with (c ∷ cs) default = omega (arith, clauses_with cs default)

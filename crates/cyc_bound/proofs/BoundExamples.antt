@@ -12,8 +12,7 @@ use Rattle.cyc_bound.proofs.WalkLemmas.{so_far_none, so_far_more, so_far_all}
 
 -- ---- callees of bodies
 
--- example `f(g(1)) + h()`: the arguments of a call come before its callee, and operands are in
--- order from left to right
+-- example `f(g(1)) + h()`: the arguments of a call come before its callee, and operands are in order from left to right
 operands_call : items_callees (items (return (two (call 1 (call 2 (Number 1 ∷ []) ∷ [])) operators.Add (call 3 [])) ∷ [])) ≡ 2 ∷ 1 ∷ 3 ∷ []
 operands_call = refl
 
@@ -22,8 +21,7 @@ operands_call = refl
 statements_call : items_callees (items (declare 0 (call 1 []) ∷ execute (print (call 2 [])) ∷ while (call 3 []) (Evaluate (call 4 [])) ∷ [])) ≡ 1 ∷ 2 ∷ 3 ∷ 4 ∷ []
 statements_call = refl
 
--- example `try f(); catch { case A: g(); default: throw B(h()); }`: callees in the body and in the
--- clauses
+-- example `try f(); catch { case A: g(); default: throw B(h()); }`: callees in the body and in the clauses
 clauses_call : items_callees (items (Execute (Try (Evaluate (call 1 [])) (Case 5 None 1 (items (execute (call 2 []) ∷ [])) (Default 2 (items (Execute (Throw 6 (Some (call 3 []))) ∷ []))))) ∷ [])) ≡ 1 ∷ 2 ∷ 3 ∷ []
 clauses_call = refl
 

@@ -16,8 +16,7 @@ module _ (program : Program) where
   following first last next count (Alone function) call = Before function next next 1 call (Alone next)
   following first last next count (Before f g l n here row) call = Before f g next (suc n) here (following g l next n row call)
 
-  -- the number of active calls is at most the number of functions in a chain of calls from `main` to
-  -- the newest call
+  -- the number of active calls is at most the number of functions in a chain of calls from `main` to the newest call
   pub row_of : (function : ℕ) (stack : List Entry) → Waits program function stack → (count : ℕ) × Row program program.main function count × (calls_in stack ≤ count)
   row_of function [] h = (1, subst (λ (f : ℕ). Row program program.main f 1) (sym h) (Alone program.main), omega arith)
   row_of function (Caller outer ∷ stack) (caller, call, h) =

@@ -44,8 +44,7 @@ module _ (program : Program) where
     pub calls_within : (pages calls : ℕ) → bound ≤ calls → (input : List ℕ) (count : ℕ) → is_within pages calls (run program input count) ≡ nat_le (demand (run program input count)) pages
     calls_within pages calls enough input count = within_in pages calls enough (run program input count) (run_in input count)
 
-    -- if two limits on active calls are both at least the bound, a run has the same steps under
-    -- both limits
+    -- if two limits on active calls are both at least the bound, a run has the same steps under both limits
     limited_alike : (pages calls more : ℕ) → bound ≤ calls → bound ≤ more → (count : ℕ) (s : State) → IsInSome program s → limited_steps program pages calls count s ≡ limited_steps program pages more count s
     limited_alike pages calls more enough also zero s h = refl
     limited_alike pages calls more enough also (suc count) s h =

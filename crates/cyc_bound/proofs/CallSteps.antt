@@ -1,5 +1,4 @@
--- Invariant of steps: the functions of the active calls form a chain in which each function calls
--- the next.
+-- Invariant of steps: the functions of the active calls form a chain in which each function calls the next.
 use Rattle.std.proofs.Common.{◌≡◌, ℕ, suc, Bool, true, false, List, [], ◌∷◌, ◌++◌, length, reverse, Option, Some, None, refl}
 use Rattle.std.specs.Prelude.{◌==◌, ◌*◌, ◌&&◌, nat_le, if◌then◌else◌, slice_get}
 use Rattle.cyc_words.proofs.Members.{all_append_parts}

@@ -25,8 +25,7 @@ use Rattle.cyc_bound.specs.Callees.{callee_of, expression_callees, initial_calle
 
 -- ---- lists
 
--- says that the list found so far, followed by the callees of the arguments from index i on, is the list
--- for all arguments
+-- says that the list found so far, followed by the callees of the arguments from index i on, is the list for all arguments
 abbrev pub ArgumentsLeft : List ConvertedCode → (i : ℕ) → (old found : List ℕ) → Type 0
 ArgumentsLeft cs i old found = found ++ arguments_callees (arguments_of (drop i cs)) ≡ old ++ arguments_callees (arguments_of cs)
 

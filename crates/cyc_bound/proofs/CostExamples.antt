@@ -1,5 +1,4 @@
--- Examples: the costs of small programs, computed by hand from the language's rules, and the steps of
--- their runs.
+-- Examples: the costs of small programs, computed by hand from the language's rules, and the steps of their runs.
 use Rattle.std.proofs.Common.{◌≡◌, ℕ, max, List, [], ◌∷◌, true, false, refl}
 use Rattle.std.specs.Prelude.{map}
 use Rattle.cyc_types.specs.declared.typed.Operator.TheVariants as operators
@@ -16,8 +15,7 @@ use Rattle.cyc_bound.specs.AtOnce.{items_at_once}
 use Rattle.cyc_bound.specs.Pages.{most_pages}
 use Rattle.cyc_bound.specs.Steps.{IsOver}
 
--- the cost of a run of a program, after the function costs were computed in the given number of
--- rounds
+-- the cost of a run of a program, after the function costs were computed in the given number of rounds
 abbrev cost_by : Program → (rounds : ℕ) → Measure → ℕ
 cost_by program rounds m = run_cost program m (costs_after program m rounds)
 
@@ -72,8 +70,7 @@ loop_pages = refl
 
 -- ---- blocks
 
--- example: two arrays of 600 words each. By the rule, the program needs two pages plus one for
--- the heap; the run needs two pages
+-- example: two arrays of 600 words each. By the rule, the program needs two pages plus one for the heap; the run needs two pages
 abbrev arrays : Program
 arrays = program (execute (array OnHeap fat (Number 600) (Number 0)) ∷ execute (array OnHeap fat (Number 600) (Number 0)) ∷ return (Number 0) ∷ [])
 
@@ -92,8 +89,7 @@ branches_ask = refl
 
 -- ---- lexical regions
 
--- The cost of a program's costliest outermost region; in this example, `main` calls each function
--- directly or indirectly.
+-- The cost of a program's costliest outermost region; in this example, `main` calls each function directly or indirectly.
 abbrev greatest : List ℕ → ℕ
 greatest [] = 0
 greatest (n ∷ ns) = max n (greatest ns)
@@ -120,8 +116,7 @@ in_a_region = block (DeclareRegion 2 0 ∷ made_by 0 ∷ made_by 0 ∷ [])
 abbrev region_each_turn : Program
 region_each_turn = program (while (Number 1) in_a_region ∷ return (Number 0) ∷ [])
 
--- example: no allocation outlasts the regions, and each iteration needs one page besides the heap's
--- page
+-- example: no allocation outlasts the regions, and each iteration needs one page besides the heap's page
 each_turn_gives_back : cost_by region_each_turn 1 measures.Lasting ≡ 0
 each_turn_gives_back = refl
 
@@ -135,8 +130,7 @@ each_turn_blocks = refl
 each_turn_asks : demand (run region_each_turn [] 20) ≡ 2
 each_turn_asks = refl
 
--- example: the value `heap_region`, followed by the loop of the example above; the heap's handle may
--- reach any `rnew`
+-- example: the value `heap_region`, followed by the loop of the example above; the heap's handle may reach any `rnew`
 abbrev heap_handle : Program
 heap_handle = program (execute HeapRegion ∷ while (Number 1) in_a_region ∷ return (Number 0) ∷ [])
 
@@ -167,8 +161,7 @@ opened_by_callee = program_with (function [] (DeclareRegion 2 0 ∷ made_by 0 �
 callee_pages : most_pages true (back_by opened_by_callee 2) ≡ 2
 callee_pages = refl
 
--- example: a function is called inside a region and opens another region, so both regions are open
--- at the same time
+-- example: a function is called inside a region and opens another region, so both regions are open at the same time
 abbrev called_in_region : Program
 called_in_region = program_with (function [] (DeclareRegion 2 0 ∷ made_by 0 ∷ return (Number 7) ∷ []) ∷ []) (while (Number 1) (block (DeclareRegion 2 0 ∷ execute (call 1 []) ∷ made_by 0 ∷ [])) ∷ return (Number 0) ∷ [])
 
@@ -192,8 +185,7 @@ loop_in_region = program (Execute (block (DeclareRegion 2 0 ∷ while (Number 1)
 loop_in_region_blocks : at_once_by loop_in_region 1 measures.RegionBlocks ≡ too_many
 loop_in_region_blocks = refl
 
--- example: a `try` inside a region; the blocks that its body allocated remain when a clause
--- allocates further blocks
+-- example: a `try` inside a region; the blocks that its body allocated remain when a clause allocates further blocks
 abbrev try_in_region : Program
 try_in_region = program (Execute (block (DeclareRegion 2 0 ∷ try_to (block (made_by 0 ∷ [])) (otherwise (made_by 0 ∷ [])) ∷ [])) ∷ return (Number 0) ∷ [])
 

@@ -1,5 +1,4 @@
--- Lemmas: lower bounds on the costs of a state's parts, and comparisons of stack costs by the facts known about the awaited
--- value.
+-- Lemmas: lower bounds on the costs of a state's parts, and comparisons of stack costs by the facts known about the awaited value.
 use Rattle.std.proofs.Common.{◌≡◌, ℕ, zero, suc, ◌+◌, ◌*◌, ◌-◌, ◌^◌, ◌<◌, ◌≤◌, min, Bool, true, false, List, [], ◌∷◌, length, Option, Some, None, refl, sym, ap, ◌∙◌, arith, mul-le-mul_right}
 use Rattle.std.specs.Prelude.{◌==◌, nat_le, if◌then◌else◌}
 use Rattle.std.proofs.lemmas.Bool.{leb-true, le-leb, lt-leb, eqb-true}
@@ -295,8 +294,7 @@ module _ (m : Measure) (costs : List ℕ) (no_more : IsNoMore m) where
   initial_no_more (Fields fields) = fields_no_more 0 0 fields
   initial_no_more (Array place level count kind element) = omega (arith, array_no_more kind (expression_cost m costs element) (written_length count))
 
--- says: if the value in focus is a handle of the heap, an allocation by a handle costs at least as much as one on
--- the heap
+-- says: if the value in focus is a handle of the heap, an allocation by a handle costs at least as much as one on the heap
 abbrev pub Fits : Measure → Focus → Type 0
 Fits m (Given v) = v.value ≡ Handle heap_number → IsNoMore m
 Fits m focus = Unit {0}
@@ -412,8 +410,7 @@ module _ (m : Measure) (costs : List ℕ) where
   nothing Anything stack less = nothing_of_any stack less
   nothing (OfKind k n) stack less = nothing_of_kind k n stack
 
-  -- the cost of a stack does not increase if more facts are known about the value passed to the
-  -- stack
+  -- the cost of a stack does not increase if more facts are known about the value passed to the stack
   pub known : (k : Kind) (n : Option ℕ) (stack : List Entry) → stack_cost m costs Anything stack < too_many → stack_cost m costs (OfKind k n) stack ≤ stack_cost m costs Anything stack
   known k n [] less = omega arith
   known k n (Needs (ConvertTo from to target) ∷ stack) less = omega arith

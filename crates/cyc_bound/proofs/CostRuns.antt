@@ -1,5 +1,4 @@
--- The costs of whole runs: a run ends after at most as many steps as its cost states, and uses at
--- most the resources that its cost states.
+-- The costs of whole runs: a run ends after at most as many steps as its cost states, and uses at most the resources that its cost states.
 use Rattle.std.proofs.Common.{◌≡◌, ℕ, zero, suc, ◌+◌, ◌*◌, ◌-◌, ◌<◌, ◌≤◌, min, Bool, true, false, List, [], ◌∷◌, length, Option, Some, None, refl, sym, subst, arith, suc-mul}
 use Rattle.std.specs.Prelude.{◌==◌, if◌then◌else◌, slice_get, map}
 use Rattle.cyc_words.proofs.Items.{get_or-map}
@@ -46,8 +45,7 @@ module _ (program : Program) (m : Measure) where
     pub start_costs : (input : List ℕ) → CostsAtMost m costs (run_cost program m costs) (start program input)
     start_costs input = start_called input (slice_get program.functions program.main) refl
 
-    -- a run uses at most its cost, by each measure other than steps, provided that each earlier
-    -- state satisfies `FitsIn`
+    -- a run uses at most its cost, by each measure other than steps, provided that each earlier state satisfies `FitsIn`
     pub run_costs : (input : List ℕ) → step_cost m ≡ 0 → (n : ℕ) → ((i : ℕ) → i < n → FitsIn m (run program input i)) → CostsAtMost m costs (run_cost program m costs) (run program input n)
     run_costs input free zero fits = start_costs input
     run_costs input free (suc n) fits =

@@ -61,8 +61,7 @@ module _ (program : Program) (m : Measure) (costs : List ℕ) (counted : World �
   either true s u first second = first
   either false s u first second = second
 
-  -- if each branch of a conditional satisfies the cost bound, the conditional does; each branch may
-  -- use the outcome of the test
+  -- if each branch of a conditional satisfies the cost bound, the conditional does; each branch may use the outcome of the test
   either_by : (b : Bool) (s u : State) → (b ≡ true → B s) → (b ≡ false → B u) → B (if b then s else u)
   either_by true s u first second = first refl
   either_by false s u first second = second refl

@@ -1,5 +1,4 @@
--- Lemmas about the resources used by a world: allocating an object and opening a region add their costs, and no other
--- change adds a cost.
+-- Lemmas about the resources used by a world: allocating an object and opening a region add their costs, and no other change adds a cost.
 use Rattle.std.proofs.Common.{◌≡◌, ℕ, zero, suc, ◌+◌, ◌≤◌, true, false, List, [], ◌∷◌, ◌++◌, set, reverse, Option, Some, None, refl, sym, ap, ◌∙◌, arith}
 use Rattle.std.specs.Prelude.{slice_get, ◌*◌}
 use Rattle.std.proofs.lemmas.Grind.{reverse_onto}

@@ -39,8 +39,7 @@ use Rattle.cyc_bound.specs.inside.ItemCosts.{operation_cost, clauses_then}
 
 -- ---- lists
 
--- says that the sum so far plus the cost of the arguments from index i on is the cost of all
--- arguments
+-- says that the sum so far plus the cost of the arguments from index i on is the cost of all arguments
 abbrev pub ArgumentsLeft : Measure → (costs : List ℕ) → List ConvertedCode → (i total : ℕ) → Type 0
 ArgumentsLeft m costs cs i total =
     (min too_many (total + arguments_cost m costs (arguments_of (drop i cs))) ≡ min too_many (arguments_cost m costs (arguments_of cs))) × (total ≤ too_many)
@@ -49,8 +48,7 @@ abbrev pub OperationsLeft : Measure → (costs : List ℕ) → List Operation �
 OperationsLeft m costs os i total =
     (min too_many (total + operations_cost m costs (operations_of (drop i os))) ≡ min too_many (operations_cost m costs (operations_of os))) × (total ≤ too_many)
 
--- says that the sum so far plus the cost of the fields from index i on is the cost of all
--- fields; the number of bytes stays small
+-- says that the sum so far plus the cost of the fields from index i on is the cost of all fields; the number of bytes stays small
 abbrev pub FieldsLeft : Measure → (costs : List ℕ) → Site → List ConvertedCode → (i total bytes : ℕ) → Type 0
 FieldsLeft m costs site cs i total bytes =
     (min too_many (total + fields_cost m costs site i bytes (arguments_of (drop i cs))) ≡ min too_many (fields_cost m costs site 0 0 (arguments_of cs))) × (bytes ≤ 16 * i)

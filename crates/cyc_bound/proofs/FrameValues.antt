@@ -1,5 +1,4 @@
--- A step that evaluates an lvalue or a value depends only on the newest stack entry; the older entries do
--- not change.
+-- A step that evaluates an lvalue or a value depends only on the newest stack entry; the older entries do not change.
 use Rattle.std.proofs.Common.{◌≡◌, ℕ, suc, Bool, true, false, List, [], ◌∷◌, ◌++◌, length, reverse, Option, Some, None, refl}
 use Rattle.std.specs.Prelude.{◌==◌, ◌*◌, ◌&&◌, nat_le, if◌then◌else◌, slice_get}
 use Rattle.cyc_types.specs.declared.typed.Kind.{Kind}

@@ -36,8 +36,7 @@ use Rattle.cyc_bound.proofs.OutermostRuns.{since, IsRegional, Facts, Split, Outs
 
 -- ---- regions
 
--- says that the measure `ones` counts the blocks at a site, and that `sums` counts the words of
--- these blocks
+-- says that the measure `ones` counts the blocks at a site, and that `sums` counts the words of these blocks
 pub record AreBlocks (ones sums : Measure) (site : Site) : Type 0 where
   pub one : (size : ℕ) → block_cost ones site size ≡ 1
   pub all : (size : ℕ) → block_cost sums site size ≡ size
@@ -61,8 +60,7 @@ pages_grow ones sums site are pages filled (size ∷ sizes) =
         let more = leb-false (filled + size) page_words is in
         (omega (arith, past.0, are.one size), (omega (arith, past.1.0, more, are.all size), omega (arith, past.1.1)))
 
--- says that the regions need one page each, plus at most the further pages for the blocks and words
--- that the two measures count
+-- says that the regions need one page each, plus at most the further pages for the blocks and words that the two measures count
 pub record RegionsAsk (ones sums : Measure) (site : Site) (regions : List Region) (pages : ℕ) : Type 0 where
   pub further : ℕ
   pub all : pages ≤ regions_spent measures.Openings site regions + further
@@ -315,8 +313,7 @@ module _ (program : Program) (cost : Measure → ℕ) where
         let spends = are_spent (run program input (suc n)) (uniques_spent (suc n)) in
         subst IsFew (sym last) (few_next (run program input n) (subst IsSpent last spends) (few_all n))
 
-    -- the pages that a state requests are at most the pages of its regions plus those of the unique
-    -- blocks
+    -- the pages that a state requests are at most the pages of its regions plus those of the unique blocks
     within_pages : (s : State) (regions : ℕ) → IsFew s → RegionsWithin regions s → demand s ≤ regions + unique_pages cost (suc greatest_class)
     within_pages (Running focus stack e w) regions h less = omega (arith, demand_split (counted w.regions) w.classes, less, total_few w.classes h)
     within_pages (Ended ending output input) regions h less = omega arith

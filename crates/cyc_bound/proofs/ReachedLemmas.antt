@@ -1,5 +1,4 @@
--- The search for the functions reachable from `main`: each function found is reachable, and the callees of each visited function are
--- found.
+-- The search for the functions reachable from `main`: each function found is reachable, and the callees of each visited function are found.
 use Rattle.std.proofs.Common.{◌≡◌, ℕ, suc, ◌+◌, ◌<◌, ◌≤◌, ◌⊎◌, Bool, List, [], ◌∷◌, ◌++◌, length, get_or, sym, ap, subst, ◌∙◌, inl, inr, arith}
 use Rattle.std.specs.Prelude.{slice_get, Contains}
 use Rattle.std.proofs.lemmas.Bool.{cases_lt}
@@ -13,8 +12,7 @@ use Rattle.cyc_bound.proofs.CallLemmas.{following}
 use Rattle.cyc_bound.proofs.WalkLemmas.{calls_at}
 
 module _ (program : Program) where
-  -- says that the search has visited the functions found before position `place`, with their
-  -- callees found
+  -- says that the search has visited the functions found before position `place`, with their callees found
   pub record IsWalked (marks : List Bool) (found : List ℕ) (place : ℕ) : Type 0 where
     pub marked : AreMarked marks found
     pub first : Contains found program.main
@@ -110,8 +108,7 @@ module _ (program : Program) where
     ];
   }
 
-  -- if the search has visited all functions found, the functions found are exactly the reachable
-  -- ones
+  -- if the search has visited all functions found, the functions found are exactly the reachable ones
   pub walk_ends : (marks : List Bool) (found : List ℕ) (place : ℕ) → IsWalked marks found place → length found ≤ place → AreReached program found
   walk_ends marks found place w whole = (λ f count row. from program.main f count row w.first, w.led)
     where

@@ -1,5 +1,4 @@
--- Rounds raise the costs of functions. The costs stay below all sufficient costs, and after n rounds they cover at least n nested
--- calls.
+-- Rounds raise the costs of functions. The costs stay below all sufficient costs, and after n rounds they cover at least n nested calls.
 use Rattle.std.proofs.Common.{◌≡◌, ℕ, suc, ◌+◌, ◌<◌, ◌≤◌, max, List, length, get_or, sym, ap, subst, ◌∙◌, inl, inr, arith}
 use Rattle.std.proofs.lemmas.Bool.{cases_eq, cases_lt}
 use Rattle.std.proofs.lemmas.List.{length-set, get_or-set_same, get_or-set_other, set_past}

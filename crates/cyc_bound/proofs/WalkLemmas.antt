@@ -1,5 +1,4 @@
--- Lemmas for the search over calls: paths and cycles, chains of calls that are joined, and heights
--- of functions.
+-- Lemmas for the search over calls: paths and cycles, chains of calls that are joined, and heights of functions.
 use Rattle.std.proofs.Common.{◌≡◌, ℕ, zero, suc, ◌+◌, ◌<◌, ◌≤◌, max, List, [], ◌∷◌, ◌++◌, length, get_or, set, drop, subst, sym, ap, ◌∙◌, inl, inr, arith}
 use Rattle.std.specs.Prelude.{slice_get, Contains}
 use Rattle.std.proofs.lemmas.Bool.{cases_eq, cases_lt}
@@ -103,8 +102,7 @@ module _ (program : Program) where
         subst (λ (n : ℕ). 0 < n → IsHeight program g n × (n ≤ most_calls)) there (are g) above
   ]
 
-  -- if a callee has a chain of calls longer than the limit allows, so does the function that calls
-  -- it
+  -- if a callee has a chain of calls longer than the limit allows, so does the function that calls it
   pub deep_through : (f : ℕ) (callees : List ℕ) (i callee count before : ℕ) → callees ≡ callees_of (slice_get program.functions f) → i < length callees → callee ≡ get_or callees i callee
       → Row program program.main f before → 1 ≤ before → IsHeight program callee count → most_calls ≤ count → (last n : ℕ) × Row program program.main last n × (most_calls < n)
   deep_through f callees i callee count before are less at row some is many =

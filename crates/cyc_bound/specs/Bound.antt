@@ -44,8 +44,7 @@ LeadTo program [] callee = Unit {0}
 LeadTo program (f ∷ []) callee = Calls program f callee
 LeadTo program (f ∷ g ∷ functions) callee = Calls program f g × LeadTo program (g ∷ functions) callee
 
--- says that each function of a list calls the next, that the last function calls the first, and that
--- the first is reachable from `main`
+-- says that each function of a list calls the next, that the last function calls the first, and that the first is reachable from `main`
 abbrev pub IsCycle : Program → List ℕ → Type 0
 IsCycle program [] = ⊥
 IsCycle program (f ∷ functions) = LeadTo program (f ∷ functions) f × ((count : ℕ) × Row program program.main f count)

@@ -41,8 +41,7 @@ abbrev pub lasting_cost : Measure → ℕ
 lasting_cost measures.Lasting = 1
 lasting_cost m = 0
 
--- the cost of a block of `size` words, by its allocation site: on the heap, by a handle, or as a
--- unique object
+-- the cost of a block of `size` words, by its allocation site: on the heap, by a handle, or as a unique object
 abbrev pub block_cost : Measure → Site → (size : ℕ) → ℕ
 block_cost measures.Blocks sites.Heap size = 1
 block_cost measures.Blocks sites.Region size = 1
@@ -149,8 +148,7 @@ abbrev mutual
   initial_cost m costs site (Array p l n k a) =
       expression_cost m costs n + array_cost m site k (expression_cost m costs a) (written_length n)
 
-  -- the cost of the remaining fields of a struct, after `count` fields with the given number of
-  -- bytes
+  -- the cost of the remaining fields of a struct, after `count` fields with the given number of bytes
   pub fields_cost : Measure → (costs : List ℕ) → Site → (count bytes : ℕ) → Arguments → ℕ
   fields_cost m costs site count bytes NoArguments = fields_made_cost m site count bytes
   fields_cost m costs site count bytes (MoreArguments (Convert from to a) cs) =
@@ -260,8 +258,7 @@ IsRunCost program m cost = (costs : List ℕ) × AreCosts program m costs × (co
 
 -- ---- costs without a bound
 
--- the costs of functions after the given number of rounds; calls nested more deeply than that
--- number cost nothing
+-- the costs of functions after the given number of rounds; calls nested more deeply than that number cost nothing
 abbrev pub costs_after : Program → Measure → (rounds : ℕ) → List ℕ
 costs_after program m zero = []
 costs_after program m (suc rounds) = next_costs program m (costs_after program m rounds)

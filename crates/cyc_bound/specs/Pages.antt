@@ -43,8 +43,7 @@ IsCost program true measures.RegionBlocks cost = IsAtOnce program measures.Regio
 IsCost program true measures.RegionWords cost = IsAtOnce program measures.RegionWords cost
 IsCost program gives_back m cost = IsRunCost program m cost
 
--- says that `cost` gives the cost for each measure, and that all these costs are below the greatest
--- counted value
+-- says that `cost` gives the cost for each measure, and that all these costs are below the greatest counted value
 abbrev pub AreCounted : Program → (gives_back : Bool) → (cost : Measure → ℕ) → Type 0
 AreCounted program gives_back cost =
     GivesBack program gives_back × ((m : Measure) → IsForPages gives_back m → IsCost program gives_back m (cost m) × (cost m < too_many))

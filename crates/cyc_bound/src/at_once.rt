@@ -1,5 +1,4 @@
-//! The cost of lexical regions that are open at the same time, computed as the cost of a program's costliest
-//! outermost region.
+//! The cost of lexical regions that are open at the same time, computed as the cost of a program's costliest outermost region.
 ghost use Rattle.std.specs.Prelude.{◌≡◌, false, min, slice_get, IfOk};
 ghost use Rattle.cyc_types.specs.TypedTrees.{NoClauses};
 ghost use Rattle.cyc_types.specs.TypedTreeView.{view_statement, view_item, view_program, items_of, clauses_of, default_of};
@@ -72,8 +71,7 @@ fn item_at_once(measure: Measure, costs: &[u64], item: &Item) -> u64
     }
 }
 
-/// Returns the cost of the costliest outermost region of a block's items; a region is open to the end of
-/// its block.
+/// Returns the cost of the costliest outermost region of a block's items; a region is open to the end of its block.
 #[cycle(at_once)]
 fn items_at_once(measure: Measure, costs: &[u64], items: &[Item]) -> u64
     ensures { result ≡ min too_many (items_at_once measure costs.now (items_of items.now)) }
@@ -111,8 +109,7 @@ fn default_at_once(measure: Measure, costs: &[u64], default: &Option<Body>) -> u
     }
 }
 
-/// Returns the cost of the costliest outermost region of a function, or 0 if the function does not
-/// exist.
+/// Returns the cost of the costliest outermost region of a function, or 0 if the function does not exist.
 fn function_at_once(measure: Measure, costs: &[u64], tree: &TypedTree, function: usize) -> u64
     ensures { result ≡ min too_many (at_once_of measure costs.now (slice_get (view_program tree.now).functions function)) }
 {

@@ -1,8 +1,6 @@
-//! Computes the bound on calls by a search from `main` over the reachable functions; each function
-//! is visited once.
+//! Computes the bound on calls by a search from `main` over the reachable functions; each function is visited once.
 //!
-//! The search recurses for each call on the path to a function, so its depth is at most the greatest reported
-//! bound.
+//! The search recurses for each call on the path to a function, so its depth is at most the greatest reported bound.
 ghost use Rattle.std.specs.Prelude.{◌≡◌, ◌+◌, ◌<◌, ◌≤◌, get_or, set, length, vec_len, slice_get, IfOk, IfSome};
 ghost use Rattle.cyc_types.specs.TypedTreeView.{view_program};
 ghost use Rattle.cyc_bound.specs.Bound.{Row, LeadTo, most_calls, IsAnswer};
@@ -104,8 +102,7 @@ fn bound_from(
     Ok(CallBound::Calls { count: height })
 }
 
-/// Returns a bound on the active calls in any run of a program, for all inputs. Only the functions that are reachable from
-/// `main` count.
+/// Returns a bound on the active calls in any run of a program, for all inputs. Only the functions that are reachable from `main` count.
 pub fn bound_of_calls(alloc: Global, tree: &TypedTree) -> Result<CallBound, AllocError>
     ensures { IfOk result (λ bound. IsAnswer (view_program tree.now) tree.now.main bound) }
 {

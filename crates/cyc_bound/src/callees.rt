@@ -1,5 +1,4 @@
-//! Finds the functions that a typed tree calls, by a traversal that adds the callees to a list in
-//! the order of the text.
+//! Finds the functions that a typed tree calls, by a traversal that adds the callees to a list in the order of the text.
 ghost use Rattle.std.specs.Prelude.{◌≡◌, ◌++◌, option_map, slice_get, OnOk, IfOk};
 ghost use Rattle.cyc_types.specs.TypedTrees.{NoClauses};
 ghost use Rattle.cyc_types.specs.TypedTreeView.{view_expression, view_dereference, view_placement, view_initial, view_converted, view_side};

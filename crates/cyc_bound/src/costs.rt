@@ -18,8 +18,7 @@ pub enum Measure {
     Blocks,
     /// Counts the words of the blocks allocated in regions, including the heap.
     Words,
-    /// Two measures count the blocks that `new` allocates on the heap, and the words of these
-    /// blocks.
+    /// Two measures count the blocks that `new` allocates on the heap, and the words of these blocks.
     HeapBlocks,
     HeapWords,
     /// Two measures count the blocks allocated by handles, and the words of these blocks.
@@ -27,8 +26,7 @@ pub enum Measure {
     RegionWords,
     /// Counts the unique blocks of this size class.
     Uniques { class: u32 },
-    /// Counts the things that may outlast every lexical region: handles of the heap used as values, and
-    /// dynamic regions.
+    /// Counts the things that may outlast every lexical region: handles of the heap used as values, and dynamic regions.
     Lasting,
 }
 
@@ -122,8 +120,7 @@ pub(crate) fn known_cost(costs: &[u64], function: usize) -> u64
     }
 }
 
-/// Returns the cost of the items of a catch clause, with the local that receives the exception's
-/// int.
+/// Returns the cost of the items of a catch clause, with the local that receives the exception's int.
 pub(crate) fn caught_cost(measure: Measure, number: Option<usize>, items: u64) -> u64
     ensures { result ≡ min too_many (caught_cost measure number items) }
 {
@@ -143,8 +140,7 @@ fn size_of(class: u32) -> u128
     1 << class
 }
 
-/// Returns the size class of a block: the exponent of the least power of two that is at least the
-/// block's size in words.
+/// Returns the size class of a block: the exponent of the least power of two that is at least the block's size in words.
 fn class_of(size: u128) -> u32
     ensures { result ≡ class_of size }
 {

@@ -1,5 +1,4 @@
-//! Computes the costs of a program's functions: the least costs that suffice for the function
-//! bodies, found in rounds.
+//! Computes the costs of a program's functions: the least costs that suffice for the function bodies, found in rounds.
 //!
 //! A round visits functions after their callees, so one round suffices if the program has no cycle of calls. If something is counted
 //! on a cycle of calls, each round raises the costs; the search ends after a few rounds.
@@ -43,8 +42,7 @@ fn add_in_order(
 
 /// Returns the functions of a program, most of them after their callees.
 ///
-/// The order of the functions determines how fast the costs settle, but not their values, so
-/// `order_of` has no contract.
+/// The order of the functions determines how fast the costs settle, but not their values, so `order_of` has no contract.
 pub(crate) fn order_of(alloc: Global, tree: &TypedTree) -> Result<Vec<usize>, AllocError> {
     let mut was_there = Vec::new(alloc);
     was_there.resize(tree.functions.len(), false)?;
@@ -75,8 +73,7 @@ fn raise(tree: &TypedTree, measure: Measure, costs: &mut Vec<u64>, function: usi
     }
 }
 
-/// Raises the cost of each function once: first in the given order, and then in the order of the
-/// functions' numbers.
+/// Raises the cost of each function once: first in the given order, and then in the order of the functions' numbers.
 fn raise_all(tree: &TypedTree, measure: Measure, order: &[usize], costs: &mut Vec<u64>)
     requires { vec_len costs.old ≡ vec_len tree.now.functions }
     ensures { AreRaised (view_program tree.now) measure costs.old.items costs.new.items }
@@ -122,8 +119,7 @@ pub(crate) fn costs_of(
     Ok(None)
 }
 
-/// Sets the cost of each function whose cost is below that of its body to the greatest counted
-/// value.
+/// Sets the cost of each function whose cost is below that of its body to the greatest counted value.
 fn give_up_all(tree: &TypedTree, measure: Measure, costs: &mut Vec<u64>) {
     for function in 0..tree.functions.len() {
         let next = next_cost(tree, measure, costs, function);

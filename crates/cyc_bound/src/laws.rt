@@ -1,5 +1,4 @@
-//! Laws of the bounds. Each function in this file has an empty body, and its contract states one law, which is proved with the
-//! crate.
+//! Laws of the bounds. Each function in this file has an empty body, and its contract states one law, which is proved with the crate.
 
 ghost use Rattle.std.specs.Prelude.{◌≡◌, ℕ, ◌<◌, ◌≤◌, Bool, List, nat_le};
 ghost use Rattle.cyc_types.specs.TypedTrees.{Program};

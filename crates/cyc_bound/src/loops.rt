@@ -166,8 +166,7 @@ fn statement_inside(
     }
 }
 
-/// Returns the first loop that costs something among the items of a block; a region is open to the end
-/// of its block.
+/// Returns the first loop that costs something among the items of a block; a region is open to the end of its block.
 fn loop_to_end(
     alloc: Global,
     tree: &TypedTree,
@@ -252,8 +251,7 @@ fn default_inside(
     }
 }
 
-/// Returns the first loop inside a region that costs something by the given measure, in the functions reachable from
-/// `main`.
+/// Returns the first loop inside a region that costs something by the given measure, in the functions reachable from `main`.
 fn first_loop_inside(
     alloc: Global,
     tree: &TypedTree,
@@ -283,8 +281,7 @@ pub fn loop_of_steps(alloc: Global, tree: &TypedTree) -> Result<Option<Span>, Al
     first_loop(alloc, tree, &order, Measure::Steps)
 }
 
-/// Returns the source position of a loop that prevents a bound on the pages of regions, if there is
-/// one.
+/// Returns the source position of a loop that prevents a bound on the pages of regions, if there is one.
 fn loop_of_regions(
     alloc: Global,
     tree: &TypedTree,

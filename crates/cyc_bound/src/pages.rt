@@ -1,6 +1,5 @@
-//! Computes the bound on pages from the costs of runs. The counted costs are the number and words of the blocks in regions, and the
-//! number of unique blocks of each size class. If lexical regions free everything allocated in them, only regions open at the same
-//! time count.
+//! Computes the bound on pages from the costs of runs. The counted costs are the number and words of the blocks in regions, and the number
+//! of unique blocks of each size class. If lexical regions free everything allocated in them, only regions open at the same time count.
 ghost use Rattle.std.specs.Prelude.{◌≡◌, ◌<◌, ◌≤◌, true, false, IfOk};
 ghost use Rattle.cyc_words.specs.Demand.{blocks_in_page, pages_for};
 ghost use Rattle.cyc_types.specs.TypedTreeView.{view_program};
@@ -33,8 +32,7 @@ pub enum PageBound {
 /// The number of size classes of unique blocks.
 const CLASSES: u32 = 11;
 
-/// Returns the number of pages of regions besides the first page of each, from the total numbers of
-/// blocks and words.
+/// Returns the number of pages of regions besides the first page of each, from the total numbers of blocks and words.
 fn further_pages(blocks: u64, words: u64) -> u64
     requires { words < too_many }
     ensures { result ≡ further_pages blocks words }
@@ -94,8 +92,7 @@ pub(crate) fn gives_back(
     }
 }
 
-/// Returns the number of pages of regions if no region is freed, or the reason why there is no
-/// bound.
+/// Returns the number of pages of regions if no region is freed, or the reason why there is no bound.
 fn pages_of_all(alloc: Global, tree: &TypedTree, order: &[usize]) -> Result<PageBound, AllocError>
     ensures { IfOk result (λ bound. IsRegionAnswer (view_program tree.now) false bound) }
 {
@@ -115,8 +112,7 @@ fn pages_of_all(alloc: Global, tree: &TypedTree, order: &[usize]) -> Result<Page
     Ok(PageBound::Pages { count })
 }
 
-/// Returns the number of pages of the heap and of the lexical regions open at the same time, or the reason why no
-/// bound exists.
+/// Returns the number of pages of the heap and of the lexical regions open at the same time, or the reason why no bound exists.
 fn pages_at_once(alloc: Global, tree: &TypedTree, order: &[usize]) -> Result<PageBound, AllocError>
     ensures { IfOk result (λ bound. IsRegionAnswer (view_program tree.now) true bound) }
 {
@@ -148,8 +144,7 @@ fn pages_at_once(alloc: Global, tree: &TypedTree, order: &[usize]) -> Result<Pag
     Ok(PageBound::Pages { count })
 }
 
-/// Returns the number of pages of all regions, including the heap, or the reason why there is no
-/// bound.
+/// Returns the number of pages of all regions, including the heap, or the reason why there is no bound.
 fn region_pages(
     alloc: Global,
     tree: &TypedTree,

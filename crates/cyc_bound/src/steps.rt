@@ -21,8 +21,7 @@ pub enum StepBound {
     Cycle,
 }
 
-/// Returns the cost of a run by the given measure, or `None` if the cost still grows after the last
-/// round.
+/// Returns the cost of a run by the given measure, or `None` if the cost still grows after the last round.
 pub(crate) fn run_cost(
     alloc: Global,
     tree: &TypedTree,
@@ -40,8 +39,7 @@ pub(crate) fn run_cost(
 
 /// Returns a bound on the steps of any run of a program, for all inputs.
 ///
-/// Each loop and each cycle of calls costs something, and so prevents a bound on steps. If memory
-/// runs out, `steps_of` returns an error.
+/// Each loop and each cycle of calls costs something, and so prevents a bound on steps. If memory runs out, `steps_of` returns an error.
 pub fn steps_of(alloc: Global, tree: &TypedTree) -> Result<StepBound, AllocError>
     ensures { IfOk result (λ bound. IsStepAnswer (view_program tree.now) bound) }
 {

@@ -1,5 +1,4 @@
-//! Computes the cost of a typed tree: a traversal adds up the costs of its parts, from the costs of
-//! functions.
+//! Computes the cost of a typed tree: a traversal adds up the costs of its parts, from the costs of functions.
 ghost use Rattle.std.specs.Prelude.{◌≡◌, ◌≤◌, min, option_map};
 ghost use Rattle.cyc_types.specs.TypedTreeView.{view_expression, view_dereference, view_placement, view_initial, view_converted, view_side};
 ghost use Rattle.cyc_types.specs.TypedTreeView.{view_statement, view_item, view_function, arguments_of, operations_of, items_of, default_of};
@@ -362,8 +361,7 @@ fn default_cost(measure: Measure, costs: &[u64], default: &Option<Body>) -> u64
     }
 }
 
-/// Returns the cost of a call of a function, from the opening of the function's region on. The costs of its
-/// callees are given.
+/// Returns the cost of a call of a function, from the opening of the function's region on. The costs of its callees are given.
 pub(crate) fn function_cost(measure: Measure, costs: &[u64], function: &Function) -> u64
     ensures { result ≡ min too_many (function_cost measure costs.now (view_function function.now)) }
 {

@@ -1,4 +1,5 @@
--- Values that fit the parameters of a signature: the places that the walk over both has noted, and its result.
+-- Values that fit the parameters of a signature: the regions that the traversal of parameters and values has
+-- recorded, and the traversal's result.
 use Rattle.std.proofs.Common.{◌≡◌, ℕ, zero, suc, ◌+◌, ◌<◌, ◌≤◌, true, false, ◌&&◌, nat_eq, not, List, [], ◌∷◌, ◌++◌, length, map, drop, get_or, slice_get, slice_set, replicate, Option, Some, None, Ok, refl, sym, ap, subst, ◌∙◌}
 use Rattle.std.specs.List.{list_any}
 use Rattle.std.proofs.lemmas.Bool.{and_from, eq-eqb, or_from}
@@ -65,7 +66,7 @@ noted_stays : (table : Table) (ps : Places) (n : ℕ) (s : Region) → slice_get
 noted_stays table [] n s h = h
 noted_stays table (p ∷ ps) n s h = noted_stays (noted_place table p) ps n s (stays_one table p n s h)
 
--- a region variable keeps its region once the region is noted
+-- Once a region is recorded for a region variable, the variable keeps it.
 found_later : (table : Table) (n : ℕ) (s : Region) → slice_get table n ≡ Some (Some s) → (later : Places) → substituted_region (instance_later table later) (Variable n) ≡ s
 found_later table n s h later = instance_at (noted_places table later) n (Some s) (Variable n) (noted_stays table later n s h)
 
@@ -74,7 +75,7 @@ found_later table n s h later = instance_at (noted_places table later) n (Some s
 usual_variable : (n : ℕ) (s : Region) → region_eq s Unique ≡ false → is_unique_for_variable (Variable n, s) ≡ false
 usual_variable n s h = h
 
--- a variable with a known region
+-- Says how a region occurs at a variable whose region is already known: the known region stays in the table.
 pub stands_known : (table : Table) (n : ℕ) (s known : Region) → slice_get table n ≡ Some (Some known) → region_eq s Unique ≡ false → Stands table table (Variable n) s known
 stands_known table n s known h other = record {
   noted = sym (ap (λ o. noted_at o n s table) h);
@@ -82,7 +83,7 @@ stands_known table n s known h other = record {
   usual = usual_variable n s other;
 }
 
--- the first place of a variable
+-- At the first occurrence of a region variable, the region found there is recorded for the variable.
 pub first_stands : (table : Table) (n : ℕ) (s : Region) → slice_get table n ≡ Some None → region_eq s Unique ≡ false → Stands table (slice_set table n (Some s)) (Variable n) s s
 first_stands table n s h other = record {
   noted = sym (ap (λ o. noted_at o n s table) h);
@@ -90,7 +91,7 @@ first_stands table n s h other = record {
   usual = usual_variable n s other;
 }
 
--- a fitting region still fits if other places are noted after it
+-- If a region fits a parameter's region, it still fits after regions at further occurrences are recorded.
 alike_after : {a b c : Table} {r s : Region} (ps : Places) → FitsRegion a b r s → c ≡ noted_places b ps → (later : Places) → region_eq s (substituted_region (instance_later c later) r) ≡ true
 alike_after {b = b} {r = r} {s = s} ps one is_c later =
     subst (λ t. region_eq s (substituted_region (instance_in t) r) ≡ true) (noted_append b ps later ∙ ap (λ t. noted_places t later) (sym is_c)) (one.alike (ps ++ later))
@@ -202,20 +203,20 @@ module _ (c : RegionContext) where
 
 -- ---- loops
 
--- the regions from this index on
+-- If the region at an index fits, and the regions after the index fit, then all regions from the index on fit.
 pub fits_from : {a b c : Table} (rs ss : List Region) (i : ℕ) (d e : Region) → i < length rs → i < length ss
     → FitsRegion a b (get_or rs i d) (get_or ss i e) → FitsRegions b c (drop (i + 1) rs) (drop (i + 1) ss) → FitsRegions a c (drop i rs) (drop i ss)
 fits_from {a} {b} {c} rs ss i d e lt_r lt_s one more =
     subst (λ xs. FitsRegions a c xs (drop i ss)) (sym (drop_more rs i d lt_r))
     (subst (λ xs. FitsRegions a c (get_or rs i d ∷ drop (i + 1) rs) xs) (sym (drop_more ss i e lt_s)) (fits_more one more))
 
--- no regions from this index on
+-- If no regions are left from an index on, then the remaining regions fit.
 pub fits_past : (table : Table) (rs ss : List Region) (i : ℕ) → length rs ≤ i → length ss ≤ i → FitsRegions table table (drop i rs) (drop i ss)
 fits_past table rs ss i le_r le_s =
     subst (λ xs. FitsRegions table table xs (drop i ss)) (sym (drop_all i rs le_r)) (subst (λ xs. FitsRegions table table [] xs) (sym (drop_all i ss le_s)) (fits_none table))
 
 module _ (c : RegionContext) where
-  -- the values from this index on
+  -- If the value at an index fits its parameter, and the later values fit theirs, then all values from the index on fit.
   pub fits_values_from : {old mid new : Table} (ts : List TyCode) (vs : List ConvertedCode) (i : ℕ) (t : TyCode) (v : ConvertedCode)
       → i < length ts → t ≡ get_or ts i t → i < length vs → v ≡ get_or vs i v
       → FitsValue c old mid (view_ty t) (type_of (value_in v)) → FitsValues c mid new (map view_ty (drop (i + 1) ts)) (map value_in (drop (i + 1) vs))
@@ -224,7 +225,7 @@ module _ (c : RegionContext) where
       subst (λ xs. FitsValues c old new (map view_ty xs) (map value_in (drop i vs))) (sym (drop_read ts i t lt_t is_t))
       (subst (λ xs. FitsValues c old new (map view_ty (t ∷ drop (i + 1) ts)) (map value_in xs)) (sym (drop_read vs i v lt_v is_v)) (fits_more_values c one more))
 
-  -- no regions from this index on
+  -- If no values and no parameters are left from an index on, then the remaining values fit.
   pub fits_values_past : (table : Table) (ts : List TyCode) (vs : List ConvertedCode) (i : ℕ) → length ts ≤ i → length vs ≤ i
       → FitsValues c table table (map view_ty (drop i ts)) (map value_in (drop i vs))
   fits_values_past table ts vs i le_t le_v =
@@ -233,11 +234,11 @@ module _ (c : RegionContext) where
 
 -- ---- calls
 
--- the regions of the region variables
+-- If the values of a call fit, the recorded table gives the regions of the signature's region variables.
 pub fitting_instance : (c : RegionContext) (s : Signature) (as' : List typed.Expression) (table : Table) → FitsCall c s as' table → instance_in table ≡ instance_of s as'
 fitting_instance c s as' table fits = ap instance_in fits.noted ∙ instance_found s.variables (paired_arguments s.parameters as')
 
--- fitting values leave only the demands on regions
+-- If the values of a call fit, then the only requirements of the call left to check are those on regions.
 pub fitting_settled : (g : Scope) (p : Place) (es : Expressions) (as' : List typed.Expression) (s : Signature) (old new : Table) → FitsValues g.regions old new s.parameters as'
     → settled None (call_demanded g p es as' s (instantiated (instance_in new) s)) ≡ settled None (regions_demanded g p (instance_in new) s)
 fitting_settled g p es as' s old new fits =
@@ -248,14 +249,14 @@ fitting_settled g p es as' s old new fits =
     ∙ settled_append None passed (varied ++ rest) ∙ ap (λ o. settled o (varied ++ rest)) (kept_settled None passed (fits.passed [] es))
     ∙ settled_append None varied rest ∙ ap (λ o. settled o rest) (kept_settled None varied (fits.varied es))
 
--- a call with fitting values is well typed if the demands on regions hold
+-- If the values of a call fit and the requirements on regions hold, then the call is well typed.
 pub fitting_run : (g : Scope) (p : Place) (es : Expressions) (as' : List typed.Expression) (s : Signature) (table : Table) → FitsCall g.regions s as' table
     → unless (settled None (regions_demanded g p (instance_in table) s)) (instance_in table) ≡ run (instance_wanted g p es as' s)
 fitting_run g p es as' s table fits =
     ap (λ o. unless o (instance_in table)) (sym (fitting_settled g p es as' s (Some Heap ∷ replicate s.variables None) table fits))
     ∙ ap (λ (m : List Region). unless (settled None (call_demanded g p es as' s (instantiated m s))) m) (fitting_instance g.regions s as' table fits)
 
--- a result is returned because there is no fault
+-- If a function that may return a fault returns a result, then there is no fault.
 pub given_kept : {A : Type 0} (known : Option Fault) (a b : A) → unless known a ≡ Ok b → known ≡ None
 given_kept None a b h = refl
 given_kept (Some f) a b h = absurd (ok_is_no_err b f (sym h))

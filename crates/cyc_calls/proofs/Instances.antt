@@ -1,4 +1,4 @@
--- The table of first places yields the regions that the rules define for the variables of a signature.
+-- The table of first occurrences yields the regions that the rules define for the region variables of a signature.
 use Rattle.std.proofs.Common.{◌≡◌, ℕ, zero, suc, ◌+◌, ◌-◌, ◌<◌, ◌≤◌, Bool, true, false, cond, if◌then◌else◌, List, [], ◌∷◌, ◌++◌, map, replicate, drop, take, length, append-nil, get_or, slice_get, slice_index_or, unwrap_or, Option, Some, None, refl, sym, ap, ◌∙◌, arith}
 use Rattle.std.specs.List.{list_any, refill}
 use Rattle.std.proofs.lemmas.Bool.{eq-eqb}
@@ -24,7 +24,7 @@ pub noted_append : (table : List (Option Region)) (ps qs : List (Region × Regio
 noted_append table [] qs = refl
 noted_append table (p ∷ ps) qs = noted_append (noted_place table p) ps qs
 
--- noting places does not change the length of a table
+-- Recording a region at an occurrence of a variable does not change the length of the table.
 noted_at_length : (known : Option (Option Region)) (n : ℕ) (r : Region) (table : List (Option Region)) → length (noted_at known n r table) ≡ length table
 noted_at_length None n r table = refl
 noted_at_length (Some (Some s)) n r table = refl
@@ -36,7 +36,7 @@ noted_length table ((Variable n, r) ∷ ps) = noted_length (noted_at (slice_get 
 noted_length table ((Heap, r) ∷ ps) = noted_length table ps
 noted_length table ((Unique, r) ∷ ps) = noted_length table ps
 
--- refilling a noted table from the original one does not change it
+-- Refilling a recorded table from the original one does not change the recorded table.
 pub noted_whole : (table : List (Option Region)) (ps : List (Region × Region)) → refill (length table) table (noted_places table ps) ≡ noted_places table ps
 noted_whole table ps =
     let long : length (noted_places table ps) ≡ length table = noted_length table ps in
@@ -44,13 +44,13 @@ noted_whole table ps =
     ∙ ap (take (length table)) (append-nil (noted_places table ps))
     ∙ take_all (length table) (noted_places table ps) (omega (arith, long))
 
--- the region of a table at the number of a variable
+-- The region that a table gives for a variable is the table's entry at the variable's number, or the heap.
 pub instance_at : (table : List (Option Region)) (n : ℕ) (o : Option Region) (d : Region) → slice_get table n ≡ Some o → slice_index_or (instance_in table) n d ≡ unwrap_or o Heap
 instance_at [] n o d h = absurd (cc)
 instance_at (x ∷ xs) zero o d h = ap (λ y. unwrap_or y Heap) (same_Some x o h)
 instance_at (x ∷ xs) (suc n) o d h = instance_at xs n o d h
 
--- some of the remaining variables without a place are added
+-- Appending some of the remaining variables without a recorded region extends the table by empty entries.
 pub unplaced_more : (count left next : ℕ) (old new : List (Option Region)) → next ≤ 64 → next ≤ left → left ≤ count
     → old ≡ replicate (count - left) None → new ≡ old ++ take next (replicate 64 None) → new ≡ replicate (count - (left - next)) None
 unplaced_more count left next old new few within most filled added =
@@ -64,7 +64,7 @@ none_paired : (rs : List Region) → all_paired rs [] ≡ []
 none_paired [] = refl
 none_paired (r ∷ rs) = refl
 
--- no regions remain from this index on
+-- If no regions remain from an index on, then there are no pairs of regions left.
 pub paired_past : (rs ss : List Region) (i : ℕ) → length ss ≤ i → all_paired (drop i rs) (drop i ss) ≡ []
 paired_past rs ss i le = ap (all_paired (drop i rs)) (drop_all i ss le) ∙ none_paired (drop i rs)
 
@@ -73,7 +73,7 @@ none_given [] = refl
 none_given (t ∷ ts) = refl
 
 module _ (ts : List TyCode) (cs : List ConvertedCode) (i : ℕ) where
-  -- no values remain from this index on
+  -- If no values remain from an index on, then there are no pairs of parameter and argument regions left.
   pub given_past : length cs ≤ i → paired_arguments (map view_ty (drop i ts)) (map value_in (drop i cs)) ≡ []
   given_past le = ap (λ xs. paired_arguments (map view_ty (drop i ts)) (map value_in xs)) (drop_all i cs le) ∙ none_given (map view_ty (drop i ts))
 
@@ -119,7 +119,7 @@ no_unique_heap (Struct n rs) = refl
 
 -- ---- the table from the variable with this number on
 
--- the first place of a variable, if it has one
+-- Returns the region at the first occurrence of a variable, if the variable occurs.
 abbrev found : List (Region × Region) → ℕ → Option Region
 found [] n = None
 found (p ∷ ps) n = if region_eq p.0 (Variable n) then Some p.1 else found ps n
@@ -172,7 +172,7 @@ noted_one-not : (o : Option Region) (n : ℕ) (r s : Region) → region_eq r (Va
 noted_one-not (Some q) n r s h = refl
 noted_one-not None n r s h = ap (λ b. cond b (Some s) None) h
 
--- a variable with a smaller number than every given variable
+-- If a variable's number is smaller than the number of every variable in the table, then recording its region changes nothing.
 noted_from-not : (table : List (Option Region)) (n : ℕ) (r s : Region) → ((k : ℕ) → n ≤ k → region_eq r (Variable k) ≡ false) → noted_from table n (r, s) ≡ table
 noted_from-not [] n r s h = refl
 noted_from-not (o ∷ os) n r s h =
@@ -188,7 +188,7 @@ above_is_another m k l = grind (arith, nat_tests)
 same_variable : (m k : ℕ) → m ≡ k → region_eq (Variable m) (Variable k) ≡ true
 same_variable m k e = eq-eqb m k e
 
--- the table contains the region at the first place of a variable under its number
+-- The table contains, under the number of a variable, the region at the variable's first occurrence.
 noted_from-at : (table : List (Option Region)) (n m : ℕ) (s : Region) → noted_from table n (Variable (n + m), s) ≡ noted_at (slice_get table m) m s table
 noted_from-at [] n m s = refl
 noted_from-at (o ∷ os) n zero s =
@@ -238,14 +238,14 @@ noted_place-swap table p q h =
     noted_from-place (noted_place table p) q ∙ ap (λ t. noted_from t 0 q) (noted_from-place table p) ∙ noted_from-swap table 0 p q h
     ∙ sym (noted_from-place (noted_place table q) p ∙ ap (λ t. noted_from t 0 p) (noted_from-place table q))
 
--- two places of one variable agree if both agree with these regions
+-- If two occurrences of one variable both agree with the regions of the table, then their regions are equal.
 stand_alike : (m : List Region) (p q : Region × Region) (k : ℕ) → region_eq p.1 (substituted_region m p.0) ≡ true → region_eq q.1 (substituted_region m q.0) ≡ true
     → region_eq p.0 (Variable k) ≡ true → region_eq q.0 (Variable k) ≡ true → p.1 ≡ q.1
 stand_alike m p q k h i f g =
     region_eq-true p.1 (substituted_region m p.0) h ∙ ap (substituted_region m) (region_eq-true p.0 (Variable k) f ∙ sym (region_eq-true q.0 (Variable k) g))
     ∙ sym (region_eq-true q.1 (substituted_region m q.0) i)
 
--- a place may be noted before or after the other places
+-- The region at one occurrence may be recorded before or after the regions at the other occurrences.
 pub noted_before : (m : List Region) (table : List (Option Region)) (p : Region × Region) (ps : List (Region × Region)) → region_eq p.1 (substituted_region m p.0) ≡ true → AllStand m ps
     → noted_places (noted_place table p) ps ≡ noted_place (noted_places table ps) p
 noted_before m table p [] h all = refl
@@ -260,6 +260,6 @@ unplaced : (k n : ℕ) (ps : List (Region × Region)) → map (λ o. unwrap_or o
 unplaced zero n ps = refl
 unplaced (suc k) n ps = ap (λ r. r ∷ map (λ o. unwrap_or o Heap) (filled (replicate k None) (suc n) ps)) (first_found ps n) ∙ ap (λ rs. first_place ps n ∷ rs) (unplaced k (suc n) ps)
 
--- the regions of the table
+-- The recorded table contains the heap, followed by the region at the first occurrence of each variable.
 pub instance_found : (k : ℕ) (ps : List (Region × Region)) → map (λ o. unwrap_or o Heap) (noted_places (Some Heap ∷ replicate k None) ps) ≡ Heap ∷ first_places ps k 1
 instance_found k ps = ap (map (λ o. unwrap_or o Heap)) (filled_places (Some Heap ∷ replicate k None) ps) ∙ ap (λ rs. Heap ∷ rs) (unplaced k 1 ps)

@@ -5,5 +5,5 @@ pub mod Instances
 pub mod FittedValues
 pub mod PassedValues
 pub mod PlainCalls
--- lemmas about new structs
+-- Lemmas about calls that construct new structs.
 pub mod NewStructs

@@ -1,4 +1,4 @@
--- A new struct, whose values are converted before the check that there is one for each field.
+-- The values of a new struct are converted before the check that there is one for each field.
 use Rattle.std.proofs.Common.{◌≡◌, true, nat_eq, List, [], ◌∷◌, ◌++◌, length, map, Option, None, sym, ap, ◌∙◌}
 use Rattle.std.proofs.lemmas.Bool.{eqb-true}
 use Rattle.std.proofs.lemmas.List.{length-map}

@@ -1,4 +1,4 @@
--- Passed values, in loops over expressions, values and types.
+-- Facts about passed values, in loops over expressions, values and types.
 use Rattle.std.proofs.Common.{◌≡◌, ℕ, zero, suc, not, ◌+◌, ◌≤◌, List, [], ◌∷◌, ◌++◌, length, map, take, drop, slice_get, option_map, Option, Some, None, Ok, refl, sym, ap, ◌∙◌, arith}
 use Rattle.std.specs.List.{list_any}
 use Rattle.std.proofs.lemmas.Bool.{eqb-true}
@@ -43,7 +43,7 @@ module _ (m : List Region) where
 
 -- ---- the demands on each value with an expression and a type
 
--- `many` gives for lists the demands that `one` gives for each triple of elements
+-- Says that `many` collects, for lists, the requirements that `one` states for each triple of elements.
 pub record Asks (one : Expression → typed.Expression → Ty → List Demand) (many : Expressions → List typed.Expression → List Ty → List Demand) : Type 0 where
   pub no_expressions : (as' : List typed.Expression) (ts : List Ty) → many NoExpressions as' ts ≡ []
   pub no_values : (es : Expressions) (ts : List Ty) → many es [] ts ≡ []
@@ -51,7 +51,7 @@ pub record Asks (one : Expression → typed.Expression → Ty → List Demand) (
   pub step : (e : Expression) (es : Expressions) (a : typed.Expression) (as' : List typed.Expression) (t : Ty) (ts : List Ty) → many (MoreExpressions e es) (a ∷ as') (t ∷ ts) ≡ one e a t ++ many es as' ts
 
 module _ (one : Expression → typed.Expression → Ty → List Demand) (many : Expressions → List typed.Expression → List Ty → List Demand) (asks : Asks one many) where
-  -- the demands on these expressions, values and types
+  -- Returns the requirements on lists of expressions, values and types.
   abbrev pub asked : List Expr → List ConvertedCode → List TyCode → List Demand
   asked es cs ts = many (expressions_of es) (map value_in cs) (map view_ty ts)
 
@@ -59,7 +59,7 @@ module _ (one : Expression → typed.Expression → Ty → List Demand) (many : 
   asked_no_type known es cs ts i le =
       ap (λ xs. settled known (asked (drop i es) (drop i cs) xs)) (drop_all i ts le) ∙ ap (settled known) (asks.no_types (expressions_of (drop i es)) (map value_in (drop i cs)))
 
--- the demand that one value can be converted
+-- Returns the requirement that one value can be converted to its type.
 abbrev pub one_passed : RegionContext → Expression → typed.Expression → Ty → List Demand
 one_passed c e a t = conversion c (type_of a) t (place_of e)
 
@@ -80,7 +80,7 @@ passes c = record {
     no_types (MoreExpressions e es) [] = refl
     no_types (MoreExpressions e es) (a ∷ as') = refl
 
--- the demand that no region variable is the region of unique pointers
+-- Returns the requirement that no region variable is instantiated to the region of unique pointers.
 abbrev pub one_variable : Expression → typed.Expression → Ty → List Demand
 one_variable e a t = demand codes.RegionOrKeyMisused (place_of e) (not (list_any is_unique_for_variable (paired_argument t (type_of a)))) ∷ []
 
@@ -103,7 +103,7 @@ varies = record {
 
 -- ---- the source and target types of each value
 
--- there are as many values as types
+-- If there are as many values as types, then all values get their types and are passed.
 pub passed_all : (cs : List ConvertedCode) (ts : List TyCode) → length (map value_in cs) ≡ length (map view_ty ts) → arguments_of (all_with_kinds cs ts) ≡ passed (map value_in cs) (map view_ty ts)
 passed_all [] ts h = refl
 passed_all (c ∷ cs) [] h = absurd (omega (arith, h))
@@ -129,14 +129,14 @@ set_more (c ∷ cs) (u ∷ ts) (suc i) t h =
 
 -- ---- calls
 
--- the argument value is converted to the parameter's type in each of the two calls
+-- Instantiating the regions of the parameter types does not change how the argument values are converted.
 passed_alike : (m : List Region) (as' : List typed.Expression) (ts : List Ty) → passed as' (map (substituted_ty m) ts) ≡ passed as' ts
 passed_alike m [] ts = refl
 passed_alike m (a ∷ as') [] = refl
 passed_alike m (a ∷ as') (t ∷ ts) =
     ap (λ k. typed.MoreArguments (typed.Convert (kind_of_value (type_of a)) k a) (passed as' (map (substituted_ty m) ts))) (kind_at m t) ∙ ap (typed.MoreArguments (converted a t)) (passed_alike m as' ts)
 
--- a call without a fault, given the regions of the variables of its signature
+-- A call without a fault is well typed, given the regions of the variables of its signature.
 pub called_well : (g : Scope) (f : Callee) (p : Place) (es : Expressions) (cs : List ConvertedCode) (s : SignatureCode) (m : List Region) (r : Option TyCode)
     → option_map view_ty r ≡ option_map (substituted_ty m) (option_map view_ty s.result)
     → settled None (call_demanded g p es (map value_in cs) (view_signature s) (instantiated m (view_signature s))) ≡ None

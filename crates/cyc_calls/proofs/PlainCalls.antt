@@ -1,4 +1,4 @@
--- Calls of plain signatures: the walk over the values checks all demands of the rules on them.
+-- Calls of plain signatures: the traversal of the values checks all requirements of the rules on them.
 use Rattle.std.proofs.Common.{◌≡◌, ℕ, zero, suc, ◌+◌, ◌<◌, ◌≤◌, true, false, ◌&&◌, not, nat_eq, List, [], ◌∷◌, ◌++◌, length, map, get_or, drop, slice_get, slice_set, replicate, unwrap_or, Option, Some, None, refl, sym, ap, subst, ◌∙◌, arith}
 use Rattle.std.specs.List.{list_any, list_all}
 use Rattle.std.proofs.lemmas.Bool.{and_from, or_from, or_left}
@@ -37,7 +37,8 @@ use Rattle.cyc_calls.proofs.FittedValues.{Table, first_stands, fits_none, fits_m
 
 -- ---- a table whose variables have no place yet
 
--- The variables from the first number up to the second have no place, all noted regions are live, and the table has this length.
+-- Says that the variables from `low` up to `high`, exclusive, have no recorded region. All recorded regions are live, and the
+-- table has the length `size`.
 record State (g : Scope) (size low high : ℕ) (table : Table) : Type 0 where
   vacant : (n : ℕ) → low ≤ n → n < high → slice_get table n ≡ Some None
   live : (n : ℕ) (s : Region) → slice_get table n ≡ Some (Some s) → is_live g s ≡ true
@@ -50,7 +51,7 @@ set_after (x ∷ xs) zero (suc m) o lt = refl
 set_after (x ∷ xs) (suc n) zero o lt = absurd (omega (arith, lt))
 set_after (x ∷ xs) (suc n) (suc m) o lt = set_after xs n m o (omega (arith, lt))
 
--- the noted regions after one more place is noted
+-- If all recorded regions are live and one more live region is recorded, then all recorded regions are still live.
 set_live : (g : Scope) (table : Table) (n m : ℕ) (r s : Region) → is_live g r ≡ true → ((t : Region) → slice_get table m ≡ Some (Some t) → is_live g t ≡ true)
     → slice_get (slice_set table n (Some r)) m ≡ Some (Some s) → is_live g s ≡ true
 set_live g [] n m r s alive old h = old s h
@@ -99,7 +100,7 @@ plain_struct {a} {b} {m} {n} {rs} {ss} same all = record {
   usual = all.usual;
 }
 
--- the target of a mark whose region is noted after it
+-- The target type of a pointer still fits after the region of the pointer is recorded.
 target_alike : {a b c : Table} {t u : Ty} (r s : Region) → FitsPlainly a b t u → c ≡ noted_place b (r, s) → (later : List (Region × Region)) → ty_eq u (substituted_ty (instance_later c later) t) ≡ true
 target_alike {b = b} {t = t} {u = u} r s target is later =
     subst (λ table. ty_eq u (substituted_ty (instance_later table later) t) ≡ true) (sym is) (target.alike ((r, s) ∷ later))
@@ -203,7 +204,7 @@ module _ (g : Scope) (size high : ℕ) where
 
   -- ---- values
 
-  -- the type of ints or chars
+  -- A value of type int or char fits a parameter of one of these types.
   number_fits : (table : Table) (t u : Ty) → paired t u ≡ [] → ((later : List (Region × Region)) (p : Place) → AllKept (conversion g.regions (Value u) (substituted_ty (instance_later table later) t) p))
       → FitsValue g.regions table table t (Value u)
   number_fits table t u none kept = record { noted = ap (noted_places table) (sym none); kept = kept; usual = ap (list_any is_unique_for_variable) none }
@@ -352,7 +353,7 @@ first_state g count heap = record {
     live zero s h = subst (λ t. is_live g t ≡ true) (same_Some Heap s (same_Some (Some Heap) (Some s) h)) heap
     live (suc n) s h = absurd (some_none s (nothing_there count n s h))
 
--- the demands on regions hold
+-- If a signature has no constraints and its effect is live, then the requirements on regions hold.
 regions_settled : (g : Scope) (p : Place) (m : List Region) (s : Signature) → s.constraints ≡ [] → list_all (λ r. is_live g r) (map (substituted_region m) s.effect) ≡ true
     → settled None (regions_demanded g p m s) ≡ None
 regions_settled g p m s none live =
@@ -371,14 +372,14 @@ taken_settled g p es as' s is =
 
 -- ---- loops
 
--- the values from this index on
+-- If the value at an index is accepted, and the later values are accepted, then all values from the index on are accepted.
 pub taken_from : (g : Scope) (ts : List TyCode) (vs : List ConvertedCode) (i : ℕ) (t : TyCode) (v : ConvertedCode) → i < length ts → t ≡ get_or ts i t → i < length vs → v ≡ get_or vs i v
     → TakesValue g (view_ty t) (type_of (value_in v)) → TakesAll g (map view_ty (drop (i + 1) ts)) (map value_in (drop (i + 1) vs)) → TakesAll g (map view_ty (drop i ts)) (map value_in (drop i vs))
 taken_from g ts vs i t v lt_t is_t lt_v is_v one rest =
     subst (λ xs. TakesAll g (map view_ty xs) (map value_in (drop i vs))) (sym (drop_read ts i t lt_t is_t))
     (subst (λ xs. TakesAll g (map view_ty (t ∷ drop (i + 1) ts)) (map value_in xs)) (sym (drop_read vs i v lt_v is_v)) (one, rest))
 
--- no values from this index on
+-- If no values and no parameters are left from an index on, then the remaining values are accepted.
 pub taken_past : (g : Scope) (ts : List TyCode) (vs : List ConvertedCode) (i : ℕ) → length ts ≤ i → length vs ≤ i → TakesAll g (map view_ty (drop i ts)) (map value_in (drop i vs))
 taken_past g ts vs i le_t le_v =
     subst (λ xs. TakesAll g (map view_ty xs) (map value_in (drop i vs))) (sym (drop_all i ts le_t)) (subst (λ xs. TakesAll g [] (map value_in xs)) (sym (drop_all i vs le_v)) tt)

@@ -1,7 +1,7 @@
--- the regions of region variables at a call
+-- Defines the regions that the region variables of a signature have at a call.
 pub mod Instances
 pub mod Fitting
--- the demands of a call, and the passed values
+-- Defines the requirements of the typing rules on a call, and the values that a call passes.
 pub mod Calls
 pub mod Passing
 pub mod Plain

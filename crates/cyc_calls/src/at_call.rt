@@ -1,4 +1,4 @@
-//! A signature at a call: each region variable is replaced by the region with its number in a table.
+//! A signature at a call: each region variable is replaced by the table's region with the variable's number.
 ghost use Rattle.std.specs.Prelude.{◌≡◌, option_map, IfOk};
 ghost use Rattle.cyc_types.specs.Types.{substituted_region, substituted_ty};
 ghost use Rattle.cyc_types.specs.TypeView.{view_ty};
@@ -10,7 +10,7 @@ use cyc_types::{Region, Signature, Ty};
 use smallvec::SmallVec;
 use std::alloc::{AllocError, Global};
 
-/// Returns the region of a table that replaces this one. A variable without a place becomes the heap.
+/// Returns the region that replaces a parameter's region at a call. A variable without a recorded region becomes the heap.
 pub(crate) fn region_at(table: &[Option<Region>], region: Region) -> Region
     ensures { result ≡ substituted_region (instance_in table.now) region }
 {
@@ -23,7 +23,7 @@ pub(crate) fn region_at(table: &[Option<Region>], region: Region) -> Region
     }
 }
 
-/// Returns the regions of a table.
+/// Returns the regions of a table; a variable without a recorded region has the heap.
 fn regions_in(alloc: Global, table: &[Option<Region>]) -> Result<SmallVec<Region, 5>, AllocError>
     ensures { IfOk result (λ all. all.items ≡ instance_in table.now) }
 {
@@ -34,7 +34,7 @@ fn regions_in(alloc: Global, table: &[Option<Region>]) -> Result<SmallVec<Region
     Ok(all)
 }
 
-/// Returns the whole signature at a call.
+/// Returns the whole signature as it is at a call, with its region variables replaced.
 pub(crate) fn signature_at(
     alloc: Global,
     table: &[Option<Region>],
@@ -46,7 +46,7 @@ pub(crate) fn signature_at(
     signature.instantiated(alloc, &regions)
 }
 
-/// Returns the type of the result at a call.
+/// Returns the type of the result of a call, with the region variables replaced.
 pub(crate) fn result_at(
     alloc: Global,
     table: &[Option<Region>],

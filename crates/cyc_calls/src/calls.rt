@@ -1,4 +1,4 @@
-//! Calls: the demands of a call, given the regions that the arguments determine, and its node.
+//! Calls: the typing rules' requirements on a call, given the regions that the arguments determine, and the call's tree node.
 ghost use Rattle.std.specs.Prelude.{◌≡◌, map, option_map, None, Ok, IfOk, IfSome};
 ghost use Rattle.std.specs.List.{list_all};
 ghost use Rattle.cyc_syntax.specs.inside.TreeView.{place_of_span, view_name, expressions_of};
@@ -33,7 +33,7 @@ use cyc_words::{Code, Span};
 use smallvec::SmallVec;
 use std::alloc::{AllocError, Global};
 
-/// Settles that constraints hold at this place, given the table of regions of the call.
+/// Checks that constraints hold at a source position, given the table of regions of the call.
 fn demand_constraints(
     so_far: &mut Settled,
     scope: &Scope<'_>,
@@ -50,7 +50,7 @@ fn demand_constraints(
     }
 }
 
-/// Returns true if an effect is live, given the table of regions of the call. Consecutive equal regions are looked up once.
+/// Returns true if all regions of an effect are live, given the table of regions of the call. Consecutive equal regions are looked up once.
 fn is_covered(scope: &Scope<'_>, table: &[Option<Region>], effect: &[Region]) -> bool
     ensures { result ≡ list_all (λ r. is_live scope.now r) (map (substituted_region (instance_in table.now)) effect.now) }
 {
@@ -74,7 +74,8 @@ fn is_covered(scope: &Scope<'_>, table: &[Option<Region>], effect: &[Region]) ->
     true
 }
 
-/// Settles that an effect is live at this place, given the table of regions of the call. Most effects are live and need no settling.
+/// Checks that all regions of an effect are live at a source position, given the table of regions of the call. Most effects are live
+/// and need no further check.
 #[tactic(auto, using(std::proofs::lemmas::List::drop_more, crate::proofs::Settling::covered_settled))]
 fn demand_effect(
     so_far: &mut Settled,
@@ -95,7 +96,8 @@ fn demand_effect(
     }
 }
 
-/// Settles the demands of a signature on regions at this place, given the table of the call: the constraints hold, and the effect is live.
+/// Checks a signature's requirements on regions at a source position, given the table of regions of the call: the constraints hold, and
+/// the effect is live.
 fn demand_regions(
     so_far: &mut Settled,
     scope: &Scope<'_>,
@@ -110,7 +112,7 @@ fn demand_regions(
     demand_effect(so_far, scope, table, span, &signature.effect);
 }
 
-/// Checks that a call is well typed if its values fit the parameters.
+/// Checks that a call is well typed, given that its values fit the parameters.
 fn fitting_call_wanted(
     scope: &Scope<'_>,
     table: &[Option<Region>],
@@ -125,8 +127,8 @@ fn fitting_call_wanted(
 }
 
 /// Checks that a call is well typed, given the table of regions of its signature and the signature `here` with these regions. The check
-/// demands as many arguments as parameters, and that each argument can be converted to its parameter's type. No region variable is the
-/// region of unique pointers. The constraints hold, and the effect is live.
+/// requires as many arguments as parameters, and that each argument can be converted to its parameter's type. No region variable may be
+/// the region of unique pointers. The constraints must hold, and the effect must be live.
 fn call_wanted(
     scope: &Scope<'_>,
     table: &[Option<Region>],
@@ -149,7 +151,7 @@ fn call_wanted(
     settled.end()
 }
 
-/// Returns the regions of the region variables of a signature at a call whose values fit its parameters.
+/// Returns the regions of a signature's region variables at a call whose values fit the signature's parameters.
 fn fitted(
     scope: &Scope<'_>,
     signature: &Signature,
@@ -164,7 +166,7 @@ fn fitted(
     Ok(Some(table))
 }
 
-/// Returns the regions of the region variables of a signature at a well-typed call.
+/// Returns the regions of a signature's region variables at a well-typed call.
 fn instance_wanted(
     scope: &Scope<'_>,
     span: Span,
@@ -217,7 +219,7 @@ fn call(
     )
 }
 
-/// Returns the call of a function with these parameters, with each value converted to the type at its index.
+/// Returns the node of a call whose function has the given parameters, with each value converted to the type at its index.
 #[inline(never)]
 pub(crate) fn call_with(
     alloc: Global,
@@ -235,7 +237,7 @@ pub(crate) fn call_with(
     call(alloc, span, callee, arguments, returned)
 }
 
-/// Returns the call of a function with this signature.
+/// Returns the node of a call of a function with the given signature.
 #[inline(never)]
 fn called_by(
     scope: &Scope<'_>,
@@ -261,7 +263,7 @@ fn called_by(
     )
 }
 
-/// Returns the call of a name with these values, which are the values of these expressions.
+/// Returns the node of a call of a name with the given values, which are the values of the given expressions.
 #[inline(never)]
 pub fn called(
     scope: &Scope<'_>,

@@ -1,4 +1,4 @@
-//! New structs from values for their fields.
+//! Builds new structs from values for their fields.
 ghost use Rattle.std.specs.Prelude.{◌≡◌, map, Ok, IfOk};
 ghost use Rattle.cyc_syntax.specs.inside.TreeView.{view_name, expressions_of};
 ghost use Rattle.cyc_types.specs.TypeView.{view_ty};
@@ -22,7 +22,7 @@ use smallvec::SmallVec;
 use std::alloc::{AllocError, Global};
 use std::rc::Rc;
 
-/// Returns the types of the fields of a struct with these arguments.
+/// Returns the types of the fields of a struct with the given region arguments.
 fn field_types(alloc: Global, arguments: &[Region], fields: &[Field]) -> Result<Vec<Ty>, AllocError>
     ensures { IfOk result (λ ts. map view_ty ts.items ≡ field_types arguments.now (map view_field fields.now)) }
 {
@@ -33,14 +33,14 @@ fn field_types(alloc: Global, arguments: &[Region], fields: &[Field]) -> Result<
     Ok(all)
 }
 
-/// Returns the fields of the struct with this name.
+/// Returns the fields of the struct with the given name.
 fn fields_known<'s>(scope: &'s Scope<'_>, name: Ident) -> &'s [Field]
     ensures { map view_field result.now ≡ fields_known scope.now (view_name name) }
 {
     scope.fields(scope.structs().number(name.name.number))
 }
 
-/// Returns the region arguments of a struct. Omitted region arguments are the heap.
+/// Returns the region arguments of a struct type; region arguments that are not written are the heap.
 fn arguments_written(
     scope: &Scope<'_>,
     name: Ident,
@@ -52,7 +52,7 @@ fn arguments_written(
     arguments_or(scope.alloc(), scope.names(), count, regions)
 }
 
-/// Returns the fields of an object, with each value converted to the type at its index.
+/// Returns the fields of a new struct, with each value converted to the type at its index.
 #[inline(never)]
 fn fields(alloc: Global, values: Vec<Converted>, types: &[Ty]) -> Result<Box<Initial>, Stop>
     ensures { Gives (λ b. view_initial b.value) result (Ok (nodes.Fields (arguments_of (all_with_kinds values.items types.now)))) }
@@ -62,7 +62,8 @@ fn fields(alloc: Global, values: Vec<Converted>, types: &[Ty]) -> Result<Box<Ini
     boxed_initial(alloc, Initial::Fields { values })
 }
 
-/// Settles the demands of a struct with these values for fields of these types. The values are the results of the given expressions.
+/// Checks the requirements on a struct whose values are given for fields of the given types. The values are the results of the given
+/// expressions.
 #[tactic(auto, using(crate::proofs::Settling::settled_further))]
 fn demand_fields(
     so_far: &mut Settled,
@@ -83,7 +84,7 @@ fn demand_fields(
     pass(so_far, scope, expressions, values, types);
 }
 
-/// Returns a struct with these values, which are the values of these expressions.
+/// Returns a new struct with the given values, which are the values of the given expressions.
 #[inline(never)]
 pub fn fields_made(
     scope: &Scope<'_>,

@@ -1,7 +1,6 @@
-//! The check that values fit the parameters of a signature.
-//! The check is one walk over the types of the parameters and of the values, which notes the regions of the region variables and compares.
-//! If there is no fault, the walk has checked all demands of the rules on the values. If there is a fault, a second check finds the first
-//! fault in the order of the rules.
+//! The check that values fit the parameters of a signature. The check is one traversal of the types of the parameters and of the values,
+//! which records the regions of the region variables and compares types. If there is no fault, the traversal has checked all requirements
+//! of the rules on the values. If there is a fault, a second check finds the first fault in the order of the rules.
 ghost use Rattle.std.specs.Prelude.{◌≡◌, map, IsTrue, IfSome};
 ghost use Rattle.cyc_types.specs.declared.region.Region.TheVariants.{Heap};
 ghost use Rattle.cyc_types.specs.Types as types;
@@ -17,8 +16,8 @@ use cyc_syntax::PointerKind;
 use cyc_types::typed::Converted;
 use cyc_types::{Region, Ty};
 
-/// Returns the region that replaces a region of a parameter type at the call. A variable has its noted region; if it has none, this region
-/// is noted. The function returns no result if a variable would be the region of unique pointers.
+/// Returns the region that replaces a region of a parameter type at the call. A variable has its recorded region; if it has none, the
+/// given region is recorded. The function returns no result if a variable would be the region of unique pointers.
 fn region_for(table: &mut [Option<Region>], wanted: Region, region: Region) -> Option<Region>
     ensures { IfSome result (λ known. Stands table.old table.new wanted region known) }
 {
@@ -47,7 +46,7 @@ fn fits_region(table: &mut [Option<Region>], wanted: Region, region: Region) -> 
     }
 }
 
-/// Returns true if the arguments of a struct type equal those of a parameter type at the call.
+/// Returns true if the region arguments of a struct type equal those of a parameter's type at the call.
 fn fits_regions(table: &mut [Option<Region>], wanted: &[Region], regions: &[Region]) -> bool
     ensures { IsTrue result → FitsRegions table.old table.new wanted.now regions.now }
 {
@@ -73,9 +72,9 @@ pub(crate) fn same_mark(a: PointerKind, b: PointerKind) -> bool
     }
 }
 
-/// Returns true if a type equals that of a parameter at the call in all parts. The region of a mark is noted before those of its target, so
-/// a pointer needs no frame of its own. In the order of the rules the mark's region comes after those of the target, which is equivalent if
-/// all regions fit.
+/// Returns true if a type equals a parameter's type at the call in all parts. The region of a pointer is recorded before those of its
+/// target, so the check of a pointer needs no stack frame of its own. In the order of the rules, the pointer's region comes after those of
+/// the target, which is equivalent if all regions fit.
 #[tactic(auto, using(crate::proofs::FittedValues::fits_handle, crate::proofs::FittedValues::fits_key))]
 fn fits_type(table: &mut [Option<Region>], wanted: &Ty, of_type: &Ty) -> bool
     ensures { IsTrue result → FitsType table.old table.new (view_ty wanted.now) (view_ty of_type.now) }
@@ -130,7 +129,7 @@ fn fits_type(table: &mut [Option<Region>], wanted: &Ty, of_type: &Ty) -> bool
     }
 }
 
-/// Returns true if the region of the outermost mark of a value outlives that of the parameter type.
+/// Returns true if the region of a value's outermost pointer outlives that of the parameter's type.
 fn fits_outermost(
     scope: &Scope<'_>,
     table: &mut [Option<Region>],
@@ -145,7 +144,7 @@ fn fits_outermost(
     }
 }
 
-/// Returns true if a value of this type can be converted to that of a parameter.
+/// Returns true if a value of the given type can be converted to the type of a parameter.
 fn fits_value_type(
     scope: &Scope<'_>,
     table: &mut [Option<Region>],
@@ -212,7 +211,7 @@ fn fits_value(
     }
 }
 
-/// Returns true if there are as many values as parameters, and each can be converted to the type at its index.
+/// Returns true if there are as many values as parameters, and each value can be converted to the type at its index.
 pub(crate) fn fits(
     scope: &Scope<'_>,
     table: &mut [Option<Region>],

@@ -16,7 +16,7 @@ use cyc_types::{Region, Signature, Ty};
 use smallvec::SmallVec;
 use std::alloc::{AllocError, Global};
 
-/// Notes the region at a place of a region of a parameter type.
+/// Records a region at an occurrence of a region in a parameter type.
 fn note(table: &mut [Option<Region>], variable: Region, region: Region)
     ensures { table.new ≡ noted_place table.old (variable, region) }
 {
@@ -28,7 +28,7 @@ fn note(table: &mut [Option<Region>], variable: Region, region: Region)
     }
 }
 
-/// Notes the regions at the places of the arguments of a struct type.
+/// Records the regions at the occurrences of the region arguments of a struct type.
 #[tactic(auto, using(crate::proofs::Instances::paired_past))]
 fn note_all(table: &mut [Option<Region>], variables: &[Region], regions: &[Region])
     ensures { table.new ≡ noted_places table.old (all_paired variables.now regions.now) }
@@ -41,7 +41,7 @@ fn note_all(table: &mut [Option<Region>], variables: &[Region], regions: &[Regio
     }
 }
 
-/// Notes the regions at the places of all regions of a parameter type.
+/// Records the regions at the occurrences of all regions of a parameter type.
 #[tactic(auto, using(crate::proofs::Instances::noted_append))]
 fn note_type(table: &mut [Option<Region>], parameter: &Ty, given: &Ty)
     ensures { table.new ≡ noted_places table.old (paired (view_ty parameter.now) (view_ty given.now)) }
@@ -81,7 +81,7 @@ fn note_type(table: &mut [Option<Region>], parameter: &Ty, given: &Ty)
     }
 }
 
-/// Notes the heap as the region of a handle, for the argument `heap_region`.
+/// Records the heap as the region of a handle, for the argument `heap_region`.
 fn note_heap_handle(table: &mut [Option<Region>], parameter: &Ty)
     ensures { table.new ≡ noted_places table.old (paired (view_ty parameter.now) (types.Handle regions.Heap)) }
 {
@@ -113,10 +113,10 @@ fn note_arguments(table: &mut [Option<Region>], parameters: &[Ty], values: &[Con
     }
 }
 
-/// Region variables without a place: a table is copied from them instead of being built one by one.
+/// Region variables without a recorded region: the code copies a table from this constant instead of building it one by one.
 const UNPLACED: [Option<Region>; 64] = [None; 64];
 
-/// Returns a table of this number of variables without places.
+/// Returns a table of `count` variables without recorded regions.
 fn unplaced(alloc: Global, count: usize) -> Result<SmallVec<Option<Region>, 5>, AllocError>
     ensures { IfOk result (λ table. table.items ≡ replicate count None) }
 {
@@ -130,7 +130,7 @@ fn unplaced(alloc: Global, count: usize) -> Result<SmallVec<Option<Region>, 5>, 
     Ok(table)
 }
 
-/// Returns a table of this number of variables without places, numbered from 1. Number 0 is not a variable.
+/// Returns a table of region variables without recorded regions, numbered from 1. Number 0 is not a variable.
 pub(crate) fn no_places(
     alloc: Global,
     variables: usize,
@@ -145,8 +145,8 @@ pub(crate) fn no_places(
     Ok(table)
 }
 
-/// Returns the regions of the region variables of a signature at a call with these arguments. The result is a table with the region at the
-/// first place of each variable.
+/// Returns the regions of the region variables of a signature at a call with the given arguments. The result is a table with the region at
+/// the first occurrence of each variable.
 #[tactic(auto, using(crate::proofs::Instances::instance_found, crate::proofs::Instances::noted_whole))]
 pub(crate) fn instance_of(
     alloc: Global,
@@ -221,7 +221,7 @@ fn has_unique_in(parameter: &Ty, given: &Ty) -> bool
     }
 }
 
-/// Returns true if the region of unique pointers is at a place of a region variable.
+/// Returns true if the region of unique pointers stands where a parameter's type has a region variable.
 #[tactic(auto, using(crate::proofs::Instances::no_unique_int, crate::proofs::Instances::no_unique_char, crate::proofs::Instances::no_unique_heap))]
 pub(crate) fn has_unique(parameter: &Ty, given: Given<'_>) -> bool
     ensures { result ≡ list_any is_unique_for_variable (paired_argument (view_ty parameter.now) (view_given given.entry)) }

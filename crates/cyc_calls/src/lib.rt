@@ -1,4 +1,5 @@
-//! The demands of calls and new structs on the passed values, and their nodes, after the values are checked.
+//! The typing rules' requirements that calls and new structs place on the passed values, and their tree
+//! nodes, built after the values are checked.
 #![tactic(auto)]
 
 pub use calls::called;

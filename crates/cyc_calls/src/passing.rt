@@ -1,4 +1,4 @@
-//! Passed values: to the parameters of a function, or to the fields of a new struct.
+//! Values that are passed to the parameters of a function, or to the fields of a new struct.
 ghost use Rattle.std.specs.Prelude.{◌≡◌, [], ◌∷◌, ◌++◌, nat_eq, length, map, slice_get, OnOk, IfErr};
 ghost use Rattle.cyc_words.specs.declared.fault.Code.TheVariants as codes;
 ghost use Rattle.cyc_syntax.specs.inside.TreeView.{place_of_span, expressions_of};
@@ -18,7 +18,7 @@ use cyc_types::typed::{Converted, Kind};
 use cyc_types::{Ty, typed};
 use cyc_words::{Code, Span};
 
-/// Appends a value. The types of the value's conversion are not known yet.
+/// Appends a value to the passed values. The types of the value's conversion are not known yet.
 #[inline(never)]
 pub fn push_value(values: &mut Vec<Converted>, value: Box<typed::Expr>) -> Result<(), Stop>
     ensures pushed { OnOk result (map value_in values.new.items ≡ map value_in values.old.items ++ view_boxed value ∷ []) }
@@ -32,7 +32,7 @@ pub fn push_value(values: &mut Vec<Converted>, value: Box<typed::Expr>) -> Resul
     Ok(())
 }
 
-/// Sets the source and target types of the conversion of a value.
+/// Sets the source and target types of a value's conversion.
 fn set_kinds(value: &mut Converted, wanted: &Ty)
     ensures { value.new ≡ with_kinds value.old wanted.now }
 {
@@ -40,7 +40,7 @@ fn set_kinds(value: &mut Converted, wanted: &Ty)
     value.to = kind_of(wanted);
 }
 
-/// Sets the types of the conversion of the value at an index, if there is one.
+/// Sets the source and target types of the conversion of the value at an index, if there is one.
 fn set_kinds_at(values: &mut Vec<Converted>, index: usize, wanted: &Ty)
     ensures { values.new.items ≡ with_kinds_at (slice_get values.old.items index) values.old.items index wanted.now }
 {
@@ -49,7 +49,7 @@ fn set_kinds_at(values: &mut Vec<Converted>, index: usize, wanted: &Ty)
     }
 }
 
-/// Sets the types of the conversion of each value for which there is a type.
+/// Sets the source and target types of the conversion of each value for which there is a type.
 pub(crate) fn set_all_kinds(values: &mut Vec<Converted>, types: &[Ty])
     ensures { values.new.items ≡ all_with_kinds values.old.items types.now }
 {
@@ -58,7 +58,7 @@ pub(crate) fn set_all_kinds(values: &mut Vec<Converted>, types: &[Ty])
     }
 }
 
-/// Settles that there are as many values as types, at this place.
+/// Checks that there are as many values as types, and records a fault at the given source position otherwise.
 pub(crate) fn demand_count(so_far: &mut Settled, span: Span, values: &[Converted], types: &[Ty])
     ensures { so_far.new.known ≡ noted so_far.old.known (demand codes.TypeMismatch (place_of_span span)
         (nat_eq (length (map value_in values.now)) (length (map view_ty types.now)))) }
@@ -66,7 +66,7 @@ pub(crate) fn demand_count(so_far: &mut Settled, span: Span, values: &[Converted
     so_far.demand(Code::TypeMismatch, span, values.len() == types.len());
 }
 
-/// Settles that each value can be converted to the type at its index. The values are the results of the given expressions.
+/// Checks that each value can be converted to the type at its index. The values are the results of the given expressions.
 pub(crate) fn pass(
     so_far: &mut Settled,
     scope: &Scope<'_>,
@@ -86,7 +86,7 @@ pub(crate) fn pass(
     }
 }
 
-/// Settles that no region variable of these types is the region of unique pointers.
+/// Checks that no region variable of the given types is the region of unique pointers.
 pub(crate) fn demand_variables(
     so_far: &mut Settled,
     expressions: &[Expr],

@@ -1,6 +1,5 @@
-//! Calls of plain signatures: each region of a parameter is a variable that occurs once.
-//! The regions of the values only have to be live, and nothing is noted. If this walk finds anything else, the call is settled as any
-//! other.
+//! Calls of plain signatures: each region of a parameter is a variable that occurs once. The regions of the values only have to be live,
+//! and no region is recorded. If the traversal finds anything else, the call is checked like a call of any other signature.
 ghost use Rattle.std.specs.Prelude.{◌≡◌, length, map, option_map, IsTrue, IfOk};
 ghost use Rattle.cyc_syntax.specs.inside.TreeView.{place_of_span, view_name, expressions_of};
 ghost use Rattle.cyc_types.specs.declared.region.Region.TheVariants.{Heap};
@@ -26,14 +25,14 @@ use cyc_types::{Region, Signature, Ty, typed};
 use cyc_words::Span;
 use std::alloc::AllocError;
 
-/// Returns true if a variable may have this region.
+/// Returns true if a region variable may have the given region.
 fn is_usual(scope: &Scope<'_>, region: Region) -> bool
     ensures { IsTrue result → IsUsual scope.now region }
 {
     !same_region(region, Region::Unique) && scope.is_live(region)
 }
 
-/// Returns true if variables may have these regions, as many as are wanted.
+/// Returns true if there are as many regions as wanted, and region variables may have all of them.
 fn are_usual(scope: &Scope<'_>, wanted: &[Region], regions: &[Region]) -> bool
     ensures { IsTrue result → (length regions.now ≡ length wanted.now) × AreUsual scope.now regions.now }
 {
@@ -93,7 +92,7 @@ fn is_alike(scope: &Scope<'_>, wanted: &Ty, of_type: &Ty) -> bool
     }
 }
 
-/// Returns true if a value of this type can be converted to that of a parameter.
+/// Returns true if a value of the given type can be converted to the type of a parameter.
 fn takes_type(scope: &Scope<'_>, wanted: &Ty, of_type: &Ty) -> bool
     ensures { IsTrue result → TakesType scope.now (view_ty wanted.now) (view_ty of_type.now) }
 {
@@ -140,7 +139,7 @@ fn takes_value(scope: &Scope<'_>, wanted: &Ty, value: Given<'_>) -> bool
     }
 }
 
-/// Returns true if there are as many values as parameters, and each can be converted to the type at its index.
+/// Returns true if there are as many values as parameters, and each value can be converted to the type at its index.
 fn takes_all(scope: &Scope<'_>, parameters: &[Ty], values: &[Converted]) -> bool
     ensures { IsTrue result → TakesAll scope.now (map view_ty parameters.now) (map value_in values.now) }
 {
@@ -156,7 +155,7 @@ fn takes_all(scope: &Scope<'_>, parameters: &[Ty], values: &[Converted]) -> bool
     true
 }
 
-/// Returns true if a call of this function, whose signature is plain, has no fault.
+/// Returns true if a call of a function whose signature is plain has no fault.
 pub(crate) fn is_taken(
     scope: &Scope<'_>,
     function: Ident,
@@ -181,7 +180,7 @@ fn shared(of_type: &Option<Ty>) -> Result<Option<Ty>, AllocError>
     }
 }
 
-/// Returns the call, without a fault, of a function whose signature is plain.
+/// Returns the node of a call without a fault, of a function whose signature is plain.
 #[inline(never)]
 pub(crate) fn taken(
     scope: &Scope<'_>,

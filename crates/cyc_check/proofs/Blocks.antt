@@ -34,8 +34,7 @@ pub record Walked (start now : Scope) (made : List ItemCode) (rest whole : Items
 pub walk_starts : (g : Scope) (whole : Items) → Walked g g [] whole whole
 walk_starts g whole = record { gives = onto_nothing view_item typed.MoreItems (run (rule_items g whole)); inside = inside_itself g; numbers = refl; regions = refl; taken = refl }
 
--- After an item is checked, its declarations come first in the scope, before those of the outer
--- scope.
+-- After an item is checked, its declarations come first in the scope, before those of the outer scope.
 inside_item : (n : Scope) (i : Item) (j : typed.Item) → Inside n (following_item n i j)
 inside_item n (Execute s) j = inside_after n s
 inside_item n (Local w x v) j = inside_local Ordinary x (declared_type j) n
@@ -73,8 +72,7 @@ taken_item n (Region r h (Some k)) j = refl
 taken_item n (Alias r w x y) j = refl
 taken_item n (DynamicRegion r k) j = refl
 
--- If the typed tree of an item is known, the rules for a list that begins with it depend only on
--- the remaining items.
+-- If the typed tree of an item is known, the rules for a list that begins with it depend only on the remaining items.
 by_item : (n : Scope) (i : Item) (rest : Items) (j : typed.Item) → run (rule_item n i) ≡ Ok j → run (rule_items n (MoreItems i rest)) ≡ and_then (run (rule_items (following_item n i j) rest)) (λ js. Ok (typed.MoreItems j js))
 by_item n i rest j h = ap (λ o. and_then o (λ k. and_then (run (rule_items (following_item n i k) rest)) (λ js. Ok (typed.MoreItems k js)))) h
 

@@ -29,8 +29,7 @@ abbrev put_after : typed.Clauses → typed.Clauses → typed.Clauses
 put_after (typed.Case n v r js cs) ds = typed.Case n v r js ds
 put_after cs ds = ds
 
--- Returns the result for a list of clauses from the parts of the first clause and the result for
--- the following clauses.
+-- Returns the result for a list of clauses from the parts of the first clause and the result for the following clauses.
 abbrev assembled : Checked ℕ → Checked typed.Items → Option ℕ → ℕ → Checked typed.Clauses → Checked typed.Clauses
 assembled a b v r rest = and_then a (λ n. and_then b (λ js. and_then rest (λ ds. Ok (typed.Case n v r js ds))))
 

@@ -1,5 +1,4 @@
--- If a scope is inside another one, its declarations come before the outer ones, so leaving it
--- removes them.
+-- If a scope is inside another one, its declarations come before the outer ones, so leaving it removes them.
 use Rattle.std.proofs.Common.{◌≡◌, ◌-◌, ◌≤◌, List, [], ◌∷◌, ◌++◌, length, drop, refl, sym, ap, subst, ◌∙◌, arith}
 use Rattle.std.proofs.lemmas.List.{append_assoc}
 use Rattle.cyc_words.proofs.Lists.{drop_to_last}

@@ -1,5 +1,4 @@
--- The result for a program is the result for its declarations, followed by the result for the
--- bodies of its functions.
+-- The result for a program is the result for its declarations, followed by the result for the bodies of its functions.
 use Rattle.std.proofs.Common.{◌≡◌, ℕ, List, Ok, ap, ◌∙◌}
 use Rattle.cyc_syntax.specs.Trees.{Declaration}
 use Rattle.cyc_types.specs.TypedTrees as typed

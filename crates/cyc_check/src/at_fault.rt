@@ -1,5 +1,4 @@
-//! Computes the scope and types at the fault of a rejected program, for the explanation of the
-//! fault.
+//! Computes the scope and types at the fault of a rejected program, for the explanation of the fault.
 ghost use Rattle.std.specs.Prelude.{◌≡◌, ◌⊎◌, map, IfSome};
 ghost use Rattle.cyc_words.specs.Fault.{memory_fault};
 ghost use Rattle.cyc_syntax.specs.inside.TreeView.{view_declaration};
@@ -81,8 +80,7 @@ fn kept(given: Given<'_>) -> Option<ValueType> {
     }
 }
 
-/// Returns the type of an expression, as a used value or as a peek, or `None` if the expression is
-/// rejected.
+/// Returns the type of an expression, as a used value or as a peek, or `None` if the expression is rejected.
 pub fn value_type(
     scope: &mut Scope<'_>,
     expression: &Expr,
@@ -99,8 +97,7 @@ pub fn value_type(
     }
 }
 
-/// Returns the type of the content of an assignable expression, or `None` if the expression is
-/// rejected.
+/// Returns the type of the content of an assignable expression, or `None` if the expression is rejected.
 pub fn place_type(scope: &mut Scope<'_>, expression: &Expr) -> Option<Ty> {
     match check_place(scope, expression, span_of(expression)) {
         Ok(found) => type_of_side(&found.side).share().ok(),

@@ -115,8 +115,7 @@ fn check_thrown(
     }
 }
 
-/// Returns the typed `throw` of an exception that the program declares, with a value exactly if the
-/// exception has an int.
+/// Returns the typed `throw` of an exception that the program declares, with a value exactly if the exception has an int.
 pub(crate) fn check_throw(
     scope: &mut Scope<'_>,
     span: Span,

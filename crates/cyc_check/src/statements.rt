@@ -208,8 +208,7 @@ fn check_clauses(scope: &mut Scope<'_>, clauses: &[Clause]) -> Result<Vec<typed:
     Ok(all)
 }
 
-/// Checks a clause that follows clauses for the exceptions with these names, and adds the name of
-/// its exception.
+/// Checks a clause that follows clauses for the exceptions with these names, and adds the name of its exception.
 #[cycle(statement)]
 fn check_clause(
     scope: &mut Scope<'_>,

@@ -20,8 +20,7 @@ use std::alloc::Global;
 /// then in the bodies in order. Of all faults of one construct, the one with the lowest code is returned. An allocation for any table
 /// or node may fail for lack of memory.
 pub fn check(alloc: Global, tree: &Tree) -> Result<TypedTree, Fault>
-    // If `check` accepts a program, the result is its typed tree; if it rejects a program, the
-    // result is its fault.
+    // If `check` accepts a program, the result is its typed tree; if it rejects a program, the result is its fault.
     ensures decides { Decides (IsTypedProgram tree.now.names (map view_declaration tree.now.declarations.items))
         (λ program typed. view_program typed ≡ program) (IsRefusedProgram tree.now.names (map view_declaration tree.now.declarations.items))
         (IsRefusedProgram tree.now.names (map view_declaration tree.now.declarations.items)) result }

@@ -173,8 +173,7 @@ fn number_if_given<'a>(
     }
 }
 
-/// Returns a file or a text that the command line names. The command-line parser requires each file, so the
-/// name exists.
+/// Returns a file or a text that the command line names. The command-line parser requires each file, so the name exists.
 fn file_of<'a>(
     command: &mut Command<'a>,
     matches: &ArgMatches<'a>,
@@ -238,8 +237,7 @@ fn caps_of<'a>(
     Ok(GivenLimits { pages, calls })
 }
 
-/// Returns true if the image should contain the program's own bounds: in this case no limit may be given by
-/// number.
+/// Returns true if the image should contain the program's own bounds: in this case no limit may be given by number.
 fn take_auto<'a>(
     command: &mut Command<'a>,
     matches: &ArgMatches<'a>,

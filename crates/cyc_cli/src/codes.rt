@@ -56,8 +56,7 @@ pub(crate) fn code_written(text: &str) -> Option<Code>
     None
 }
 
-/// Returns all fault codes and their meanings, one on each line, after a line that asks the user
-/// for a code.
+/// Returns all fault codes and their meanings, one on each line, after a line that asks the user for a code.
 pub(crate) fn list_of_codes(alloc: Global) -> Result<String, AllocError> {
     let mut list = String::from_str(alloc, "explain takes the number of a code, one of these:")?;
     for code in CODES {

@@ -14,8 +14,7 @@ fn piece(text: &[u8], n: usize) -> Option<&[u8]>
     text.split(|byte| *byte == b'\n').nth(n)
 }
 
-/// Returns line `line` of the text, counted from 1, without its line feed; returns an empty line if
-/// there is no such line.
+/// Returns line `line` of the text, counted from 1, without its line feed; returns an empty line if there is no such line.
 pub(crate) fn line_at(text: &[u8], line: u32) -> &[u8]
     ensures { result.now ≡ line_at text.now line }
 {
@@ -70,9 +69,8 @@ fn write_blank_bytes<W: fmt::Write>(bytes: &[u8], f: &mut fmt::Formatter<W>) -> 
     Ok(())
 }
 
-/// Returns true if the character with this number, beyond ASCII, is invisible, ends a line or changes the writing direction. The
-/// hidden characters are control characters, bidirectional marks and isolates, zero-width spaces and joiners, line separators, and
-/// tags.
+/// Returns true if the character with this number, beyond ASCII, is invisible, ends a line or changes the writing direction. The hidden
+/// characters are control characters, bidirectional marks and isolates, zero-width spaces and joiners, line separators, and tags.
 fn is_hidden(code: u32) -> bool
     ensures { result ≡ is_hidden code }
 {
@@ -230,8 +228,7 @@ fn dots(left_out: usize) -> &'static str
     if left_out == 0 { "" } else { "..." }
 }
 
-/// Returns the beginning of the part that is shown around the position `place`, in a line of `len`
-/// bytes.
+/// Returns the beginning of the part that is shown around the position `place`, in a line of `len` bytes.
 fn window_start(len: usize, place: usize) -> usize
     requires { place ≤ len }
     ensures before { result ≤ place }

@@ -256,8 +256,7 @@ any ~~ call ~~ any ~~ declare the function: int f(int n) { return n; }, or compi
 struct Place<'a> {
     /// The text before the position on its line.
     left: &'a [u8],
-    /// The text before the position without trailing white space, or the line above if only white space
-    /// precedes the position.
+    /// The text before the position without trailing white space, or the line above if only white space precedes the position.
     before: &'a [u8],
     /// The text from the position on.
     at: &'a [u8],
@@ -407,8 +406,7 @@ fn stands_before(place: Place<'_>, words: &str) -> bool {
     }
 }
 
-/// Returns the text before a position: the text `left` on the position's line or, if `left` is white space, the line
-/// above.
+/// Returns the text before a position: the text `left` on the position's line or, if `left` is white space, the line above.
 fn text_before<'a>(text: &'a [u8], line: u32, left: &'a [u8]) -> &'a [u8] {
     let left = left.trim_ascii_end();
     if left.is_empty() && line > 1 {
@@ -420,8 +418,7 @@ fn text_before<'a>(text: &'a [u8], line: u32, left: &'a [u8]) -> &'a [u8] {
 
 // ---- the tokens that could stand at a position
 
-/// Returns true if one of the tokens that could be at a position is one of the words, or begins with one of
-/// them.
+/// Returns true if one of the tokens that could be at a position is one of the words, or begins with one of them.
 fn is_expected(expected: &[u8], words: &str) -> bool {
     for word in words.split('~') {
         let is_found = match word.strip_suffix(" ..") {
@@ -437,8 +434,7 @@ fn is_expected(expected: &[u8], words: &str) -> bool {
 
 // ---- the table of habits
 
-/// Returns the lines of the habits, that is, of usual mistakes, that may cause a fault with this
-/// code.
+/// Returns the lines of the habits, that is, of usual mistakes, that may cause a fault with this code.
 fn habits_of(code: Code) -> &'static str {
     match code {
         Code::UnknownByte => UNKNOWN_BYTE,

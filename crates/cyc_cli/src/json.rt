@@ -83,8 +83,7 @@ fn truth_of(is_so: bool) -> &'static str
 
 // ---- members of an object
 
-/// A range of a text, in lines and in columns of bytes, counted from 1; the end of the range is
-/// after its last byte.
+/// A range of a text, in lines and in columns of bytes, counted from 1; the end of the range is after its last byte.
 #[derive(Clone, Copy)]
 pub struct Range {
     pub line: u32,

@@ -14,8 +14,7 @@ pub const DEFAULT_PAGES: u32 = 1024;
 /// The limit of calls for a run if no limits are given.
 pub const DEFAULT_CALLS: u32 = 4096;
 
-/// The limits on pages and calls as a command line gives them: each limit is in its range, or is
-/// omitted.
+/// The limits on pages and calls as a command line gives them: each limit is in its range, or is omitted.
 #[derive(Clone, Copy)]
 pub struct GivenLimits {
     pub(crate) pages: Option<u32>,

@@ -1,5 +1,4 @@
--- This file has facts about the program of a text: a bound on its weight, its properties beyond the typing rules, and
--- its soundness.
+-- This file has facts about the program of a text: a bound on its weight, its properties beyond the typing rules, and its soundness.
 use Rattle.std.proofs.Common.{ℕ, ◌≤◌, List, length, arith}
 use Rattle.std.proofs.lemmas.List.{length-map}
 use Rattle.cyc_syntax.specs.TokenRule.{max_tokens}
@@ -33,8 +32,7 @@ pub accepted_light : (text : List ℕ) (p : Program) → IsAcceptedText text p �
 accepted_light text p a =
     omega (arith, accepted_weight text p a, a.has_tokens.within.count)
 
--- The program of an accepted text has structs with few fields, and the numbers of its exceptions are 32-bit
--- words.
+-- The program of an accepted text has structs with few fields, and the numbers of its exceptions are 32-bit words.
 pub accepted_of_text : (text : List ℕ) (p : Program) → IsAcceptedText text p → IsOfTextProgram p
 accepted_of_text text p a =
     let words = text_constants text a.tokens a.has_tokens.rule a.has_tokens.within in

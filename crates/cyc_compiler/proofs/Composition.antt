@@ -69,8 +69,7 @@ module _ (p : Program) (lowered : PlainProgram) (code : Labelled) (addresses : â
       runs store calls input allowed.few_calls
       (follows-never_fails middle lines (lawful lowered pages calls) selected.before selected.own (plain.start lowered selected.base store input) (labelled.start code store calls input) second)
 
-  -- The words of the image that are executed before the first step of the source; below them, the
-  -- words executed in one step.
+  -- The words of the image that are executed before the first step of the source; below them, the words executed in one step.
   abbrev words_before : List â„•
   words_before = flat_map (own addresses) (selected.before ++ flat_map selected.own [])
 

@@ -20,8 +20,7 @@ its_form = record {
   segments = (record { address = refl; flags = refl; stored = refl }, record { address = refl; flags = refl; stored = refl; size = refl });
 }
 
--- By this example, n steps of the example image's program never take more than (n + 1) * 2
--- instructions.
+-- By this example, n steps of the example image's program never take more than (n + 1) * 2 instructions.
 its_text : text_words image ≡ 2
 its_text = refl
 

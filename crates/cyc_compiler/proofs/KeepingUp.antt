@@ -1,5 +1,4 @@
--- A compiled image keeps pace with its program: its number of instructions for n steps is bounded
--- by the numbers of its text.
+-- A compiled image keeps pace with its program: its number of instructions for n steps is bounded by the numbers of its text.
 use Rattle.std.proofs.Common.{ℕ, ◌+◌, ◌*◌, ◌<◌, ◌≤◌, List, length, arith}
 use Rattle.std.proofs.Math.Nat.{mul-le-mul_left}
 use Rattle.std.specs.List.{AllByRecursion}

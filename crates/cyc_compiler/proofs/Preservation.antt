@@ -1,5 +1,4 @@
--- This file proves full preservation from two runs: the program's limited run, and a run of the
--- machine.
+-- This file proves full preservation from two runs: the program's limited run, and a run of the machine.
 use Rattle.std.proofs.Common.{◌≡◌, ◌≢◌, ℕ, zero, suc, ◌+◌, ◌-◌, ◌*◌, ◌<◌, ◌≤◌, List, Option, Some, None, refl, sym, ap, subst, ◌∙◌, arith}
 use Rattle.std.specs.List.{AllByRecursion}
 use Rattle.cyc_words.specs.Ending.{Ending, Full}

@@ -1,5 +1,4 @@
--- A source program has a frame that is too large exactly if its plain program has one, function by
--- function.
+-- A source program has a frame that is too large exactly if its plain program has one, function by function.
 use Rattle.std.proofs.Common.{◌≡◌, ◌⊎◌, inl, inr, ℕ, zero, suc, ◌≤◌, ◌<◌, List, [], ◌∷◌, length, None, Some, refl, sym, ap, subst, ◌∙◌, arith, slice_get}
 use Rattle.std.specs.Prelude.{slice_index_or}
 use Rattle.cyc_words.specs.declared.fault.Fault.{Fault}
@@ -85,8 +84,7 @@ module _ (p : Program) (lowered : PlainProgram) (is : IsProgramOf p lowered) whe
         column = ap (λ x. x.column) l.fault ∙ sym (ap (λ s. s.column) made.name);
       }
 
-  -- If no frame of the source program is too large, then no frame of the plain program is too
-  -- large.
+  -- If no frame of the source program is too large, then no frame of the plain program is too large.
   pub small_below : IsSmallEnough p → HasSmallFrames lowered
   small_below small = λ k below.
       let (h, at, made) = source_at p.functions lowered.functions k is.functions below in

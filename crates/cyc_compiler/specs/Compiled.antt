@@ -8,8 +8,7 @@ use Rattle.cyc_meaning.specs.FrameCount.{frame_count}
 use Rattle.cyc_meaning.specs.Sizes.{max_functions, max_frame_words, HasTooMany}
 use Rattle.cyc_front.specs.Front.{IsAcceptedText, IsRefusedText, HasFault}
 
--- Says that a fault is `FrameTooLarge` at the first function whose frame may need more words than
--- the maximum.
+-- Says that a fault is `FrameTooLarge` at the first function whose frame may need more words than the maximum.
 pub record HasLargeFrame (p : Program) (f : Fault) : Type 0 where
   pub number : ℕ
   pub function : Function

@@ -31,8 +31,7 @@ abbrev pub data_segments : (globals : List ℕ) → List SegmentContents
 data_segments [] = []
 data_segments (word ∷ globals) = data_segment (word ∷ globals) ∷ []
 
--- The image with these words of text, the initial values of the globals, and the limits; its entry is the
--- first word of text.
+-- The image with these words of text, the initial values of the globals, and the limits; its entry is the first word of text.
 abbrev pub program_image : (words globals : List ℕ) (note : Option (ℕ × ℕ)) → ImageContents
 program_image words globals note = record {
   entry = text_base;
@@ -49,8 +48,7 @@ pub record IsText (s : SegmentContents) : Type 0 where
   pub flags : s.flags ≡ READ_AND_EXECUTE
   pub stored : length s.bytes ≡ s.size
 
--- Says that a segment of data begins at the start of the data range, is readable and writable, and has as many words as the
--- globals.
+-- Says that a segment of data begins at the start of the data range, is readable and writable, and has as many words as the globals.
 pub record IsData (globals : ℕ) (s : SegmentContents) : Type 0 where
   pub address : s.vaddr ≡ DATA_BASE
   pub flags : s.flags ≡ READ_AND_WRITE
@@ -64,8 +62,7 @@ AreOfProgram zero (text ∷ []) = IsText text
 AreOfProgram (suc globals) (text ∷ variables ∷ []) = IsText text × IsData (suc globals) variables
 AreOfProgram globals segments = ⊥
 
--- Says that an image has the form for a program with this many words of data: the entry of the image
--- is the start of its text.
+-- Says that an image has the form for a program with this many words of data: the entry of the image is the start of its text.
 pub record HasForm (globals : ℕ) (image : ImageContents) : Type 0 where
   pub entry : image.entry ≡ TEXT_BASE
   pub segments : AreOfProgram globals image.segments

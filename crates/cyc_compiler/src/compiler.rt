@@ -52,8 +52,7 @@ fn compile_plain(
     ensures refused { IfErr result (λ f. f ≡ memory_fault) }
 {
     let code = select(alloc, &plain, &frames)?;
-    // The plain program and its frames are dropped early, so that their memory can be used for the
-    // words and the file.
+    // The plain program and its frames are dropped early, so that their memory can be used for the words and the file.
     drop(plain);
     drop(frames);
     let words = assemble(alloc, &code)?;
@@ -129,8 +128,7 @@ pub fn compile_with_tokens(
     requires { AreAllowedIfAny note }
     // The results and faults of `compile_with_tokens` are those of `compile_with`.
     ensures decides { Decides (IsCompiledText text.now) (λ p made. IsImageOf p made.image.items) (IsRefusedAtLast text.now) (HasFaultAtLast text.now) result }
-    // The returned tokens are those of the text, and the returned typed tree is the program of the
-    // text.
+    // The returned tokens are those of the text, and the returned typed tree is the program of the text.
     ensures tokens { IfOk result (λ made. HasTokens text.now made.tokens.items) }
     ensures program { IfOk result (λ made. IsAcceptedText text.now (view_program made.program.tree)) }
     // No step of any run of the program is dead or wrong, for every input and without limits.
@@ -151,8 +149,7 @@ pub fn compile_with_tokens(
     })
 }
 
-/// Compiles a text to an image with optional limits of its runs, on pages and calls, and returns the bytes of the
-/// image's file.
+/// Compiles a text to an image with optional limits of its runs, on pages and calls, and returns the bytes of the image's file.
 ///
 /// The front end runs first, and its faults are returned. An accepted program is rejected with `TooManyFunctions` at the name of the
 /// 4,097th function. A program with at most 4,096 functions is rejected with `FrameTooLarge` at the name of the first function whose

@@ -27,8 +27,7 @@ fn bounds_of(alloc: Global, tree: &TypedTree) -> Result<Bounds, AllocError>
     })
 }
 
-/// Returns the result of `bounds` with the text's tokens and its typed tree, from which the caller makes
-/// a report.
+/// Returns the result of `bounds` with the text's tokens and its typed tree, from which the caller makes a report.
 pub fn bounds_with_tokens(alloc: Global, text: &[u8]) -> Result<Bounded, Fault>
     // The results and faults of `bounds_with_tokens` are those of `bounds`.
     ensures decides { Decides (IsAcceptedText text.now) (λ p bounded. AreBounds p bounded.bounds) (IsRefusedText text.now) (HasFault text.now) result }

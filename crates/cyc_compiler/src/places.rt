@@ -99,8 +99,7 @@ fn own_cause(source: Source) -> Cause {
     Cause { source, site: None }
 }
 
-/// Returns the source position of the mark with this number or, if there is none, the position of
-/// the function's name.
+/// Returns the source position of the mark with this number or, if there is none, the position of the function's name.
 fn span_of(marks: &Marks, mark: usize, name: Span) -> Span {
     match marks.marks.get(mark) {
         Some(mark) => mark.span,
@@ -108,12 +107,10 @@ fn span_of(marks: &Marks, mark: usize, name: Span) -> Span {
     }
 }
 
-/// The lowered program: the functions, their inlined versions, and the source positions noted for
-/// each function.
+/// The lowered program: the functions, their inlined versions, and the source positions noted for each function.
 #[derive(Clone, Copy)]
 struct Lowered<'a> {
-    /// For each function, its version before inlining and the origins of its instructions, if
-    /// inlining changed it.
+    /// For each function, its version before inlining and the origins of its instructions, if inlining changed it.
     opened: &'a [Option<Opened>],
     /// The program after recomputed expressions got slots of their own.
     named: &'a Inlined,
@@ -146,8 +143,7 @@ impl<'a> Lowered<'a> {
     }
 }
 
-/// Returns the source of the instruction with index `number` in the function with number
-/// `function`.
+/// Returns the source of the instruction with index `number` in the function with number `function`.
 fn source_of(
     code: &[Instruction],
     marks: &Marks,
@@ -201,8 +197,7 @@ fn rest_of(function: &Function) -> usize {
     count
 }
 
-/// The inlined calls of a function, and for each call how many of its instructions come after the
-/// function's own code.
+/// The inlined calls of a function, and for each call how many of its instructions come after the function's own code.
 #[derive(Drop)]
 struct Sites {
     sites: Vec<(Site, usize)>,
@@ -213,8 +208,7 @@ struct Sites {
 }
 
 impl Sites {
-    /// Records an inlined call and the number of its instructions that come after the caller's
-    /// code.
+    /// Records an inlined call and the number of its instructions that come after the caller's code.
     fn note(&mut self, site: Site, callee: Option<&Function>) -> Result<(), AllocError> {
         let rest = match callee {
             Some(function) => rest_of(function),
@@ -310,8 +304,7 @@ fn add_function(
     Ok(())
 }
 
-/// Returns the first line of each instruction after inlining, given the first lines of the instructions that
-/// were made from it.
+/// Returns the first line of each instruction after inlining, given the first lines of the instructions that were made from it.
 fn lines_before(
     alloc: Global,
     named: Option<&Opened>,

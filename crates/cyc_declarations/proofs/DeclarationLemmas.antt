@@ -29,7 +29,6 @@ declared_is texts tree p e = go (run (rule_declarations (known_of texts tree) (b
     go (Ok x) (Err f) e = absurd (cc)
     go (Err f) b e = absurd (cc)
 
--- the typed program that the code makes from its declarations and functions equals the typed
--- program that the rules define
+-- the typed program that the code makes from its declarations and functions equals the typed program that the rules define
 pub made_is : (texts : List (List ℕ)) (tree : List Declaration) (fs : List typed.Function) → program_made (known_of texts tree) tree fs ≡ program_of (program_known texts tree) tree fs
 made_is texts tree fs = refl

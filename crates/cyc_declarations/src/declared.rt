@@ -183,8 +183,7 @@ impl Declared {
     }
 }
 
-/// Returns all declarations of a program, including the built-in ones, from the names known in the
-/// program.
+/// Returns all declarations of a program, including the built-in ones, from the names known in the program.
 pub(crate) fn program_declared(
     alloc: Global,
     names: &Names,

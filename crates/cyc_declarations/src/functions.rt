@@ -45,8 +45,7 @@ fn is_main_head(returned: &Option<WrittenType>, parameters: &Parameters) -> bool
         && parameters.constraints.is_empty()
 }
 
-/// Checks that the written result type is well-formed; it may use the region names that the
-/// parameters declare.
+/// Checks that the written result type is well-formed; it may use the region names that the parameters declare.
 fn check_result(
     known: &Known,
     names: &RegionNames,
@@ -61,8 +60,7 @@ fn check_result(
     settled.end()
 }
 
-/// Checks that the name of a function is new; the name may be `main` only if the signature is
-/// allowed for `main`.
+/// Checks that the name of a function is new; the name may be `main` only if the signature is allowed for `main`.
 fn check_name(
     known: &Known,
     before: &NameSet,
@@ -81,8 +79,7 @@ fn check_name(
     settled.end()
 }
 
-/// Checks that the type of a parameter is well-formed and the parameter's name is new, and adds the name to the
-/// known names.
+/// Checks that the type of a parameter is well-formed and the parameter's name is new, and adds the name to the known names.
 fn check_parameter(
     known: &Known,
     own: usize,
@@ -158,8 +155,7 @@ fn check_constraints(names: &RegionNames, constraints: &[Constraint]) -> Result<
     settled.end()
 }
 
-/// Checks that the signature of a function is well-formed and the function's name is new, and adds the name to the
-/// known names.
+/// Checks that the signature of a function is well-formed and the function's name is new, and adds the name to the known names.
 pub(crate) fn check_function(
     alloc: Global,
     known: &Known,

@@ -82,8 +82,7 @@ fn check_type(known: &Known, written: &WrittenType) -> Result<(), Stop>
     settled.end()
 }
 
-/// Checks that a global is well-formed and its name is new, and adds the global's name to the known
-/// names.
+/// Checks that a global is well-formed and its name is new, and adds the global's name to the known names.
 #[tactic(auto, using(cyc_types::proofs::RuleLaws::settled_append))]
 pub(crate) fn check_global(
     alloc: Global,
@@ -112,8 +111,7 @@ pub(crate) fn check_global(
     settled.end()
 }
 
-/// Returns the initial word of a global, from the global's type and its written value: a char keeps only
-/// the low byte.
+/// Returns the initial word of a global, from the global's type and its written value: a char keeps only the low byte.
 fn word_of(of_type: &Ty, written: u32) -> u32
     ensures { result ≡ word_of (view_ty of_type.now) written }
 {

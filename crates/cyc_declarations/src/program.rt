@@ -105,8 +105,7 @@ pub struct Parts {
     main: usize,
 }
 
-/// Returns the parts of a program other than the bodies of its functions, from the names known in
-/// the program.
+/// Returns the parts of a program other than the bodies of its functions, from the names known in the program.
 pub fn parts_of(
     alloc: Global,
     known: &Known,

@@ -36,8 +36,7 @@ pub(crate) struct HeadTypes {
     variables: usize,
 }
 
-/// Returns the result type of a function; the type may use the region names that the parameters
-/// declare.
+/// Returns the result type of a function; the type may use the region names that the parameters declare.
 fn result_written(
     alloc: Global,
     known: &Known,
@@ -134,8 +133,7 @@ fn regions_of(
     Ok(all)
 }
 
-/// Returns the effect of a signature. An omitted effect consists of all regions of the types,
-/// except the regions of keys.
+/// Returns the effect of a signature. An omitted effect consists of all regions of the types, except the regions of keys.
 fn effect_of(
     alloc: Global,
     names: &RegionNames,

@@ -20,8 +20,7 @@ use cyc_words::{Code, Span};
 use std::alloc::{AllocError, Global};
 use std::marker::Model;
 
-/// Returns the number of a name, from the name's text. A text that is not a name of the program
-/// gets the number after all names.
+/// Returns the number of a name, from the name's text. A text that is not a name of the program gets the number after all names.
 pub(crate) fn number_of(names: &Names, text: &[u8]) -> usize
     ensures { result ≡ number_of names.now text.now }
 {
@@ -75,8 +74,7 @@ impl Before {
         })
     }
 
-    /// Checks that a declaration is well-formed and its names are new, and adds these names to the known
-    /// names.
+    /// Checks that a declaration is well-formed and its names are new, and adds these names to the known names.
     fn check_head(
         &mut self,
         alloc: Global,
@@ -167,8 +165,7 @@ fn declares(name: usize, declarations: &[Declaration]) -> bool
     false
 }
 
-/// Checks that the function `main` is declared; its name has the number `main`. The fault of a missing `main`
-/// has no position in the text.
+/// Checks that the function `main` is declared; its name has the number `main`. The fault of a missing `main` has no position in the text.
 fn check_main(main: usize, declarations: &[Declaration]) -> Result<(), Stop>
     ensures { Gives (λ _. tt) result (run (rule_main main (map view_declaration declarations.now))) }
 {

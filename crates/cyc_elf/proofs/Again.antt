@@ -1,4 +1,4 @@
--- The reader reads the writer's file as the image that was written.
+-- If the reader reads a file that the writer wrote, it returns the image that was written.
 use Rattle.std.proofs.Common.{◌≡◌, ℕ, suc, ◌+◌, ◌-◌, ◌*◌, ◌^◌, ◌<◌, ◌≤◌, true, false, List, [], ◌∷◌, ◌++◌, length, map, take, drop, replicate, Option, Some, None, is_some, IfSome, Ok, All, refl, sym, ap, subst, ◌∙◌, append_assoc, arith}
 use Rattle.std.specs.Prelude.{nat_eq}
 use Rattle.std.specs.List.{flat_map, list_any, starts_with, AllByRecursion}
@@ -24,13 +24,13 @@ use Rattle.cyc_elf.proofs.Sound.{keeps_from_kept, are_limits-from, are_apart_fro
 
 -- ---- fields
 
--- A field after `place` other bytes is read as without these bytes.
+-- If a file begins with `place` other bytes, a field after them is read as it is without these bytes.
 field-following : (width offset place : ℕ) (front rest : List ℕ) → length front ≡ place → field width (place + offset) (front ++ rest) ≡ field width offset rest
 unfolding field
 field-following width offset place front rest len =
     ap (big_number width) (ap (λ (p : ℕ). drop (p + offset) (front ++ rest)) (sym len) ∙ drop-append-add front rest offset)
 
--- A field directly after other bytes is read as without these bytes.
+-- If a field comes directly after other bytes, it is read as it is without these bytes.
 field-right_after : (width place : ℕ) (front rest : List ℕ) → length front ≡ place → field width place (front ++ rest) ≡ field width 0 rest
 unfolding field
 field-right_after width place front rest len = ap (big_number width) (drop_at front rest place len)
@@ -104,7 +104,7 @@ table_again file (h ∷ hs) place front rest len fits is =
 length-stored : (s : SegmentContents) → length (stored s) ≡ padded (length s.bytes)
 length-stored s = omega (arith, length-append s.bytes (replicate (padded (length s.bytes) - length s.bytes) 0), length-replicate {A = ℕ} (padded (length s.bytes) - length s.bytes) 0)
 
--- The position of each segment's bytes in the file.
+-- In the written file, the bytes of each segment begin at the offset that its header gives.
 stands_at : (file : List ℕ) (s : SegmentContents) (rest : List SegmentContents) (front following : List ℕ) → file ≡ front ++ (flat_map stored (s ∷ rest) ++ following)
     → file ≡ front ++ (s.bytes ++ (replicate (padded (length s.bytes) - length s.bytes) 0 ++ (flat_map stored rest ++ following)))
 stands_at file s rest front following is =
@@ -143,13 +143,13 @@ keeps_again file (s ∷ ss) offset front following len is each =
       keeps_again file ss (offset + padded (length s.bytes)) (front ++ stored s) following (next_length offset s front len) (next_stands file s ss front following is) each.1,
     )
 
--- The file offset just past the segments' bytes.
+-- The file offset just past the segments' bytes is the start offset plus the length of the padded bytes.
 bytes_end-length : (offset : ℕ) (ss : List SegmentContents) → bytes_end offset ss ≡ offset + length (flat_map stored ss)
 bytes_end-length offset [] = omega arith
 bytes_end-length offset (s ∷ ss) =
     omega (arith, bytes_end-length (offset + padded (length s.bytes)) ss, ap length (flat_map-cons stored s ss), length-append (stored s) (flat_map stored ss), length-stored s)
 
--- A walk over loadable headers that satisfy their rules finds all of these headers and continues after them.
+-- If loadable headers satisfy their rules, the traversal of the header table finds all of them and continues after them.
 walk_loads : (file : List ℕ) (known : Option (ℕ × ℕ)) (hs rest : List ProgramHeader) → AllByRecursion (Keeps (length file)) hs → walk file known (hs ++ rest) ≡ with_front hs (walk file known rest)
 walk_loads file known [] rest keeps = refl
 walk_loads file known (h ∷ hs) rest keeps =
@@ -176,7 +176,7 @@ fixed_again : (limits : ℕ × ℕ) → (field 4 0 (note_bytes limits) ≡ 8) ×
 unfolding field note_bytes
 fixed_again limits = (refl, refl, refl, refl)
 
--- A written note is recognized, whatever comes before it.
+-- A written note is recognized by the reader, no matter what bytes come before the note.
 record NoteAgain (limits : ℕ × ℕ) (place : ℕ) (file : List ℕ) : Type 0 where
   named : is_named file place ≡ true
   description : field 4 (place + 4) file ≡ 8
@@ -212,7 +212,7 @@ note_rules_again limits place file n fit =
     ap first_fault (own_rules-note file false (note_header place) (is_note_again limits place file n))
     ∙ rw (n.description, n.kind, n.limits_are, are_limits-from limits fit) refl
 
--- A walk over the header of a note finds its limits.
+-- The traversal of the header table finds the limits of a note at the note's header.
 walk_notes : (file : List ℕ) (known : Option (ℕ × ℕ)) (place : ℕ) (front : List ℕ) → length front ≡ place → file ≡ front ++ notes known → IfSome known AreLimits
     → walk file None (note_headers place known) ≡ record { loads = []; note = known; fault = None }
 walk_notes file None place front len is fit = refl
@@ -226,7 +226,7 @@ length-file_header : (address count : ℕ) → length (file_header address count
 unfolding file_header
 length-file_header address count = refl
 
--- A written file header is recognized by the reader for all following bytes.
+-- Says that the reader recognizes a written file header, no matter what bytes follow the header.
 record HeaderAgain (address count : ℕ) (file : List ℕ) : Type 0 where
   start : starts_with nat_eq file ident ≡ true
   kind : object_type file ≡ 2
@@ -267,7 +267,7 @@ file_rules_again address count file h room =
 
 -- ---- the whole file
 
--- The parts of the layout, beginning with the file header.
+-- The parts of the file layout of an image, beginning with the table of program headers.
 abbrev table : ImageContents → List ℕ
 table i = flat_map program_header (laid_headers i)
 
@@ -299,7 +299,8 @@ length-note_headers : (place : ℕ) (known : Option (ℕ × ℕ)) → length (no
 length-note_headers place None = refl
 length-note_headers place (Some limits) = refl
 
--- The values of the file header's fields, and the program headers, segments and limits that they lead to.
+-- Says that reading the written file yields the values of the file header's fields, and the program
+-- headers, segments and limits that they describe.
 record Laid (i : ImageContents) : Type 0 where
   fine : first_fault (file_rules (layout i)) ≡ None
   entry_is : entry (layout i) ≡ i.entry
@@ -360,11 +361,11 @@ each_stored i segments good same =
     (λ k d lt. subst (λ (s : SegmentContents). length s.bytes ≤ s.size) (get_or-map segment_contents i.segments.items k d (segment_contents d) lt)
     (good.each k (segment_contents d) (omega (arith, length-map i.segments.items segment_contents))).stored)
 
--- The number of headers, as the code counts them.
+-- The number of program headers that the writer's code computes is the specified one.
 pub headers_counted : (i : Image) (len more : ℕ) (segments : List Segment) → len ≡ length segments → more ≡ note_count i.note → segments ≡ i.segments.items → len + more ≡ headers_count (contents_of i)
 headers_counted i len more segments many one same = omega (arith, many, one, ap length same, length-map i.segments.items segment_contents)
 
--- The five parts of the file follow each other.
+-- The written file consists of its five parts, one after the other.
 pub written : (i : ImageContents) (a b c d e : List ℕ) → a ≡ file_header i.entry (headers_count i)
     → b ≡ a ++ flat_map program_header (headers_of (bytes_start i) i.segments)
     → c ≡ b ++ flat_map program_header (note_headers (note_start i) i.note)

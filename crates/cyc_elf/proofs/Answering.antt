@@ -1,4 +1,4 @@
--- The result of the reader, derived from the results of its parts.
+-- The result of the file reader is derived from the results of its parts.
 use Rattle.std.proofs.Common.{◌≡◌, ℕ, ◌+◌, ◌≤◌, ◌%◌, Bool, true, false, ◌&&◌, ◌||◌, eqb, List, [], ◌∷◌, length, map, Option, Some, None, Result, Ok, Err, All, refl, sym, ap, subst, ◌∙◌, arith}
 use Rattle.std.specs.List.{list_any}
 use Rattle.std.proofs.lemmas.List.{get_or-map, length-map}
@@ -15,7 +15,7 @@ use Rattle.cyc_elf.specs.inside.Parts.{Walk, walk_of, walk, are_apart}
 use Rattle.cyc_elf.proofs.Rules.{table_of, is_entry, reading-shared, reading-table_fault, reading-entry, reading-image}
 use Rattle.cyc_elf.proofs.Sound.{stored_all, is_well_formed}
 
--- A fault is a correct result, including lack of memory.
+-- If the specified reader returns a fault, then returning the same fault is a correct result, and so is running out of memory.
 pub Outlines-fault : (file : List ℕ) (f : ElfFault) (read : Result ImageContents ElfFault) → read ≡ Err f → Outlines file (Err f) read
 Outlines-fault file faults.Truncated read e = e
 Outlines-fault file faults.NotElf32Big read e = e
@@ -25,7 +25,7 @@ Outlines-fault file faults.Interp read e = e
 Outlines-fault file faults.BadEntry read e = e
 Outlines-fault file faults.Memory read e = tt
 
--- A fault of the outline is the fault of the whole reader.
+-- A fault that occurs while the outline is read is also the fault of the whole reader.
 pub Answers-outlined : (file : List ℕ) (f : ElfFault) (read : Result ImageContents ElfFault) → Outlines file (Err f) read → Answers (Err f) read
 Answers-outlined file faults.Truncated read e = e
 Answers-outlined file faults.NotElf32Big read e = e
@@ -35,7 +35,7 @@ Answers-outlined file faults.Interp read e = e
 Answers-outlined file faults.BadEntry read e = e
 Answers-outlined file faults.Memory read e = tt
 
--- The results of the file header and of the walk over the table.
+-- The results of reading the file header and of the traversal of the table of program headers.
 pub record Found (file : List ℕ) (h : FileHeader) (w : table.Walk) : Type 0 where
   pub fine : first_fault (file_rules file) ≡ None
   pub fields : record { entry = entry file; table = table_offset file; count = header_count file } ≡ h
@@ -87,7 +87,7 @@ stored {file} {h} {w} f =
     λ k d lt.
     subst (λ (g : ProgramHeader). g.offset + g.file_size ≤ length file) (get_or-map fields_of ls k d (fields_of d) lt) (kept k (fields_of d) (omega (arith, length-map ls fields_of)))
 
--- The image that the headers describe, as the code stores them.
+-- Returns the image that the program headers describe, with the headers as the code stores them.
 abbrev described : List ℕ → FileHeader → table.Walk → ImageContents
 described file h w = record { entry = h.entry; segments = map (segment_of file) (map fields_of w.loads.items); note = w.note }
 

@@ -1,5 +1,5 @@
--- Headers sorted by address overlap at no address exactly if each begins after the end of the one before. Sortedness and disjointness are
--- both expressed by the number of headers that cover an address.
+-- Headers sorted by address overlap at no address exactly if each begins after the end of the previous one. Sortedness and disjointness
+-- are both expressed by the number of headers that cover an address.
 use Rattle.std.proofs.Common.{◌≡◌, ℕ, suc, ◌+◌, ◌<◌, ◌≤◌, Bool, true, false, cond, not, ◌&&◌, ◌||◌, eqb, ltb, leb, min, max, List, [], ◌∷◌, ◌++◌, length, map, get_or, refl, sym, ap, ◌∙◌, inl, inr, arith}
 use Rattle.std.specs.List.{list_any, sum_by}
 use Rattle.std.specs.List.Sorted.{IsPermutation, IsNonDecreasingBy}
@@ -49,7 +49,7 @@ covers-true h a e =
     let both = and_parts (leb h.vaddr a) (ltb a (h.vaddr + h.memory_size)) e in
     record { low = leb-true _ _ both.0; high = ltb-true _ _ both.1 }
 
--- An address outside the header's segment is not covered.
+-- A header does not cover an address outside its segment.
 covers-outside : (h : ProgramHeader) (a : ℕ) → (Within h a → ⊥) → covers h a ≡ false
 covers-outside h a out =
     elim (cases_Bool (covers h a)) [ inl e ↦ absurd (out (covers-true h a e)) | inr e ↦ e ]
@@ -130,7 +130,7 @@ are_apart-false es (h ∷ hs) e =
 
 -- ---- sorted headers
 
--- A header without memory covers no address.
+-- A header whose segment has no memory covers no address.
 empty-covers : (h : ProgramHeader) (a : ℕ) → h.memory_size ≡ 0 → one (covers h a) ≡ 0
 empty-covers h a none = ap one (covers-outside h a (λ q. omega (arith, q.low, q.high, none)))
 
@@ -143,7 +143,7 @@ in_order-empty high h rest e = ap (λ b. cond b (in_order high rest) (placed hig
 in_order-full : (high : ℕ) (h : ProgramHeader) (rest : List ProgramHeader) → eqb h.memory_size 0 ≡ false → in_order high (h ∷ rest) ≡ placed high h rest
 in_order-full high h rest e = ap (λ b. cond b (in_order high rest) (placed high h rest)) e
 
--- No header covers an address below `high`, and no address is covered twice.
+-- Says that no header covers an address below `high`, and that no address is covered twice.
 record Once (high : ℕ) (hs : List ProgramHeader) (a : ℕ) : Type 0 where
   below : a < high → covering a hs ≡ 0
   once : covering a hs ≤ 1
@@ -172,7 +172,7 @@ in_order-true high (h ∷ rest) e a =
           ]
     ]
 
--- The addresses are ascending, and the first is at least `low`.
+-- Says that the addresses of the headers are ascending, and that the first is at least `low`.
 abbrev Rising : ℕ → List ProgramHeader → Type 0
 Rising low [] = Unit {0}
 Rising low (h ∷ rest) = (low ≤ h.vaddr) × Rising h.vaddr rest
@@ -181,7 +181,7 @@ Rising-lower : (low lower : ℕ) (hs : List ProgramHeader) → lower ≤ low →
 Rising-lower low lower [] le up = tt
 Rising-lower low lower (h ∷ rest) le up = (omega (arith, up.0), up.1)
 
--- Headers out of order share an address: the case after a header with memory.
+-- If headers after a header with memory are out of order, then two headers share an address.
 in_order-false : (g : ProgramHeader) (hs : List ProgramHeader) → 0 < g.memory_size → Rising g.vaddr hs → in_order (g.vaddr + g.memory_size) hs ≡ false → (a : ℕ) × (2 ≤ one (covers g a) + covering a hs)
 in_order-false g [] some up e = absurd (false≢true (sym e))
 in_order-false g (h ∷ rest) some up e =
@@ -203,7 +203,7 @@ in_order-false g (h ∷ rest) some up e =
           ]
     ]
 
--- Headers out of order share an address: the case of the whole list.
+-- If the whole list of sorted headers is out of order, then two headers share an address.
 in_order-false_start : (low : ℕ) (hs : List ProgramHeader) → Rising low hs → in_order 0 hs ≡ false → (a : ℕ) × (2 ≤ covering a hs)
 in_order-false_start low [] up e = absurd (false≢true (sym e))
 in_order-false_start low (h ∷ rest) up e =
@@ -224,7 +224,7 @@ rising low [] first up = tt
 rising low (x ∷ xs) first up =
     (first 0 x (omega arith), rising x.vaddr xs (λ j d lt. up 0 (suc j) d (omega arith) (omega arith)) (λ i j d le lt. up (suc i) (suc j) d (omega arith) (omega arith)))
 
--- The headers sorted by address are in order exactly if the headers in the file's order are disjoint.
+-- The headers sorted by address are in order exactly if no two headers of the file overlap.
 pub in_order-are_apart : (xs sorted : List raw.ProgramHeader) → IsPermutation xs sorted → IsNonDecreasingBy (λ h. h.vaddr) sorted → in_order 0 (map fields_of sorted) ≡ are_apart [] (map fields_of xs)
 in_order-are_apart xs sorted same up =
     elim (cases_Bool (in_order 0 (map fields_of sorted))) [

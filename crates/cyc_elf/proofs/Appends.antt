@@ -1,4 +1,4 @@
--- Lists to which a writer appends piece by piece.
+-- Facts about lists to which a writer appends piece by piece.
 use Rattle.std.proofs.Common.{◌≡◌, ℕ, ◌-◌, List, [], ◌∷◌, ◌++◌, take, replicate, ap, ◌∙◌, append_assoc, arith}
 use Rattle.std.proofs.lemmas.List.{take-replicate}
 use Rattle.cyc_elf.specs.Image.{padded}
@@ -10,6 +10,6 @@ appends_both start middle end a b first second = second ∙ ap (λ (xs : List �
 abbrev zeros : List ℕ
 zeros = 0 ∷ 0 ∷ 0 ∷ []
 
--- The padding of bytes of this length, taken from three zeros.
+-- The padding after `len` bytes is a prefix of three zeros.
 pub padding_zeros : (k len : ℕ) → k ≡ padded len - len → take k zeros ≡ replicate (padded len - len) 0
 padding_zeros k len e = ap (λ (n : ℕ). take n zeros) e ∙ take-replicate (padded len - len) 3 0 (omega arith)

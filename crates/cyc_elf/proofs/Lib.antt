@@ -1,14 +1,14 @@
--- the reader implements the rules
+-- Proofs that the reader implements the rules of the format.
 pub mod Rules
 pub mod Walks
 pub mod Apart
 pub mod Answering
--- the images that are read are well-formed
+-- Proofs that the images that the reader returns are well-formed.
 pub mod Sound
 -- the writer
 pub mod Appends
 pub mod Writes
--- a written file is read as the image that was written
+-- The proof that a written file is read as the image that was written.
 pub mod Again
--- a file read by computation
+-- An example file that is read by computation.
 pub mod Examples

@@ -1,4 +1,4 @@
--- The parts of the reader together implement the rules.
+-- The parts of the file reader together implement the rules of the format.
 use Rattle.std.proofs.Common.{◌≡◌, ℕ, ◌+◌, ◌≤◌, ◌%◌, Bool, true, false, cond, not, ◌&&◌, ◌||◌, eqb, ltb, leb, List, [], ◌∷◌, ◌++◌, length, map, Option, Some, None, is_some, Ok, Err, refl, sym, ap, ◌∙◌, inl, inr, append_assoc}
 use Rattle.std.specs.List.{list_any, AllByRecursion}
 use Rattle.std.proofs.lemmas.Bool.{leb-true, eqb-true, and_parts, cases_Bool}
@@ -33,7 +33,7 @@ unfolding own_rules
 own_rules-load file before h load =
     ap (λ (k : ℕ). cond (eqb k 3) (broken true Interp ∷ []) (cond (eqb k 1) (load_rules (length file) h) (cond (is_note file h) (note_rules file before h) []))) load
 
--- The properties that make a header one of a note.
+-- Says that a program header is the header of a note with limits.
 pub record Described (file : List ℕ) (h : ProgramHeader) : Type 0 where
   pub kind : h.kind ≡ 4
   pub long : 20 ≤ h.file_size
@@ -53,12 +53,12 @@ own_rules-note file before h is =
     ap (λ (k : ℕ). cond (eqb k 3) (broken true Interp ∷ []) (cond (eqb k 1) (load_rules (length file) h) (cond (is_note file h) (note_rules file before h) []))) (described file h is).kind
     ∙ ap (λ b. cond b (note_rules file before h) []) is
 
--- A loadable header is not a note's.
+-- A loadable header is not the header of a note.
 pub is_note-load : (file : List ℕ) (h : ProgramHeader) → is_load h ≡ true → is_note file h ≡ false
 unfolding is_note
 is_note-load file h load = ap (λ (k : ℕ). eqb k 4 && leb 20 h.file_size && leb (h.offset + h.file_size) (length file) && is_named file h.offset) (eqb-true _ _ load)
 
--- A second note with limits violates a rule.
+-- If a file has a second note with limits, the note violates a rule.
 breaks : (a b c d : Bool) → first_fault (broken a BadSegment ∷ broken b BadSegment ∷ broken c BadSegment ∷ broken d BadSegment ∷ broken true BadSegment ∷ []) ≡ Some BadSegment
 breaks true b c d = refl
 breaks false true c d = refl
@@ -73,7 +73,7 @@ second_note file h is =
 
 -- ---- the table of program headers
 
--- The fault of the walk, unless two of the segments overlap.
+-- Returns the fault of the traversal of the headers, or `BadSegment` if two of the segments overlap.
 abbrev pub outcome : Bool → Option ElfFault → Option ElfFault
 outcome apart found = cond apart found (Some BadSegment)
 
@@ -84,7 +84,7 @@ loads_push earlier h = filter-append is_load earlier (h ∷ []) ∙ taken (is_lo
     taken true = refl
     taken false = append-nil (loads earlier)
 
--- The outcome with one more header, which is loadable or not and overlaps an earlier one or not.
+-- The fault of a header list with one more header at the front depends on whether that header overlaps another one.
 with_overlap : (any : Bool) (later : Bool) (found : Option ElfFault) → cond any (Some BadSegment) (outcome later found) ≡ outcome (not any && later) found
 with_overlap true later found = refl
 with_overlap false later found = refl
@@ -101,7 +101,7 @@ with_own : (known : Option (ℕ × ℕ)) (o : Option ElfFault) (before : List Pr
 with_own known (Some f) before h w = refl
 with_own known None before h w = with_load (is_load h) before h w
 
--- Limits are known after a header exactly if it or an earlier one is a note.
+-- After a header, the limits are known exactly if that header or an earlier one is a note.
 noted_again : (b any : Bool) (known : Option (ℕ × ℕ)) (limits : ℕ × ℕ) → is_some known ≡ any → is_some (cond b (Some limits) known) ≡ (any || (b || false))
 noted_again true true known limits same = refl
 noted_again true false known limits same = refl
@@ -148,7 +148,7 @@ step_whole : (known : Option (ℕ × ℕ)) (h : ProgramHeader) (rest : List Prog
 step_whole known h rest w (Some f) later none = absurd cc
 step_whole known h rest w None later none = ap (λ (hs : List ProgramHeader). cond (is_load h) (h ∷ hs) hs) (later none)
 
--- Without a fault the walk collects all loadable headers.
+-- If the traversal of the headers ends without a fault, it has collected all loadable headers.
 pub walk_whole : (file : List ℕ) (known : Option (ℕ × ℕ)) (headers : List ProgramHeader) → (walk file known headers).fault ≡ None → (walk file known headers).loads ≡ loads headers
 walk_whole file known [] none = refl
 walk_whole file known (h ∷ rest) none =
@@ -156,7 +156,8 @@ walk_whole file known (h ∷ rest) none =
 
 -- ---- the note that the walk finds
 
--- A header with a fault ends the walk. After a header without a fault, the walk continues with the next header.
+-- A header with a fault ends the traversal of the header table. After a header without a fault, the traversal
+-- continues with the next header.
 step_fault : (known : Option (ℕ × ℕ)) (h : ProgramHeader) (w : Walk) (o : Option ElfFault) → (step known h o w).fault ≡ None → (o ≡ None) × (w.fault ≡ None) × ((step known h o w).note ≡ w.note)
 step_fault known h w (Some f) none = absurd cc
 step_fault known h w None none = (refl, none, refl)
@@ -174,7 +175,7 @@ only_note file limits (h ∷ rest) none =
           ∙ only_note file limits rest (sym (ap (λ (n : Option (ℕ × ℕ)). (walk file n rest).fault) same) ∙ parts.1)
     ]
 
--- Without a fault the note found is the first.
+-- If the traversal of the headers ends without a fault, the note that it found is the first note.
 pub walk_note : (file : List ℕ) (headers : List ProgramHeader) → (walk file None headers).fault ≡ None → (walk file None headers).note ≡ note_among file headers
 walk_note file [] none = refl
 walk_note file (h ∷ rest) none =
@@ -197,7 +198,7 @@ walk_note file (h ∷ rest) none =
 abbrev pub table_of : List ℕ → Walk
 table_of file = walk file None (program_headers file)
 
--- The first fault of the file, from the file header's rules, the table and the entry.
+-- The first fault of a file is the first fault of the file header's rules, of the header table, or of the entry, in this order.
 by_parts : (file : List ℕ) → first_fault (rules file) ≡ or_else (first_fault (file_rules file)) (or_else (outcome (are_apart [] (table_of file).loads) (table_of file).fault) (first_fault (entry_rules (program_headers file) (entry file))))
 by_parts file =
     ap first_fault (append_assoc (file_rules file) (table_rules file [] (program_headers file)) (entry_rules (program_headers file) (entry file)))
@@ -218,7 +219,7 @@ pub reading-table_fault : (file : List ℕ) (f : ElfFault) → first_fault (file
 unfolding reading
 reading-table_fault file f fine apart found = rw (by_parts file, fine, apart, found) refl
 
--- The entry is the address of a word in the segment of a loadable header.
+-- Returns true if the entry is the address of a word in the segment of a loadable header.
 abbrev pub is_entry : List ProgramHeader → ℕ → Bool
 is_entry headers address = list_any (λ h. covers h address) headers && eqb (address % 4) 0
 

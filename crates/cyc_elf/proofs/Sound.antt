@@ -1,4 +1,4 @@
--- The rules of the format, as tests of program headers, imply that the image is well-formed.
+-- If the tests of the program headers find no violated rule of the format, then the image is well-formed.
 use Rattle.std.proofs.Common.{◌≡◌, ℕ, zero, suc, ◌+◌, ◌%◌, ◌^◌, ◌<◌, ◌≤◌, Bool, true, false, cond, not, ◌&&◌, ◌||◌, eqb, ltb, leb, List, [], ◌∷◌, length, map, get_or, drop, Option, Some, None, is_some, IfSome, All, refl, sym, ap, ◌∙◌, inl, inr, arith}
 use Rattle.std.specs.Prelude.{Any, AllPairs}
 use Rattle.std.specs.List.{list_any, AllByRecursion}
@@ -18,7 +18,7 @@ use Rattle.cyc_elf.proofs.Rules.{Keeps, own_rules-note, walk_keeps, table_of, is
 
 -- ---- a single loadable header
 
--- The rules of a loadable header, as propositions.
+-- States the rules that a loadable header satisfies, as propositions.
 pub record Kept (len : ℕ) (h : ProgramHeader) : Type 0 where
   pub load : h.kind ≡ 1
   pub fits : h.file_size ≤ h.memory_size
@@ -26,7 +26,7 @@ pub record Kept (len : ℕ) (h : ProgramHeader) : Type 0 where
   pub word : h.vaddr % 4 ≡ 0
   pub stored : h.offset + h.file_size ≤ len
 
--- If there is no fault, the first rule is satisfied, and the later ones yield no fault.
+-- If a list of rules yields no fault, the first rule is satisfied, and the later rules yield no fault.
 unbroken : (b : Bool) (f : ElfFault) (later : Option ElfFault) → cond b (Some f) later ≡ None → (b ≡ false) × (later ≡ None)
 unbroken true f later e = absurd cc
 unbroken false f later e = (refl, e)
@@ -61,7 +61,7 @@ segment_from_kept file h kept = record {
 
 -- ---- a single note
 
--- Pages and calls are in their ranges.
+-- If the test of the limits succeeds, then the number of pages and the number of calls are in their ranges.
 pub are_limits-true : (limits : ℕ × ℕ) → are_limits limits ≡ true → AreLimits limits
 are_limits-true limits e =
     let three = and_parts (leb 3 limits.0 && leb limits.0 65536 && leb 1 limits.1) (leb limits.1 4096) e in
@@ -78,7 +78,7 @@ pub are_limits-from : (limits : ℕ × ℕ) → AreLimits limits → are_limits 
 are_limits-from limits fit =
     rw (le-leb 3 limits.0 fit.enough_pages, le-leb limits.0 65536 fit.few_pages, le-leb 1 limits.1 fit.enough_calls, le-leb limits.1 4096 fit.few_calls) refl
 
--- The rules of a note, as propositions.
+-- States the rules that a note satisfies, as propositions.
 pub record KeptNote (file : List ℕ) (h : ProgramHeader) : Type 0 where
   pub whole : 28 ≤ h.file_size
   pub description : field 4 (h.offset + 4) file ≡ 8
@@ -99,7 +99,7 @@ kept_note file before h is keeps =
       limits = are_limits-true _ (not-false _ limits.0);
     }
 
--- The limits known after a header without a fault are in their ranges.
+-- If a header has no fault, then the limits known after it are in their ranges.
 noted_fit : (file : List ℕ) (known : Option (ℕ × ℕ)) (h : ProgramHeader) → first_fault (own_rules file (is_some known) h) ≡ None → IfSome known AreLimits → IfSome (noted file known h) AreLimits
 noted_fit file known h keeps fit =
     elim (cases_Bool (is_note file h)) [
@@ -151,7 +151,7 @@ none_from_apart file h (g ∷ hs) a apart in_h =
       | inr out ↦ let here : one (covers g a) ≡ 0 = ap one out in omega (arith, here, rest)
     ]
 
--- `AllPairs` of a list, split into the pairs of its first element and those of the remaining elements.
+-- `AllPairs` of a list holds for the pairs of its first element with the others, and for the pairs of the other elements.
 AllPairs-first : {X : Type 0} (R : X → X → Type 0) (x : X) (xs : List X) → AllPairs R (x ∷ xs) → All (R x) xs
 AllPairs-first R x xs pairs = λ k d lt. pairs 0 (suc k) d (omega arith) (omega arith)
 
@@ -215,7 +215,7 @@ segments_all : (file : List ℕ) (hs : List ProgramHeader) → AllByRecursion (K
 segments_all file [] kept = tt
 segments_all file (h ∷ hs) kept = (segment_from_kept file h kept.0, segments_all file hs kept.1)
 
--- The bytes of each header that the walk collects are in the file.
+-- The bytes of each header that the traversal collects lie in the file.
 pub stored_all : (file : List ℕ) → All (λ h. h.offset + h.file_size ≤ length file) (table_of file).loads
 stored_all file =
     let kept = All-from_recursion (Kept (length file)) _ (kept_all (length file) _ (walk_keeps file None (program_headers file))) in

@@ -1,4 +1,4 @@
--- Walks over the table of program headers, header by header.
+-- Facts about the traversal of the table of program headers, header by header.
 use Rattle.std.proofs.Common.{◌≡◌, ℕ, suc, ◌+◌, ◌-◌, ◌<◌, ◌≤◌, Bool, true, false, cond, List, [], ◌∷◌, ◌++◌, Option, Some, None, is_some, refl, sym, ap, ◌∙◌, append_assoc, arith}
 use Rattle.std.proofs.lemmas.List.{append-nil}
 use Rattle.cyc_elf.specs.declared.fault.ElfFault.{ElfFault}
@@ -8,11 +8,11 @@ use Rattle.cyc_elf.specs.inside.Parts.{Walk, step, noted, walk}
 
 -- ---- one header at a time
 
--- The headers found so far, followed by the rest of the walk.
+-- Prepends the headers found so far to the result of the rest of the traversal.
 abbrev pub with_front : List ProgramHeader → Walk → Walk
 with_front front w = record { loads = front ++ w.loads; note = w.note; fault = w.fault }
 
--- The walk over the remaining headers, with one more header in front.
+-- The traversal of the remaining headers is a step for the next header, followed by the traversal of the headers after it.
 walk_from : (file : List ℕ) (known : Option (ℕ × ℕ)) (count i place : ℕ) → i < count
     → walk file known (headers_from file place (count - i))
     ≡ step known (program_header_at file place) (first_fault (own_rules file (is_some known) (program_header_at file place))) (walk file (noted file known (program_header_at file place)) (headers_from file (place + 32) (count - (i + 1))))
@@ -21,7 +21,7 @@ walk_from file known count i place lt =
     let k : count - i ≡ suc (count - (i + 1)) = omega arith in
     rw k refl
 
--- The loop continues after a header that satisfies its own rules.
+-- If the next header satisfies its own rules, the loop over the headers continues after it.
 pub headers_go_on : (front : List ProgramHeader) (file : List ℕ) (known : Option (ℕ × ℕ)) (count i place : ℕ) (h : ProgramHeader) (total : Walk) → i < count → h ≡ program_header_at file place → None ≡ first_fault (own_rules file (is_some known) h)
     → with_front front (walk file known (headers_from file place (count - i))) ≡ total
     → with_front (cond (is_load h) (front ++ h ∷ []) front) (walk file (noted file known h) (headers_from file (place + 32) (count - (i + 1)))) ≡ total
@@ -35,7 +35,7 @@ headers_go_on front file known count i place h total lt here keeps so_far =
     taken front h rest true = ap (λ (hs : List ProgramHeader). record { loads = hs; note = rest.note; fault = rest.fault }) (append_assoc front (h ∷ []) rest.loads)
     taken front h rest false = refl
 
--- The loop over the headers ends at a header that violates a rule.
+-- If the next header violates a rule, the loop over the headers ends with the header's fault.
 pub fault_ends : (front : List ProgramHeader) (file : List ℕ) (known : Option (ℕ × ℕ)) (count i place : ℕ) (h : ProgramHeader) (f : ElfFault) (total : Walk) → i < count → h ≡ program_header_at file place → Some f ≡ first_fault (own_rules file (is_some known) h)
     → with_front front (walk file known (headers_from file place (count - i))) ≡ total
     → record { loads = front; note = known; fault = Some f } ≡ total
@@ -45,7 +45,7 @@ fault_ends front file known count i place h f total lt here breaks so_far =
     = walk_from file known count i place lt ∙ rw (← here, ← breaks) refl in
     ap (λ (hs : List ProgramHeader). record { loads = hs; note = known; fault = Some f }) (sym (append-nil front)) ∙ sym (ap (with_front front) one) ∙ so_far
 
--- The loop over the headers ends after the last one.
+-- The loop over the program headers ends after the last one.
 pub is_done : (front : List ProgramHeader) (file : List ℕ) (known : Option (ℕ × ℕ)) (count i place : ℕ) (total : Walk) → count ≤ i
     → with_front front (walk file known (headers_from file place (count - i))) ≡ total
     → record { loads = front; note = known; fault = None } ≡ total

@@ -1,4 +1,4 @@
--- The writer's loop over the segments, and the headers of both kinds.
+-- The writer's loop over the segments, and the program headers of segments and of the note.
 use Rattle.std.proofs.Common.{◌≡◌, ℕ, ◌+◌, ◌^◌, ◌<◌, List, [], ◌∷◌, ◌++◌, length, map, get_or, drop, All, refl, sym, ap, subst, ◌∙◌, append_assoc, add-one, drop-cons}
 use Rattle.std.specs.List.{flat_map}
 use Rattle.std.proofs.lemmas.List.Concat.{flat_map-cons}
@@ -9,7 +9,7 @@ use Rattle.cyc_elf.specs.Image.{segment_contents, padded}
 use Rattle.cyc_elf.specs.Layout.{program_header, header_of, headers_of, bytes_end}
 use Rattle.cyc_elf.specs.inside.Parts.{IsInWords}
 
--- The remaining headers, from the segment at an index on.
+-- Returns the program headers still to be written, from the segment at an index on.
 abbrev pub headers_left : (offset i : ℕ) → List Segment → List ProgramHeader
 headers_left offset i xs = headers_of offset (map segment_contents (drop i xs))
 
@@ -19,21 +19,21 @@ headers_left-at xs i offset x lt here =
     let split : drop i xs ≡ x ∷ drop (i + 1) xs = rw add-one (drop-cons xs i x lt ∙ rw (← here) refl) in
     ap (λ (ys : List Segment). headers_of offset (map segment_contents ys)) split
 
--- The end of the bytes, from the segment at an index on.
+-- The end of the segments' bytes, from the segment at an index on, is computed after adding that segment's padded length.
 pub bytes_end-at : (xs : List Segment) (i offset : ℕ) (x : Segment) → i < length xs → x ≡ get_or xs i x
     → bytes_end offset (map segment_contents (drop i xs)) ≡ bytes_end (offset + padded (length x.bytes.items)) (map segment_contents (drop (i + 1) xs))
 bytes_end-at xs i offset x lt here =
     let split : drop i xs ≡ x ∷ drop (i + 1) xs = rw add-one (drop-cons xs i x lt ∙ rw (← here) refl) in
     ap (λ (ys : List Segment). bytes_end offset (map segment_contents ys)) split
 
--- The invariant with `rest` as the remaining headers: their offsets fit, they complete the written bytes, and the numbers of the written
--- ones fit.
+-- Says that `rest` are the headers still to be written: their offsets fit, they complete the written bytes, and the numbers in the
+-- written headers fit.
 pub record IsAt (out start : List ℕ) (rest whole : List ProgramHeader) : Type 0 where
   pub fit : All (λ h. h.offset < 2 ^ 32) rest
   pub bytes : out ++ flat_map program_header rest ≡ start ++ flat_map program_header whole
   pub words : All IsInWords rest → All IsInWords whole
 
--- Writing one more header keeps the loop's invariant.
+-- Writing one more header keeps the invariant of the writer's loop.
 pub is_at_next : (out after start : List ℕ) (h : ProgramHeader) (rest rest' whole : List ProgramHeader) → rest ≡ h ∷ rest' → after ≡ out ++ program_header h → IsInWords h → IsAt out start rest whole → IsAt after start rest' whole
 is_at_next out after start h rest rest' whole split put fits at =
     let fit : All (λ g. g.offset < 2 ^ 32) (h ∷ rest') = subst (All (λ g. g.offset < 2 ^ 32)) split at.fit in
@@ -47,7 +47,7 @@ is_at_next out after start h rest rest' whole split put fits at =
       words = λ all. at.words (subst (All IsInWords) (sym split) (All-cons IsInWords h rest' fits all));
     }
 
--- The offset of the next segment's bytes fits its field.
+-- The file offset of the next segment's bytes fits its header field.
 pub offset_fits : (out start : List ℕ) (h : ProgramHeader) (rest rest' whole : List ProgramHeader) → rest ≡ h ∷ rest' → IsAt out start rest whole → h.offset < 2 ^ 32
 offset_fits out start h rest rest' whole split at =
     All-head (λ g. g.offset < 2 ^ 32) h rest' (subst (All (λ g. g.offset < 2 ^ 32)) split at.fit)

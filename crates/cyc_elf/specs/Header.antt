@@ -1,5 +1,5 @@
--- The fields of the file header and of a program header, by offset and width. (System V ABI, chapter 4, "ELF Header", and chapter 5,
--- "Program Header", for 32-bit objects. The ABI's names are given in comments.)
+-- The fields of the file header and of a program header, each given by offset and width. (System V ABI, chapter 4, "ELF Header", and
+-- chapter 5, "Program Header", for 32-bit objects. The ABI's names are given in comments.)
 use Rattle.std.specs.Prelude.{ℕ, zero, suc, ◌+◌, List, [], ◌∷◌, drop}
 use Rattle.byteorder.specs.Endian.{big_number}
 
@@ -16,7 +16,7 @@ ident = 127 ∷ 69 ∷ 76 ∷ 70 ∷ 1 ∷ 2 ∷ 1 ∷ []
 abbrev pub file_header_size : ℕ
 file_header_size = 52
 
--- `e_type`, `e_machine` and `e_version`.
+-- The fields `e_type`, `e_machine` and `e_version` of the file header.
 abbrev pub object_type : List ℕ → ℕ
 object_type = field 2 16
 
@@ -26,7 +26,7 @@ machine = field 2 18
 abbrev pub version : List ℕ → ℕ
 version = field 4 20
 
--- `e_entry`: the address of the first instruction.
+-- The field `e_entry` of the file header: the address of the first instruction.
 abbrev pub entry : List ℕ → ℕ
 entry = field 4 24
 
@@ -45,8 +45,8 @@ header_count = field 2 44
 abbrev pub program_header_size : ℕ
 program_header_size = 32
 
--- The fields that the reader uses: `p_type`, `p_offset`, `p_vaddr`, `p_filesz`, `p_memsz` and `p_flags`. (`p_paddr` and `p_align` are at
--- the offsets 12 and 28.)
+-- The program header's fields that the reader uses: `p_type`, `p_offset`, `p_vaddr`, `p_filesz`, `p_memsz` and `p_flags`. (`p_paddr` and
+-- `p_align` are at the offsets 12 and 28.)
 pub record ProgramHeader : Type 0 where
   pub kind : ℕ
   pub offset : ℕ
@@ -55,7 +55,7 @@ pub record ProgramHeader : Type 0 where
   pub memory_size : ℕ
   pub flags : ℕ
 
--- The program header at an offset in the file.
+-- Returns the program header at an offset in the file.
 unfoldable pub program_header_at : List ℕ → ℕ → ProgramHeader
 program_header_at file place = record {
   kind = field 4 place file;
@@ -66,11 +66,11 @@ program_header_at file place = record {
   flags = field 4 (place + 24) file;
 }
 
--- The `count` consecutive program headers from an offset on.
+-- Returns the `count` consecutive program headers from an offset on.
 unfoldable pub headers_from : List ℕ → (place count : ℕ) → List ProgramHeader
 headers_from file place zero = []
 headers_from file place (suc count) = program_header_at file place ∷ headers_from file (place + program_header_size) count
 
--- The file's table of program headers.
+-- Returns the file's table of program headers.
 abbrev pub program_headers : List ℕ → List ProgramHeader
 program_headers file = headers_from file (table_offset file) (header_count file)

@@ -1,4 +1,4 @@
--- the definitions that the contracts of `read_image`, `read_outline` and `write_image` rest on
+-- The definitions that the contracts of `read_image`, `read_outline` and `write_image` depend on.
 pub mod Header
 pub mod Note
 pub mod Image
@@ -6,6 +6,6 @@ pub mod Reading
 pub mod Outline
 pub mod Layout
 pub mod Fault
--- Contracts between this crate's functions, and statements of its proofs. No public contract of the product depends on these internal
--- definitions.
+-- Contracts between the functions of the crate `cyc_elf`, and statements of its proofs. No public contract of the product depends on
+-- these internal definitions.
 pub mod inside

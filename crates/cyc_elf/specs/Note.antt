@@ -5,9 +5,9 @@ use Rattle.std.specs.List.{starts_with}
 use Rattle.cyc_elf.specs.declared.note.TheConstants.{MIN_PAGES, MAX_PAGES, MIN_CALLS, MAX_CALLS}
 use Rattle.cyc_elf.specs.Header.{field, ProgramHeader}
 
--- The bytes of a note. First the size of the owner's name, the size of the description, and the type, of four bytes each. The size fields
--- are followed by the name, "Cyclone" and a zero. The name is followed by the description: the most pages of the store and the most calls
--- of a run, of four bytes each.
+-- The bytes of a note. A note begins with the size of the owner's name, the size of the description, and the type, of four bytes each.
+-- The size fields and the type are followed by the name, "Cyclone" and a zero. The name is followed by the description: the maximal
+-- number of pages of the store and of calls of a run, of four bytes each.
 abbrev pub note_name : List ℕ
 note_name = 67 ∷ 121 ∷ 99 ∷ 108 ∷ 111 ∷ 110 ∷ 101 ∷ 0 ∷ []
 
@@ -20,27 +20,27 @@ description_size = 8
 abbrev pub note_type : ℕ
 note_type = 1
 
--- The number of bytes of a note up to the end of the name, and in all.
+-- The number of bytes of a note up to the end of the name, and the number of bytes of the whole note.
 abbrev pub named_size : ℕ
 named_size = 20
 
 abbrev pub note_size : ℕ
 note_size = 28
 
--- The bytes at an offset begin like a note whose owner has this name.
+-- Returns true if the bytes at an offset begin like a note whose owner has the name "Cyclone".
 unfoldable pub is_named : List ℕ → (offset : ℕ) → Bool
 is_named file offset = field 4 offset file == name_size && starts_with nat_eq (drop (offset + 12) file) note_name
 
--- The pages and calls of a note at an offset.
+-- Returns the numbers of pages and calls that the note at an offset states.
 unfoldable pub limits_at : List ℕ → (offset : ℕ) → ℕ × ℕ
 limits_at file offset = (field 4 (offset + 20) file, field 4 (offset + 24) file)
 
--- A program header describes a note with limits: its bytes lie in the file, reach at least to the end of the name, and begin like a note of
--- this owner. A note of another owner is not one.
+-- Returns true if a program header describes a note with limits: its bytes lie in the file, reach at least to the end of the name, and
+-- begin like a note of the owner "Cyclone". A note of another owner is not a note with limits.
 unfoldable pub is_note : List ℕ → ProgramHeader → Bool
 is_note file h = h.kind == 4 && nat_le named_size h.file_size && nat_le (h.offset + h.file_size) (length file) && is_named file h.offset
 
--- Pages and calls are in their ranges, as a test and as a proposition.
+-- Says that the numbers of pages and calls are in their ranges, as a test and as a proposition.
 abbrev pub are_limits : ℕ × ℕ → Bool
 are_limits limits = nat_le MIN_PAGES limits.0 && nat_le limits.0 MAX_PAGES && nat_le MIN_CALLS limits.1 && nat_le limits.1 MAX_CALLS
 

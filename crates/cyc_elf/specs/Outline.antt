@@ -9,7 +9,7 @@ use Rattle.cyc_elf.specs.Header.{ProgramHeader}
 use Rattle.cyc_elf.specs.Image.{ImageContents}
 use Rattle.cyc_elf.specs.Reading.{segment_of}
 
--- A program header as the code stores it.
+-- Returns the specification's program header for one that the code stores.
 abbrev pub fields_of : raw.ProgramHeader → ProgramHeader
 fields_of h = record {
   kind = h.kind;
@@ -20,11 +20,11 @@ fields_of h = record {
   flags = h.flags;
 }
 
--- The image of an outline and the file that it belongs to.
+-- Returns the image that an outline and its file describe together.
 abbrev pub outlined : List ℕ → Outline → ImageContents
 outlined file o = record { entry = o.entry; segments = map (segment_of file) (map fields_of o.loads.items); note = o.note }
 
--- The result of reading a file's headers agrees with what the file denotes (`read`), unless memory ran out.
+-- Says that the result of reading a file's headers agrees with the image or fault that the file denotes (`read`), unless memory ran out.
 abbrev pub Outlines : List ℕ → Result Outline ElfFault → Result ImageContents ElfFault → Type 0
 Outlines file (Ok outline) read = read ≡ Ok (outlined file outline)
 Outlines file (Err faults.Memory) read = Unit {0}

@@ -10,7 +10,7 @@ use Rattle.cyc_elf.specs.Note.{description_size, note_type, note_size, limits_at
 use Rattle.cyc_elf.specs.declared.image.Image.{Image}
 use Rattle.cyc_elf.specs.Image.{SegmentContents, ImageContents, contents_of}
 
--- A rule of the format: whether the file violates it, and the fault to report.
+-- A rule of the format: `is_broken` says whether the file violates the rule, and the fault is the one to report.
 pub record Rule : Type 0 where
   pub is_broken : Bool
   pub fault : ElfFault
@@ -18,13 +18,13 @@ pub record Rule : Type 0 where
 abbrev pub broken : Bool → ElfFault → Rule
 broken b f = record { is_broken = b; fault = f }
 
--- The fault of the first violated rule, if any.
+-- Returns the fault of the first violated rule, if any.
 abbrev pub first_fault : List Rule → Option ElfFault
 first_fault [] = None
 first_fault (r ∷ rest) = if r.is_broken then Some r.fault else first_fault rest
 
--- The rules of the file header: it exists, belongs to a 32-bit, big-endian executable for MIPS, and the table of program headers lies in
--- the file. The fields of the file header that no rule names may have any value.
+-- The rules of the file header: the file has one, it is that of a 32-bit, big-endian executable for MIPS, and the table of program
+-- headers lies in the file. The fields of the file header that no rule names may have any value.
 unfoldable pub file_rules : List ℕ → List Rule
 file_rules file =
     broken (nat_lt (length file) file_header_size) faults.Truncated
@@ -36,26 +36,26 @@ file_rules file =
     ∷ broken (nat_lt (length file) (table_offset file + program_header_size * header_count file)) faults.Truncated
     ∷ []
 
--- The kinds of program headers that matter besides notes: `PT_LOAD` and `PT_INTERP`.
+-- Recognizes the kinds of program headers that matter besides notes: `PT_LOAD` and `PT_INTERP`.
 abbrev pub is_load : ProgramHeader → Bool
 is_load h = h.kind == 1
 
 abbrev pub is_interpreter : ProgramHeader → Bool
 is_interpreter h = h.kind == 3
 
--- The loadable headers, which describe segments.
+-- Returns the loadable headers, which describe segments.
 abbrev pub loads : List ProgramHeader → List ProgramHeader
 loads = filter is_load
 
--- The segment of this program header contains this address.
+-- Returns true if the segment of a program header contains an address.
 abbrev pub covers : ProgramHeader → ℕ → Bool
 covers h address = nat_le h.vaddr address && nat_lt address (h.vaddr + h.memory_size)
 
--- Two segments share an address: the later of their starts is before the earlier of their ends.
+-- Returns true if two segments share an address: the later of their starts is before the earlier of their ends.
 abbrev pub overlap : ProgramHeader → ProgramHeader → Bool
 overlap g h = nat_lt (max g.vaddr h.vaddr) (min (g.vaddr + g.memory_size) (h.vaddr + h.memory_size))
 
--- The rules of a loadable program header of a file of `len` bytes: it has no more bytes in the file than in memory, ends within the address
+-- The rules of a loadable program header in a file of `len` bytes: it has no more bytes in the file than in memory, ends within the address
 -- space, begins at a word, and its bytes are in the file.
 abbrev pub load_rules : ℕ → ProgramHeader → List Rule
 load_rules len h =
@@ -65,8 +65,8 @@ load_rules len h =
     ∷ broken (nat_lt len (h.offset + h.file_size)) faults.Truncated
     ∷ []
 
--- The rules of a note with limits: it is complete, describes two words, has its owner's type 1, its limits are in their ranges, and it is
--- the first such note.
+-- The rules of a note with limits: the note is complete, describes two words, has the type 1, its limits are in their ranges, and no such
+-- note came before it.
 abbrev pub note_rules : List ℕ → (noted : Bool) → ProgramHeader → List Rule
 note_rules file noted h =
     broken (nat_lt h.file_size note_size) faults.BadSegment
@@ -76,8 +76,8 @@ note_rules file noted h =
     ∷ broken noted faults.BadSegment
     ∷ []
 
--- The rules of a single program header, given whether a note came before: it requests no interpreter. Other kinds and other notes are
--- ignored.
+-- The rules of a single program header, given whether a note came before it. One rule is that the header requests no interpreter.
+-- Headers of other kinds and other notes are ignored.
 unfoldable pub own_rules : List ℕ → (noted : Bool) → ProgramHeader → List Rule
 own_rules file noted h =
     if is_interpreter h
@@ -88,17 +88,17 @@ own_rules file noted h =
     then note_rules file noted h
     else []))
 
--- The rule between a program header and those before it: no two loadable ones overlap.
+-- The rule between a program header and the headers before it: no two loadable headers overlap.
 abbrev pub overlap_rule : List ProgramHeader → ProgramHeader → Rule
 overlap_rule earlier h = broken (is_load h && list_any (overlap h) (loads earlier)) faults.BadSegment
 
--- The rules of a list of program headers, in order, each with those before it.
+-- The rules of a list of program headers, in order; each header is also checked against the headers before it.
 abbrev pub table_rules : List ℕ → (earlier headers : List ProgramHeader) → List Rule
 table_rules file earlier [] = []
 table_rules file earlier (h ∷ rest) =
     own_rules file (list_any (is_note file) earlier) h ++ overlap_rule earlier h ∷ table_rules file (earlier ++ h ∷ []) rest
 
--- The entry is the address of a word in one of the segments.
+-- The rule of the entry: it is the address of a word in one of the segments.
 unfoldable pub entry_rules : List ProgramHeader → ℕ → List Rule
 entry_rules headers address =
     broken (not (list_any (λ h. covers h address) (loads headers))) faults.BadEntry
@@ -112,7 +112,7 @@ rules file =
     ++ table_rules file [] (program_headers file)
     ++ entry_rules (program_headers file) (entry file)
 
--- The segment that a program header describes, with its bytes from the file.
+-- Returns the segment that a program header describes, with its bytes from the file.
 abbrev pub segment_of : List ℕ → ProgramHeader → SegmentContents
 segment_of file h = record {
   vaddr = h.vaddr;
@@ -121,12 +121,12 @@ segment_of file h = record {
   size = h.memory_size;
 }
 
--- The limits of the first note among program headers.
+-- Returns the limits of the first note among program headers.
 abbrev pub note_among : List ℕ → List ProgramHeader → Option (ℕ × ℕ)
 note_among file [] = None
 note_among file (h ∷ rest) = if is_note file h then Some (limits_at file h.offset) else note_among file rest
 
--- The image that the file's fields describe.
+-- Returns the image that the file's fields describe.
 abbrev pub named_image : List ℕ → ImageContents
 named_image file = record {
   entry = entry file;
@@ -138,11 +138,11 @@ abbrev pub unless : Option ElfFault → ImageContents → Result ImageContents E
 unless (Some f) image = Err f
 unless None image = Ok image
 
--- The image that a file denotes, or the fault of the first violated rule.
+-- Returns the image that a file denotes, or the fault of the first violated rule.
 unfoldable pub reading : List ℕ → Result ImageContents ElfFault
 reading file = unless (first_fault (rules file)) (named_image file)
 
--- The result of the reader agrees with what a file denotes (`read`), unless memory ran out.
+-- Says that the result of the reader agrees with the image or fault that the file denotes (`read`), unless memory ran out.
 abbrev pub Answers : Result Image ElfFault → Result ImageContents ElfFault → Type 0
 Answers (Ok image) read = read ≡ Ok (contents_of image)
 Answers (Err faults.Memory) read = Unit {0}

@@ -1,2 +1,2 @@
--- the contracts between the functions inside the crate
+-- The contracts between the functions inside the crate `cyc_elf`.
 pub mod Parts

@@ -6,16 +6,16 @@ ghost use Rattle.cyc_elf.specs.declared.fault.ElfFault.TheVariants.{Memory};
 use std::alloc::{AllocError, AllocFailed};
 use thiserror::Error;
 
-/// The reason why a file is not an image, or that memory ran out.
+/// The reason why a file is not an image, or the fact that memory ran out.
 #[derive(Clone, Copy, Debug, PartialEq, Eq, Error)]
 pub enum ElfFault {
-    /// The file ends before a part that its headers refer to.
+    /// The file ends before the end of a part that the file's headers refer to.
     #[error("the file is cut short")]
     Truncated,
     /// The file does not begin like a 32-bit, big-endian ELF file.
     #[error("not a 32-bit big-endian ELF file")]
     NotElf32Big,
-    /// The file is not an executable, not for MIPS, or of another version.
+    /// The file is not an executable, is not for MIPS, or has another version of the format.
     #[error("not an executable for MIPS")]
     NotMipsExec,
     /// The size of a program header, or a loadable segment, violates the rules of the format.
@@ -24,7 +24,7 @@ pub enum ElfFault {
     /// The file requests a program interpreter, as dynamically linked programs do.
     #[error("the file asks for an interpreter")]
     Interp,
-    /// The entry is in no segment, or is no multiple of 4.
+    /// The entry address lies in no segment, or is not a multiple of 4.
     #[error("the entry is not an instruction's address")]
     BadEntry,
     /// Memory ran out.
@@ -35,7 +35,7 @@ pub enum ElfFault {
 impl ElfFault {
     ghost use Rattle.cyc_elf.specs.Fault.{number_of};
 
-    /// Returns the number of the fault in a program's messages, from 1 to 7.
+    /// Returns the number of a file's fault in a program's messages, from 1 to 7.
     pub fn number(self) -> u32
         ensures { result ≡ number_of self }
     {

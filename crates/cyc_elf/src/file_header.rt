@@ -1,4 +1,4 @@
-//! Reads the header at the start of the file.
+//! Reads the file header, which stands at the start of the file.
 
 ghost use Rattle.std.specs.Prelude.{◌≡◌, ◌+◌, ◌*◌, ◌≤◌, length, None, Some, IfOk, MatchResult};
 ghost use Rattle.cyc_elf.specs.Header.{entry, table_offset, header_count, program_header_size};
@@ -7,7 +7,7 @@ ghost use Rattle.cyc_elf.specs.Reading.{first_fault, file_rules};
 use crate::fault::ElfFault;
 use crate::fields::{half_at, word_at};
 
-/// The magic number, then 32-bit, most significant byte first, version 1.
+/// The first bytes of an ELF file: the magic number, then 32-bit, most significant byte first, version 1.
 pub const IDENT: [u8; 7] = [0x7f, b'E', b'L', b'F', 1, 2, 1];
 
 /// The size of the file header in bytes.
@@ -16,13 +16,13 @@ pub const FILE_HEADER_SIZE: usize = 52;
 /// The size of a program header in bytes.
 pub const PROGRAM_HEADER_SIZE: usize = 32;
 
-/// The type of an executable.
+/// The number that marks an executable as the file's type.
 pub const EXECUTABLE: u16 = 2;
 
-/// The number of MIPS among machines.
+/// The number that stands for MIPS in the file header's field for the machine.
 pub const MIPS: u16 = 8;
 
-/// The version of the format.
+/// The version of the ELF format.
 pub const VERSION: u32 = 1;
 
 /// The fields of the file header that the reader needs: the entry, and the position of the table of program headers.

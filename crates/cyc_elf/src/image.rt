@@ -1,4 +1,4 @@
-//! An image in memory.
+//! An executable image in memory, which consists of segments and an entry.
 
 /// A loadable segment of an image.
 ///
@@ -6,23 +6,24 @@
 /// other bytes are 0. The zeros are not stored, so a short file cannot require much memory by a large `size`.
 #[derive(Debug, PartialEq, Eq, Drop)]
 pub struct Segment {
-    /// The address of the first byte.
+    /// The address of the segment's first byte.
     pub vaddr: u32,
     /// The header's flags: 1 execute, 2 write, 4 read.
     pub flags: u32,
-    /// The bytes stored in the file.
+    /// The segment's bytes that are stored in the file.
     pub bytes: Vec<u8>,
-    /// The size of the segment in memory, in bytes, as the program header gives it.
+    /// The size of the segment in memory, in bytes, as the program header states it.
     pub size: u32,
 }
 
 /// An executable image: its entry, its segments in the order of their headers, and its limits.
 #[derive(Debug, PartialEq, Eq, Drop)]
 pub struct Image {
-    /// The address of the first instruction.
+    /// The address of the image's first instruction.
     pub entry: u32,
-    /// The segments, in the order of their program headers.
+    /// The segments of the image, in the order of their program headers.
     pub segments: Vec<Segment>,
-    /// The number of pages of a run's store, from 3 to 65,536, and the most calls at once, from 1 to 4,096, if the image contains them.
+    /// The limits of runs, if the image states them: the number of pages of the store, from 3 to 65,536, and the maximal number of
+    /// simultaneous calls, from 1 to 4,096.
     pub note: Option<(u32, u32)>,
 }

@@ -6,37 +6,37 @@ ghost use Rattle.cyc_elf.specs.Note.{named_size, note_size, description_size, no
 
 use crate::fields::word_at;
 
-/// The owner's name, with its terminating zero byte.
+/// The name of the note's owner, with its terminating zero byte.
 pub const NAME: [u8; 8] = [b'C', b'y', b'c', b'l', b'o', b'n', b'e', 0];
 
-/// The size of the name in bytes.
+/// The size of the owner's name in bytes, with its terminating zero.
 pub const NAME_SIZE: u32 = 8;
 
 /// The size of a note's description in bytes: two words.
 pub const DESCRIPTION_SIZE: u32 = 8;
 
-/// The type of the note among the notes of its owner.
+/// The type that distinguishes the note with limits from other notes of its owner.
 pub const NOTE_TYPE: u32 = 1;
 
-/// The number of bytes of a note up to the end of the name.
+/// The number of bytes of a note up to the end of the owner's name.
 pub const NAMED_SIZE: usize = 20;
 
-/// The number of bytes of a note.
+/// The number of bytes of a note with limits.
 pub const NOTE_SIZE: usize = 28;
 
-/// The fewest pages that a note may specify.
+/// The smallest number of pages that a note may specify.
 pub const MIN_PAGES: u32 = 3;
 
-/// The most pages that a note may specify.
+/// The greatest number of pages that a note may specify.
 pub const MAX_PAGES: u32 = 65_536;
 
-/// The fewest calls that a note may specify.
+/// The smallest number of simultaneous calls that a note may specify.
 pub const MIN_CALLS: u32 = 1;
 
-/// The most calls that a note may specify.
+/// The greatest number of simultaneous calls that a note may specify.
 pub const MAX_CALLS: u32 = 4096;
 
-/// Returns true if the bytes at `start` begin like a note with this owner.
+/// Returns true if the bytes at `start` begin like a note of the owner `NAME`.
 #[tactic(auto, unfolding(crate::specs::Note::is_named))]
 pub fn is_named(file: &[u8], start: usize) -> bool
     requires { start + named_size ≤ length file.now }
@@ -45,7 +45,7 @@ pub fn is_named(file: &[u8], start: usize) -> bool
     word_at(file, start) == NAME_SIZE && file[start + 12..].starts_with(&NAME)
 }
 
-/// Returns the pages and the calls of the note at `start`.
+/// Returns the numbers of pages and calls that the note at `start` specifies.
 #[tactic(auto, unfolding(crate::specs::Note::limits_at))]
 pub fn limits_at(file: &[u8], start: usize) -> (u32, u32)
     requires { start + note_size ≤ length file.now }
@@ -54,7 +54,7 @@ pub fn limits_at(file: &[u8], start: usize) -> (u32, u32)
     (word_at(file, start + 20), word_at(file, start + 24))
 }
 
-/// Returns true if pages and calls are in their ranges.
+/// Returns true if the numbers of pages and calls are in their ranges.
 fn are_limits(limits: (u32, u32)) -> bool
     ensures { result ≡ are_limits limits }
 {
@@ -62,7 +62,8 @@ fn are_limits(limits: (u32, u32)) -> bool
     MIN_PAGES <= pages && pages <= MAX_PAGES && MIN_CALLS <= calls && calls <= MAX_CALLS
 }
 
-/// Returns true if the note of `size` bytes at `start` satisfies the rules of a note with limits, except that it must be the first.
+/// Returns true if the note of `size` bytes at `start` satisfies the rules of a note with limits. The rule that the note must be
+/// the first one is not checked.
 pub fn keeps_rules(file: &[u8], start: usize, size: usize) -> bool
     requires { start + size ≤ length file.now }
     ensures { result ≡ (not (nat_lt size note_size) && (field 4 (start + 4) file.now == description_size)

@@ -1,4 +1,4 @@
-//! The image of a file, as described by its headers.
+//! The outline of a file: the image as its headers describe it.
 
 ghost use Rattle.std.specs.Prelude.{◌≡◌, ◌+◌, ◌≤◌, All, IfOk, length};
 ghost use Rattle.cyc_elf.specs.Image.{contents_of};
@@ -13,16 +13,16 @@ use std::alloc::{AllocError, Global};
 /// the table of program headers, whatever the size of the segments.
 #[derive(Drop)]
 pub struct Outline {
-    /// The address of the first instruction.
+    /// The address of the image's first instruction.
     pub entry: u32,
-    /// The loadable program headers, in their order.
+    /// The loadable program headers, in the order of the file.
     pub loads: Vec<ProgramHeader>,
-    /// The pages and the calls of a run, as in an `Image`.
+    /// The maximal numbers of pages and of calls of a run, as in an `Image`.
     pub note: Option<(u32, u32)>,
 }
 
 impl Outline {
-    /// Returns the image, with the bytes of each segment copied from the file.
+    /// Returns the image that the outline describes, with the bytes of each segment copied from the file.
     pub fn image(&self, alloc: Global, file: &[u8]) -> Result<Image, AllocError>
         requires { All (λ h. h.offset + h.file_size ≤ length file.now) self.now.loads.items }
         ensures { IfOk result (λ image. contents_of image ≡ outlined file.now self.now) }

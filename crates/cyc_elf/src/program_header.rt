@@ -19,10 +19,10 @@ const INTERPRETER: u32 = 3;
 
 const NOTE: u32 = 4;
 
-/// The flag of a readable segment.
+/// The flag that marks a segment as readable.
 const READ: u32 = 4;
 
-/// The end of the address space.
+/// The number of addresses of the 32-bit address space, which is the address just past it.
 const ADDRESSES: u64 = 1 << 32;
 
 /// The fields of a program header that the reader uses.
@@ -60,7 +60,7 @@ impl ProgramHeader {
         requires { length segment.now.bytes.items ≤ segment.now.size }
         ensures { fields_of result ≡ header_of offset (segment_contents segment.now) }
     {
-        // The read of the header comes before its checks, since it bounds the number of bytes.
+        // The code reads the size before the header is built, because that read makes the bound on the number of bytes known to the proof.
         let _size = segment.size;
         ProgramHeader {
             kind: LOAD,
@@ -87,29 +87,29 @@ impl ProgramHeader {
         }
     }
 
-    /// Returns true if the header describes a segment.
+    /// Returns true if the program header describes a loadable segment.
     pub(crate) fn is_load(&self) -> bool
         ensures { result ≡ is_load (fields_of self.now) }
     {
         self.kind == LOAD
     }
 
-    /// Returns the address after the segment.
+    /// Returns the address just after the segment.
     pub(crate) fn end(&self) -> u64
         ensures { result ≡ self.now.vaddr + self.now.memory_size }
     {
         u64::from(self.vaddr) + u64::from(self.memory_size)
     }
 
-    /// Returns true if an address is in the segment.
+    /// Returns true if an address is in the header's segment.
     pub(crate) fn covers(&self, address: u32) -> bool
         ensures { result ≡ covers (fields_of self.now) address }
     {
         self.vaddr <= address && u64::from(address) < self.end()
     }
 
-    /// Returns true if the header describes a note with limits. A note of another owner does not count, nor one whose bytes are not in the
-    /// file.
+    /// Returns true if the header describes a note with limits. A note of another owner is not a note with limits, nor is one whose bytes
+    /// are not in the file.
     #[tactic(auto, unfolding(crate::specs::Note::is_note))]
     pub(crate) fn is_note(&self, file: &[u8]) -> bool
         ensures { result ≡ is_note file.now (fields_of self.now) }
@@ -134,7 +134,7 @@ impl ProgramHeader {
         None
     }
 
-    /// Returns the fault of the first rule that the single header violates, given whether a note came before.
+    /// Returns the fault of the first rule that a single header violates, given whether a note came before it.
     #[tactic(auto, unfolding(crate::specs::Reading::own_rules, crate::specs::Note::is_note))]
     pub(crate) fn own_fault(&self, file: &[u8], noted: bool) -> Option<ElfFault>
         ensures { result ≡ first_fault (own_rules file.now noted (fields_of self.now)) }

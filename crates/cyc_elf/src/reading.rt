@@ -30,12 +30,12 @@ fn is_entry(loads: &[ProgramHeader], address: u32) -> bool
 
 /// Reads the headers of a file without copying any byte of a segment.
 ///
-/// The whole table of program headers is checked. Reading a file needs at most a small multiple of the file's length of memory, whatever
-/// its headers contain, valid or not.
+/// The reader checks the whole table of program headers. Reading a file needs at most a small multiple of the file's length of memory,
+/// no matter what its headers contain.
 pub fn read_outline(alloc: Global, file: &[u8]) -> Result<Outline, ElfFault>
     // The result is the outline of the image that the file denotes, or the fault of the first violated rule.
     ensures exact { Outlines file.now result (reading file.now) }
-    // An image that is read is well-formed, and all of its bytes are in the file.
+    // An image that the reader returns is well-formed, and all of its bytes are in the file.
     ensures well_formed { IfOk result (λ outline. IsWellFormed (outlined file.now outline)) }
     ensures stored { IfOk result (λ outline. All (λ h. h.offset + h.file_size ≤ length file.now) outline.loads.items) }
 {
@@ -59,13 +59,14 @@ pub fn read_outline(alloc: Global, file: &[u8]) -> Result<Outline, ElfFault>
 
 /// Reads an image from the bytes of a file.
 ///
-/// The whole table of program headers is checked before any segment is copied, and the zeros past a segment's bytes are not stored. A
-/// rejected file needs at most a small multiple of its own length of memory. An accepted one needs in addition the bytes that its segments
-/// refer to, together at most 4 GiB, since segments are disjoint. A caller that accepts fewer images can check their outlines first.
+/// The reader checks the whole table of program headers before it copies any segment, and does not store the zeros past a segment's bytes.
+/// A rejected file needs at most a small multiple of its own length of memory. An accepted file needs in addition the bytes that its
+/// segments refer to, together at most 4 GiB, since segments are disjoint. A caller that accepts fewer images can check their outlines
+/// first.
 pub fn read_image(alloc: Global, file: &[u8]) -> Result<Image, ElfFault>
     // The result is the image that the file denotes, or the fault of the first violated rule.
     ensures exact { Answers result (reading file.now) }
-    // An image that is read is well-formed.
+    // An image that the reader returns is well-formed.
     ensures well_formed { IfOk result (λ image. IsWellFormed (contents_of image)) }
 {
     let outline = read_outline(alloc, file)?;

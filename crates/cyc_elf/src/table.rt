@@ -1,4 +1,4 @@
-//! Walks over the table of program headers and checks that segments are disjoint.
+//! Traverses the table of program headers, and checks that segments are disjoint.
 
 ghost use Rattle.std.specs.Prelude.{◌≡◌, ◌+◌, ◌*◌, ◌≤◌, true, [], None, length, map, All, IfOk};
 ghost use Rattle.std.specs.List.Sorted.{IsPermutation, IsNonDecreasingBy};
@@ -16,7 +16,8 @@ use crate::note::limits_at;
 use crate::program_header::ProgramHeader;
 use std::alloc::{AllocError, Global};
 
-/// The loadable headers and the note's limits found before the first single header that violates a rule, and the fault of that header.
+/// The result of traversing the headers: the loadable headers and the note's limits found before the first single header that violates
+/// a rule, and the fault of that header.
 #[derive(Drop)]
 pub struct Walk {
     pub loads: Vec<ProgramHeader>,
@@ -35,7 +36,7 @@ fn noted(file: &[u8], header: ProgramHeader, known: Option<(u32, u32)>) -> Optio
     known
 }
 
-/// Walks over the `count` program headers from offset `table` on.
+/// Traverses the `count` program headers from the offset `table` on.
 pub fn walk_table(alloc: Global, file: &[u8], table: u32, count: u16) -> Result<Walk, AllocError>
     requires { table + program_header_size * count ≤ length file.now }
     ensures { IfOk result (λ w. walk_of w ≡ walk file.now None (headers_from file.now table count)) }
@@ -65,7 +66,7 @@ pub fn walk_table(alloc: Global, file: &[u8], table: u32, count: u16) -> Result<
     })
 }
 
-/// Returns the headers in the order of their addresses.
+/// Returns the headers sorted by their addresses.
 fn sorted_by_address(
     alloc: Global,
     loads: &[ProgramHeader],
@@ -78,7 +79,7 @@ fn sorted_by_address(
     Ok(sorted)
 }
 
-/// Returns true if each header with memory begins at or after the end of the one before it.
+/// Returns true if each header with memory begins at or after the end of the previous one.
 fn in_order(sorted: &[ProgramHeader]) -> bool
     ensures { result ≡ in_order 0 (map fields_of sorted.now) }
 {
@@ -97,7 +98,7 @@ fn in_order(sorted: &[ProgramHeader]) -> bool
 
 /// Returns true if no two of the segments share an address.
 ///
-/// A table may have 65,535 headers, so this sorts them instead of comparing all pairs.
+/// A table may have 65,535 headers, so the function sorts them instead of comparing all pairs.
 pub fn are_apart(alloc: Global, loads: &[ProgramHeader]) -> Result<bool, AllocError>
     ensures { IfOk result (λ apart. apart ≡ are_apart [] (map fields_of loads.now)) }
 {
@@ -120,7 +121,7 @@ fn segment_of(alloc: Global, file: &[u8], header: ProgramHeader) -> Result<Segme
     })
 }
 
-/// Returns the segments that loadable headers describe, in their order.
+/// Returns the segments that loadable headers describe, in the order of the headers.
 pub fn segments_of(
     alloc: Global,
     file: &[u8],

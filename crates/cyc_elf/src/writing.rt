@@ -19,16 +19,16 @@ use std::alloc::{AllocError, Global};
 /// The alignment of a segment, in the file and in memory.
 const ALIGNMENT: u32 = 4;
 
-/// The size of the file header, as a field of that header.
+/// The size of the file header in bytes, as a field of the file header.
 const FILE_HEADER: u16 = 52;
 
-/// The size of a program header, as a field of the file header.
+/// The size of a program header in bytes, as a field of the file header.
 const PROGRAM_HEADER: u16 = 32;
 
-/// The offset of the program headers: directly after the file header.
+/// The file offset of the program headers, which come directly after the file header.
 const TABLE_OFFSET: u32 = 52;
 
-/// Appends numbers of two bytes each.
+/// Appends numbers of two bytes each, most significant byte first.
 fn put_halves(out: &mut Vec<u8>, numbers: &[u16]) -> Result<(), AllocError>
     ensures { OnOk result (out.new.items ≡ out.old.items ++ halves numbers.now) }
 {
@@ -40,7 +40,7 @@ fn put_halves(out: &mut Vec<u8>, numbers: &[u16]) -> Result<(), AllocError>
     Ok(())
 }
 
-/// Appends numbers of four bytes each.
+/// Appends numbers of four bytes each, most significant byte first.
 fn put_words(out: &mut Vec<u8>, numbers: &[u32]) -> Result<(), AllocError>
     ensures { OnOk result (out.new.items ≡ out.old.items ++ words numbers.now) }
 {
@@ -52,7 +52,7 @@ fn put_words(out: &mut Vec<u8>, numbers: &[u32]) -> Result<(), AllocError>
     Ok(())
 }
 
-/// Appends the file header. The fields that point to sections are 0, since there are none.
+/// Appends the file header. The fields that point to sections are 0, since the file has no sections.
 #[tactic(auto, unfolding(crate::specs::Layout::file_header))]
 fn put_file_header(out: &mut Vec<u8>, entry: u32, count: u16) -> Result<(), AllocError>
     ensures bytes { OnOk result (out.new.items ≡ out.old.items ++ file_header entry count) }
@@ -104,7 +104,7 @@ fn put_bytes(out: &mut Vec<u8>, s: &Segment) -> Result<(), AllocError>
     Ok(())
 }
 
-/// Appends the program headers of segments whose bytes begin at `start`, and returns the end of their bytes.
+/// Appends the program headers of segments whose bytes begin at `start`, and returns the file offset just after the segments' bytes.
 fn put_headers(out: &mut Vec<u8>, segments: &[Segment], start: usize) -> Result<usize, AllocError>
     requires each { All (λ s. length s.bytes.items ≤ s.size) segments.now }
     requires offsets { All (λ h. h.offset < 2 ^ 32) (headers_of start (map segment_contents segments.now)) }
@@ -121,7 +121,7 @@ fn put_headers(out: &mut Vec<u8>, segments: &[Segment], start: usize) -> Result<
     Ok(offset)
 }
 
-/// Returns the number of program headers for the limits of an image.
+/// Returns the number of program headers for the limits of an image: 0 or 1.
 fn note_count(note: Option<(u32, u32)>) -> usize
     ensures { result ≡ note_count note }
 {
@@ -131,7 +131,7 @@ fn note_count(note: Option<(u32, u32)>) -> usize
     }
 }
 
-/// Appends the program header of a note whose bytes begin at `offset`, if there are limits.
+/// Appends the program header of a note whose bytes begin at `offset`, if the image has limits.
 fn put_note_header(
     out: &mut Vec<u8>,
     note: Option<(u32, u32)>,
@@ -157,7 +157,7 @@ fn put_note_bytes(out: &mut Vec<u8>, pages: u32, calls: u32) -> Result<(), Alloc
     put_words(out, &[pages, calls])
 }
 
-/// Appends the bytes of a note, if there are limits.
+/// Appends the bytes of a note, if the image has limits.
 fn put_note(out: &mut Vec<u8>, note: Option<(u32, u32)>) -> Result<(), AllocError>
     ensures bytes { OnOk result (out.new.items ≡ out.old.items ++ notes note) }
 {
@@ -178,16 +178,16 @@ fn put_all_bytes(out: &mut Vec<u8>, segments: &[Segment]) -> Result<(), AllocErr
 }
 
 /// Writes an image as a file: the file header, a program header for each segment, and the segments' bytes in order, each padded with zeros
-/// to whole words. If the image has limits, the program header of their note follows the others, and the note's bytes are last. The written
-/// file has no section headers.
+/// to whole words. If the image has limits, the program header of their note follows the other headers, and the note's bytes are last. The
+/// written file has no section headers.
 ///
-/// The file has 52 bytes, 32 for each segment, and each segment's bytes rounded up to words; the zeros past a segment's bytes are not
-/// written. Storing limits takes 60 bytes more.
+/// The written file has 52 bytes, 32 for each segment, and each segment's bytes rounded up to words; the zeros past a segment's bytes
+/// are not written. Storing limits takes 60 bytes more.
 pub fn write_image(alloc: Global, image: &Image) -> Result<Vec<u8>, AllocError>
     requires well_formed { IsWellFormed (contents_of image.now) }
     requires fits { FitsFields (contents_of image.now) }
     ensures exact { IfOk result (λ file. file.items ≡ layout (contents_of image.now)) }
-    // The reader reads the written file as the image that was written.
+    // If the reader reads the written file, it returns the image that was written.
     ensures read_again { IfOk result (λ file. reading file.items ≡ Ok (contents_of image.now)) }
 {
     let mut file = Vec::new(alloc);

@@ -1,5 +1,4 @@
--- Loop invariant of the engine: the instructions executed so far are a run of the machine, on every input that begins with
--- the bytes read.
+-- Loop invariant of the engine: the instructions executed so far are a run of the machine, on every input that begins with the bytes read.
 use Rattle.std.proofs.Common.{◌≡◌, ℕ, zero, suc, ◌+◌, ◌<◌, ◌≤◌, List, [], ◌∷◌, ◌++◌, drop, Bool, true, false, Option, None, Some, Result, Ok, Err, refl, sym, ap, subst, ◌∙◌, arith, append_assoc, append-nil, inl, inr}
 use Rattle.std.specs.Prelude.{unwrap_or, slice_get, MatchBool, length, IfSome}
 use Rattle.std.specs.Io.KnownBytes.{Keeps, Appends, Consumes, IsAtEnd}
@@ -200,8 +199,7 @@ Progress-turn start old now new count x x' peaks machine machine' p (Puts byte, 
 Progress-turn start old now new count x x' peaks machine machine' p (Ended end, s, step, none) = absurd none
 Progress-turn start old now new count x x' peaks machine machine' p (NoMemory, s, step, none) = absurd none
 
--- If no peaks are counted, the exchanges between two iterations of the loop have the effects that
--- `WentOn` describes.
+-- If no peaks are counted, the exchanges between two iterations of the loop have the effects that `WentOn` describes.
 
 -- Returns the observable state of the reader and the writer during a run.
 abbrev pub devices_of : Traffic → Devices
@@ -277,8 +275,7 @@ nothing_over None now leaves = refl
 nothing_over (Some reported) None leaves = absurd leaves
 nothing_over (Some reported) (Some left) leaves = leaves
 
--- The instructions that the loop has executed are a run on the bytes read followed by the remaining
--- input.
+-- The instructions that the loop has executed are a run on the bytes read followed by the remaining input.
 way_of : (start : List ℕ → World) (old now : Devices) (count : ℕ) (x : Exchanged) (peaks : Option Peaks) (machine : State) → (p : Progress start old now count x peaks machine)
     → Way peaks count (start (p.read ++ rest_of old.remaining now.remaining)) (record { machine = machine; output = p.output; input = rest_of old.remaining now.remaining })
 way_of start old now count x peaks machine p = p.runs (rest_of old.remaining now.remaining) (λ end. nothing_over old.remaining now.remaining (p.at_end end))
@@ -387,8 +384,7 @@ fails_ahead grows start old now count budget x machine Reader p below (s, step) 
 fails_ahead grows start old now count budget x machine Writer p below (byte, s, step) =
     fails_at grows start old now now count budget x x None machine machine Write p below (byte, s, step, (Keeps-refl now.remaining, Keeps-refl now.written))
 
--- If a device fails, or if the store (the heap of regions) lacks memory and no device was used, the
--- result of the run is correct.
+-- If a device fails, or if the store (the heap of regions) lacks memory and no device was used, the result of the run is correct.
 pub fails_turn : (grows : Bool) (start : List ℕ → World) (old now new : Devices) (count budget : ℕ) (x x' : Exchanged) (peaks : Option Peaks) (machine machine' : State) (e : RunFault) → Progress start old now count x peaks machine → count < budget
     → TurnedOver grows machine machine' x x' now new (Err e) → Runs grows start budget old new (Err e)
 fails_turn grows start old now new count budget x x' peaks machine machine' Read p below turned = fails_at grows start old now new count budget x x' peaks machine machine' Read p below turned
@@ -428,8 +424,7 @@ answers_memory : (grows : Bool) (store : StoreState) (read : Result ImageContent
 answers_memory grows store (Err f) limits budget old new rests = refuses_memory (Elf f) old new rests
 answers_memory grows store (Ok image) limits budget old new rests = answers_inside (has_outside image) grows (start_world image limits store) budget old new rests
 
--- If memory runs out before the store (the heap of regions) is made, the result `Memory` is
--- correct.
+-- If memory runs out before the store (the heap of regions) is made, the result `Memory` is correct.
 pub anew_memory : (grows : Bool) (read : Result ImageContents ElfFault) (limits : Bounds) (budget : ℕ) (devices : Devices) → AnswersAnew grows read limits budget devices devices (Err Memory)
 anew_memory grows read limits budget devices =
     let store : StoreState = stores.start limits.pages (λ (address : ℕ). 0) in (
@@ -472,8 +467,7 @@ declined_write (Err f) fault (inr is) = ap (λ e. is_write {T = Report} (Err e))
 declined_write (Ok image) fault (inl (outside, is)) = ap (λ e. is_write {T = Report} (Err e)) is
 declined_write (Ok image) fault (inr is) = ap (λ e. is_write {T = Report} (Err e)) is
 
--- A store (heap) that does not grow lacks memory only before any byte is read or written, since no instruction
--- allocates.
+-- A store (heap) that does not grow lacks memory only before any byte is read or written, since no instruction allocates.
 early_inside : (outside : Bool) (start : List ℕ → World) (budget : ℕ) (old new : Devices)
     → MatchBool outside (Refuses (Load load.Outside) old new (Err Memory)) (Starts false start budget old new (Err Memory)) → Rests old new
 early_inside true start budget old new (_, rests) = rests

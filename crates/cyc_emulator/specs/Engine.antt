@@ -22,8 +22,7 @@ use Rattle.cyc_emulator.specs.declared.report.Stop.TheVariants as stops
 use Rattle.cyc_emulator.specs.declared.report.RunFault.{RunFault}
 use Rattle.cyc_emulator.specs.declared.report.RunFault.TheVariants.{Elf, Load, Read, Write, Memory}
 
--- The observable state of the devices: the bytes that the reader still has, and the bytes that the
--- writer has written.
+-- The observable state of the devices: the bytes that the reader still has, and the bytes that the writer has written.
 pub record Devices : Type 0 where
   pub remaining : Option (List ℕ)
   pub written : Option (List ℕ)
@@ -43,8 +42,7 @@ Leaves None new rest = Unit {0}
 Leaves (Some reported) None rest = ⊥
 Leaves (Some reported) (Some left) rest = left ≡ rest
 
--- `Counted` says that `count` instructions lead from one world to another, and that no instruction is
--- executed after the end of the run.
+-- `Counted` says that `count` instructions lead from one world to another, and that no instruction is executed after the end of the run.
 abbrev pub Counted : ℕ → World → World → Type 0
 Counted zero old new = new ≡ old
 Counted (suc count) old new = (mid : World) × Run count old mid × (end_of mid ≡ None) × Goes mid new
@@ -128,8 +126,7 @@ Runs grows start budget old new (Err Memory) =
     (count : ℕ) × (w : World) × Executes start old new count w × (count < budget) × (end_of w ≡ None) × WantsMemory grows w.machine
 Runs grows start budget old new (Err e) = ⊥
 
--- `Refuses` says that the result is this fault or lack of memory, before any byte is read or
--- written.
+-- `Refuses` says that the result is this fault or lack of memory, before any byte is read or written.
 abbrev pub Refuses : RunFault → (old new : Devices) → Result Report RunFault → Type 0
 Refuses fault old new result = ((result ≡ Err fault) ⊎ (result ≡ Err Memory)) × Rests old new
 
@@ -146,7 +143,6 @@ Answers grows store (Ok image) limits budget old new result =
     (Refuses (Load load.Outside) old new result)
     (Starts grows (start_world image limits store) budget old new result)
 
--- `AnswersAnew` describes the result of a call that makes its own new store, with as many pages as
--- the limits allow.
+-- `AnswersAnew` describes the result of a call that makes its own new store, with as many pages as the limits allow.
 abbrev pub AnswersAnew : (grows : Bool) → Result ImageContents ElfFault → Bounds → (budget : ℕ) (old new : Devices) → Result Report RunFault → Type 0
 AnswersAnew grows read limits budget old new result = (store : StoreState) × IsNew limits.pages store × Answers grows store read limits budget old new result

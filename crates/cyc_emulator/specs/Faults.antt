@@ -1,5 +1,4 @@
--- Lack of memory is always the same fault, wherever it occurs. The numbering of faults is this project's
--- own choice.
+-- Lack of memory is always the same fault, wherever it occurs. The numbering of faults is this project's own choice.
 use Rattle.std.specs.Prelude.{Bool, true, false, Result, Err}
 use Rattle.cyc_elf.specs.declared.fault.ElfFault.{ElfFault}
 use Rattle.cyc_elf.specs.declared.fault.ElfFault.TheVariants as elf

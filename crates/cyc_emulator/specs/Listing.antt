@@ -1,5 +1,4 @@
--- The listing of an image has a line for each word of text. The form of the listing is this project's own
--- choice.
+-- The listing of an image has a line for each word of text. The form of the listing is this project's own choice.
 use Rattle.std.specs.Prelude.{◌≡◌, ℕ, ◌+◌, ◌*◌, ◌/◌, List, [], ◌∷◌, ◌++◌, Bool, ◌&&◌, nat_le, nat_lt, Option, None, Some, Result, Ok, Err, ◌⊎◌, if◌then◌else◌, codes}
 use Rattle.std.specs.List.{flat_map, range_with_len}
 use Rattle.std.specs.Io.KnownBytes.{Keeps, Appends}

@@ -1,5 +1,4 @@
-//! Replays a run up to its stop, to find the source position at which it stopped and the active
-//! calls.
+//! Replays a run up to its stop, to find the source position at which it stopped and the active calls.
 //!
 //! All runs of an image on the same input are equal. The machine runs at full speed until shortly before the stop, and then one
 //! instruction at a time. The result is right for images made by this compiler: all frames have the same size, and the return address of a
@@ -20,8 +19,7 @@ pub const MOST_REPORTED: usize = 32;
 /// The number of instructions before the stop that are replayed one at a time in the first attempt.
 const FIRST_WINDOW: u64 = 10_000;
 
-/// The factor by which more instructions are replayed one at a time, if the exception was first
-/// thrown before them.
+/// The factor by which more instructions are replayed one at a time, if the exception was first thrown before them.
 const WIDER: u64 = 32;
 
 /// The number of bytes of a stack frame.
@@ -46,8 +44,7 @@ const SAVE: u32 = 0xafbf_0000;
 /// The most words from a function's entry up to the instruction that saves its return address.
 const MOST_ENTRY: u32 = 5;
 
-/// The most words of a call, a return or a throw between the instruction that changes the frame and
-/// the jump.
+/// The most words of a call, a return or a throw between the instruction that changes the frame and the jump.
 const MOST_BETWEEN: u32 = 1024;
 
 /// The position at which a run stopped, with the active calls.
@@ -56,8 +53,7 @@ pub struct Trail {
     /// The address of the instruction that determines the reported position: the one at the stop, or the test or the throw that caused
     /// it. For an exception that was passed on, or is on its way to a handler, it is the first throw.
     pub address: u32,
-    /// The addresses of the jumps that made the active calls, innermost first, except that of `main`; at
-    /// most 32.
+    /// The addresses of the jumps that made the active calls, innermost first, except that of `main`; at most 32.
     pub calls: Vec<u32>,
     /// The number of active calls beyond those listed.
     pub others: u32,
@@ -130,8 +126,7 @@ fn is_leaving<S: Store + Drop>(machine: &Machine<S>, address: u32) -> bool {
     false
 }
 
-/// The data for a replay: the stretches of the text (with their origins), and the entries of its
-/// functions.
+/// The data for a replay: the stretches of the text (with their origins), and the entries of its functions.
 #[derive(Clone, Copy)]
 struct Map<'a> {
     stretches: &'a [Stretch],
@@ -146,8 +141,7 @@ impl Map<'_> {
         Some(begun.address)
     }
 
-    /// Returns the change of the stack frame between the previous branch or jump and the instruction at an
-    /// address.
+    /// Returns the change of the stack frame between the previous branch or jump and the instruction at an address.
     fn change<S: Store + Drop>(&self, machine: &Machine<S>, address: u32) -> Change {
         let Some(entry) = self.entry(address) else {
             return Change::Nothing;
@@ -159,8 +153,7 @@ impl Map<'_> {
             }
             let word = machine.word(before).unwrap_or(0);
             if let Some(change) = change_by(word) {
-                // If a frame was made in a delay slot, it belonged to the target of the jump, which
-                // has returned.
+                // If a frame was made in a delay slot, it belonged to the target of the jump, which has returned.
                 let is_in_slot = has_slot(machine.word(before.wrapping_sub(4)).unwrap_or(0));
                 return if is_in_slot { Change::Nothing } else { change };
             }
@@ -172,8 +165,7 @@ impl Map<'_> {
         Change::Nothing
     }
 
-    /// Returns how the function that contains a word saves its return address: the address of the instruction, and the offset in
-    /// the frame.
+    /// Returns how the function that contains a word saves its return address: the address of the instruction, and the offset in the frame.
     fn saving<S: Store + Drop>(&self, machine: &Machine<S>, address: u32) -> Option<(u32, u32)> {
         let entry = self.entry(address)?;
         for number in 0..MOST_ENTRY {
@@ -186,8 +178,7 @@ impl Map<'_> {
         None
     }
 
-    /// Returns the saved return address of the function that contains a word, and whose frame
-    /// begins at `frame`.
+    /// Returns the saved return address of the function that contains a word, and whose frame begins at `frame`.
     fn kept<S: Store + Drop>(&self, machine: &Machine<S>, address: u32, frame: u32) -> Option<u32> {
         let (_, offset) = self.saving(machine, address)?;
         machine.word(frame.wrapping_add(offset)).ok()

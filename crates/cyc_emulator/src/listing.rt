@@ -109,8 +109,7 @@ fn is_in_text(address: u32) -> bool
     TEXT_BASE <= address && address < TEXT_END
 }
 
-/// Writes the lines of the segment that a program header describes, if the segment begins in the
-/// text range.
+/// Writes the lines of the segment that a program header describes, if the segment begins in the text range.
 fn put_listed<W: ByteOut>(file: &[u8], header: &ProgramHeader, out: &mut W) -> Result<(), Failed>
     requires stored { header.now.offset + header.now.file_size ≤ length file.now }
     requires segment { IsSegment (segment_of file.now (fields_of header.now)) }

@@ -39,8 +39,7 @@ pub struct Peaks {
 pub struct Report {
     pub stop: Stop,
     pub count: u64,
-    /// The address of the instruction that ended the run, or of the next instruction if the run has
-    /// not ended.
+    /// The address of the instruction that ended the run, or of the next instruction if the run has not ended.
     pub counter: u32,
     /// The limit that was reached, if the run ended with `Full`.
     pub limit: Option<Limit>,

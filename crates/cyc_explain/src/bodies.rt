@@ -88,8 +88,7 @@ fn note_head(teller: &mut Teller, names: &RegionNames, name: Ident, members: &[M
     }
 }
 
-/// Explains the fault in the forms (items, statements and expressions) of a body, which are listed
-/// last one first.
+/// Explains the fault in the forms (items, statements and expressions) of a body, which are listed last one first.
 fn explain_forms(
     teller: &mut Teller,
     scope: &mut Scope<'_>,
@@ -171,8 +170,7 @@ fn explain_item(teller: &mut Teller, scope: &mut Scope<'_>, item: &Item, end: Op
     }
 }
 
-/// Explains a fault in an item that opens a region, by a key or as a new region, in a block that ends at
-/// position `end`.
+/// Explains a fault in an item that opens a region, by a key or as a new region, in a block that ends at position `end`.
 fn explain_region_item(
     teller: &mut Teller,
     scope: &Scope<'_>,
@@ -208,8 +206,7 @@ fn explain_statement(teller: &mut Teller, scope: &mut Scope<'_>, statement: &Stm
     }
 }
 
-/// Explains a fault before the items of a `catch` clause, or a second declaration of the clause's
-/// variable.
+/// Explains a fault before the items of a `catch` clause, or a second declaration of the clause's variable.
 fn explain_clause(teller: &mut Teller, scope: &Scope<'_>, clause: &Clause) {
     explain_exception(teller, scope, clause.exception);
     teller
@@ -224,8 +221,7 @@ fn explain_clause(teller: &mut Teller, scope: &Scope<'_>, clause: &Clause) {
 
 // ---- expressions
 
-/// Explains a violated requirement of an expression's own form, apart from the requirements of its parts and on its
-/// value.
+/// Explains a violated requirement of an expression's own form, apart from the requirements of its parts and on its value.
 fn explain_expression(
     teller: &mut Teller,
     scope: &mut Scope<'_>,

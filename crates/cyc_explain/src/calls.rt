@@ -18,8 +18,7 @@ use std::mem::ManuallyDrop;
 
 // ---- regions of the call
 
-/// Notes the name of a called function, its regions as its own signature names them, and the name of its parameter with
-/// this number.
+/// Notes the name of a called function, its regions as its own signature names them, and the name of its parameter with this number.
 fn note_theirs(
     teller: &mut Teller,
     declarations: &[Declaration],
@@ -48,8 +47,7 @@ fn note_theirs(
     }
 }
 
-/// Returns the region in `given` that corresponds to the first occurrence of a region variable in
-/// `variables`.
+/// Returns the region in `given` that corresponds to the first occurrence of a region variable in `variables`.
 fn region_among(variables: &[Region], given: &[Region], variable: Region) -> Option<Region> {
     let mut found = None;
     for i in 0..variables.len() {
@@ -60,8 +58,7 @@ fn region_among(variables: &[Region], given: &[Region], variable: Region) -> Opt
     found
 }
 
-/// Returns the region of an argument's type that corresponds to a region variable in a parameter's
-/// type.
+/// Returns the region of an argument's type that corresponds to a region variable in a parameter's type.
 fn region_in(parameter: &Ty, given: &Ty, variable: Region) -> Option<Region> {
     match (parameter, given) {
         (
@@ -88,8 +85,7 @@ fn region_in(parameter: &Ty, given: &Ty, variable: Region) -> Option<Region> {
     }
 }
 
-/// Returns the region of an argument's pointer, handle or key, if the parameter's region is this region
-/// variable.
+/// Returns the region of an argument's pointer, handle or key, if the parameter's region is this region variable.
 fn region_outside(parameter: &Ty, given: &Ty, variable: Region) -> Option<Region> {
     if region_of(parameter) == variable {
         Some(region_of(given))
@@ -98,8 +94,7 @@ fn region_outside(parameter: &Ty, given: &Ty, variable: Region) -> Option<Region
     }
 }
 
-/// Returns the region of the arguments that corresponds to a region variable in the parameters; the heap if
-/// there is none.
+/// Returns the region of the arguments that corresponds to a region variable in the parameters; the heap if there is none.
 fn region_given(parameters: &[Ty], values: &[ValueType], variable: Region) -> Region {
     let mut found = None;
     for i in 0..parameters.len() {
@@ -237,8 +232,7 @@ fn explain_argument(
     }
 }
 
-/// Explains a violated constraint of a function, given the regions bound to the function's region
-/// variables.
+/// Explains a violated constraint of a function, given the regions bound to the function's region variables.
 fn explain_constraints(
     teller: &mut Teller,
     scope: &Scope<'_>,
@@ -252,8 +246,7 @@ fn explain_constraints(
     }
 }
 
-/// Explains a violated effect of a function, given the regions bound to the function's region
-/// variables.
+/// Explains a violated effect of a function, given the regions bound to the function's region variables.
 fn explain_effects(
     teller: &mut Teller,
     scope: &Scope<'_>,
@@ -267,8 +260,7 @@ fn explain_effects(
     }
 }
 
-/// Explains a fault in a call of a function with this signature and these values, or in its argument with this
-/// number.
+/// Explains a fault in a call of a function with this signature and these values, or in its argument with this number.
 fn explain_called(
     teller: &mut Teller,
     scope: &Scope<'_>,

@@ -159,8 +159,7 @@ fn type_after(scope: &Scope<'_>, pointer: &Option<ValueType>, field: Option<Iden
     }
 }
 
-/// Continues from the pointer found to its target, or to a field of the target, and explains a fault in
-/// reading it.
+/// Continues from the pointer found to its target, or to a field of the target, and explains a fault in reading it.
 fn explain_after(teller: &mut Teller, scope: &Scope<'_>, start: Span, field: Option<Ident>) {
     let following = type_after(scope, &teller.notes.found, field);
     if teller.find_type(following) {
@@ -196,8 +195,7 @@ pub(crate) fn explain_chain(
     }
 }
 
-/// Returns true if the fault is at the beginning of a chain of postfix operators, or at a field's
-/// name in it.
+/// Returns true if the fault is at the beginning of a chain of postfix operators, or at a field's name in it.
 fn is_in_chain(teller: &Teller, start: Span, postfixes: &[Postfix]) -> bool {
     let mut is_here = teller.is_at(start);
     for postfix in postfixes {

@@ -92,8 +92,7 @@ pub(crate) fn explain_opened(teller: &mut Teller, scope: &Scope<'_>, region: Ide
     explain_key(teller, scope, key);
 }
 
-/// Explains a fault in an alias; the type of an alias is the type of its source except for the
-/// region.
+/// Explains a fault in an alias; the type of an alias is the type of its source except for the region.
 pub(crate) fn explain_alias(
     teller: &mut Teller,
     scope: &Scope<'_>,

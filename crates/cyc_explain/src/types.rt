@@ -19,8 +19,7 @@ pub(crate) fn find(
     matches!(teller.notes.found, Some(_))
 }
 
-/// Returns the number of the name of the variable that an expression denotes; `NO_NAME` if the
-/// expression is not a variable.
+/// Returns the number of the name of the variable that an expression denotes; `NO_NAME` if the expression is not a variable.
 fn variable_of(value: &Expr) -> usize {
     match value {
         Expr::Variable { name } => name.name.number,

@@ -16,8 +16,7 @@ use cyc_syntax::{Declaration, Expr, Ident, Postfix, PrefixOperator};
 use cyc_types::{Region, Ty};
 use cyc_words::Span;
 
-/// Returns the region that the type of a local with this initial value gets if the type omits the
-/// region.
+/// Returns the region that the type of a local with this initial value gets if the type omits the region.
 fn left_out_of(value: Given<'_>) -> Region {
     match value {
         Given::Value(Ty::Pointer { region, .. }) => *region,
@@ -114,8 +113,7 @@ fn only_name(base: &Expr, postfixes: &[Postfix]) -> Option<Ident> {
     }
 }
 
-/// Notes the name to which a message refers, and returns the message; if there is no name, returns
-/// `Nothing`.
+/// Notes the name to which a message refers, and returns the message; if there is no name, returns `Nothing`.
 fn note_name(notes: &mut Notes, name: Option<Ident>, message: Message) -> Message {
     match name {
         Some(name) => {

@@ -12,8 +12,7 @@ use cyc_words::{Code, Span};
 
 // ---- regions that are not live
 
-/// Returns the last end, before the fault, of a block that opens the dynamic region with the given
-/// name.
+/// Returns the last end, before the fault, of a block that opens the dynamic region with the given name.
 fn last_end(teller: &Teller, name: usize) -> Option<Span> {
     let mut last = None;
     for ending in &teller.endings {
@@ -88,8 +87,7 @@ fn beginning_of(region: Region, home: Option<Home>) -> Option<Message> {
     }
 }
 
-/// Writes a region's origin, introduced by the message `mark`. Returns true if there was an origin to
-/// write.
+/// Writes a region's origin, introduced by the message `mark`. Returns true if there was an origin to write.
 fn say_beginning(teller: &mut Teller, mark: Message, region: Region) -> bool {
     let home = teller.notes.homes.find(region);
     let beginning = beginning_of(region, home);
@@ -107,8 +105,7 @@ fn say_beginning(teller: &mut Teller, mark: Message, region: Region) -> bool {
     }
 }
 
-/// Writes, on a separate line, that `region` does not outlive `other`, where the two regions begin, and then the
-/// advice.
+/// Writes, on a separate line, that `region` does not outlive `other`, where the two regions begin, and then the advice.
 pub fn say_shorter(teller: &mut Teller, region: Region, other: Region) {
     teller.notes.regions = (region, other);
     teller.say(Message::NotOutlived);
@@ -140,8 +137,7 @@ pub fn say_shorter(teller: &mut Teller, region: Region, other: Region) {
     }
 }
 
-/// Returns the advice about a region of the current function that does not outlive the region
-/// `other`.
+/// Returns the advice about a region of the current function that does not outlive the region `other`.
 fn advice_on_regions(home: Home, other: Region, other_home: Option<Home>) -> Message {
     match other {
         Region::Unique => Message::Nothing,
@@ -296,8 +292,7 @@ fn is_of_new(notes: &Notes, lead: Message) -> bool {
     }
 }
 
-/// Returns true if a pointer points to a struct whose region arguments are all the heap, as they are when
-/// omitted.
+/// Returns true if a pointer points to a struct whose region arguments are all the heap, as they are when omitted.
 fn is_of_heap(value: &Option<ValueType>) -> bool {
     match value {
         Some(
@@ -333,8 +328,7 @@ fn struct_of(of_type: &Ty) -> Option<usize> {
     }
 }
 
-/// Returns true if two types are pointers of any kind whose targets are equal when regions are
-/// ignored.
+/// Returns true if two types are pointers of any kind whose targets are equal when regions are ignored.
 fn lead_alike(of_type: &Ty, wanted: &Ty) -> bool {
     match (of_type, wanted) {
         (
@@ -348,8 +342,7 @@ fn lead_alike(of_type: &Ty, wanted: &Ty) -> bool {
     }
 }
 
-/// Returns true if the targets of the found type and of the required type are pointers that differ only in
-/// their marks.
+/// Returns true if the targets of the found type and of the required type are pointers that differ only in their marks.
 fn is_of_other_mark(notes: &Notes) -> bool {
     match (&notes.found, &notes.wanted) {
         (

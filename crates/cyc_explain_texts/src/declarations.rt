@@ -174,8 +174,7 @@ fn initial(written: &WrittenType, value: Option<GlobalValue>) -> (Span, Message)
     }
 }
 
-/// Explains a global whose type no global may have, or whose initial value does not have the global's
-/// type.
+/// Explains a global whose type no global may have, or whose initial value does not have the global's type.
 fn explain_global(
     teller: &mut Teller,
     name: Ident,

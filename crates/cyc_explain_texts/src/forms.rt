@@ -21,11 +21,9 @@ pub enum Role<'b> {
     /// The value initialises the local with the given name and written type.
     Local(Ident, &'b WrittenType),
     Returned,
-    /// The value initialises the field with the given number, of a struct with the given name and
-    /// regions.
+    /// The value initialises the field with the given number, of a struct with the given name and regions.
     Field(Ident, &'b [Ident], usize),
-    /// The value is the argument with the given number, in a call of the given function with the
-    /// given arguments.
+    /// The value is the argument with the given number, in a call of the given function with the given arguments.
     Argument(Ident, &'b [Expr], usize),
 }
 
@@ -80,8 +78,7 @@ pub enum Form<'b> {
 pub struct Forms<'b> {
     /// The forms that still have to be split into their parts; the next form to split is the last.
     pending: Vec<Form<'b>>,
-    /// The forms that were already split: each form precedes its parts, and the parts are listed
-    /// from last to first.
+    /// The forms that were already split: each form precedes its parts, and the parts are listed from last to first.
     pub listed: Vec<Form<'b>>,
     /// True if memory never ran out, so the list lacks no form.
     pub is_whole: bool,
@@ -104,8 +101,7 @@ pub fn forms_of<'b>(alloc: Global, body: &'b Block) -> Forms<'b> {
 }
 
 impl<'b> Forms<'b> {
-    /// Moves the next pending form, if there is one, to the list, and adds its parts to the pending
-    /// forms.
+    /// Moves the next pending form, if there is one, to the list, and adds its parts to the pending forms.
     fn take_next(&mut self) -> bool {
         match self.pending.pop() {
             Some(form) => {
@@ -198,8 +194,7 @@ impl<'b> Forms<'b> {
         }
     }
 
-    /// Adds the parts of a block, or of a statement that contains no other statement, to the
-    /// pending forms.
+    /// Adds the parts of a block, or of a statement that contains no other statement, to the pending forms.
     fn add_plain(&mut self, statement: &'b Stmt) {
         match statement {
             Stmt::Block { block } => self.add_block(None, block),
@@ -233,8 +228,7 @@ impl<'b> Forms<'b> {
         }
     }
 
-    /// Adds the items of a default clause to the pending forms; `around` is the position of the
-    /// statement that has the clause.
+    /// Adds the items of a default clause to the pending forms; `around` is the position of the statement that has the clause.
     fn add_default(&mut self, items: &'b Vec<Item>, around: Span, end: Option<Span>) {
         self.add_begin(None, start_of(items, around));
         self.add_items(items, end);

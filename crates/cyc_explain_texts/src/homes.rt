@@ -19,8 +19,7 @@ pub enum Origin {
     Dynamic,
 }
 
-/// The origin of a region, its name, if it has one, and the source position of its declaration or
-/// of its block.
+/// The origin of a region, its name, if it has one, and the source position of its declaration or of its block.
 #[derive(Clone, Copy)]
 pub struct Home {
     pub name: Option<usize>,
@@ -28,8 +27,7 @@ pub struct Home {
     pub origin: Origin,
 }
 
-/// The origins of a function's regions that are declared before the fault, indexed by region
-/// numbers.
+/// The origins of a function's regions that are declared before the fault, indexed by region numbers.
 #[derive(Drop)]
 pub struct Homes {
     pub all: Vec<Home>,
@@ -53,8 +51,7 @@ impl Homes {
         }
     }
 
-    /// Returns the source position of the region with the given name, except the function's own
-    /// region.
+    /// Returns the source position of the region with the given name, except the function's own region.
     pub fn find_named(&self, name: usize) -> Option<Span> {
         let mut found = None;
         for i in 1..self.all.len() {

@@ -1,8 +1,6 @@
-//! The messages of explanations: the text of each message. A message that begins an explanation also
-//! has the code of its fault.
+//! The messages of explanations: the text of each message. A message that begins an explanation also has the code of its fault.
 //!
-//! In the text of a message, a `%` and a letter form a placeholder, which is replaced by the latest
-//! recorded value (`Notes`):
+//! In the text of a message, a `%` and a letter form a placeholder, which is replaced by the latest recorded value (`Notes`):
 //!
 //! | Placeholder | Content |
 //! |---|---|

@@ -123,8 +123,7 @@ fn say_known(teller: &mut Teller, scope: &Scope<'_>, sort: Sort, name: Ident) {
     }
 }
 
-/// Returns a message if the name resembles that of a built-in function, which the program need not mention
-/// elsewhere.
+/// Returns a message if the name resembles that of a built-in function, which the program need not mention elsewhere.
 fn near_of_each(lexicon: &Lexicon, name: Ident) -> Message {
     let text = lexicon.text(name.name.number);
     if is_near(text, b"putchar") {

@@ -1,5 +1,4 @@
-//! The writer of explanations. The teller writes only once, at the fault; the values of placeholders in its messages
-//! are recorded before.
+//! The writer of explanations. The teller writes only once, at the fault; the values of placeholders in its messages are recorded before.
 use crate::explanation::Explanation;
 use crate::homes::Homes;
 use crate::lexicon::{Lexicon, NO_NAME};
@@ -74,8 +73,7 @@ impl Teller {
         }
     }
 
-    /// Returns the explanation that the teller has written, if there is one, and removes it from
-    /// the teller.
+    /// Returns the explanation that the teller has written, if there is one, and removes it from the teller.
     pub fn take_words(&mut self) -> Option<Explanation> {
         let is_known = self.notes.lexicon.is_whole && self.notes.homes.is_whole;
         let is_said = self.words.is_whole && !self.words.bytes.is_empty();

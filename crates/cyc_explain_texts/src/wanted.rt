@@ -188,8 +188,7 @@ fn misused(teller: &Teller, wanted: Wanted) -> Message {
     }
 }
 
-/// Explains a value at the given source position whose type violates a demand, or whose region is
-/// not live.
+/// Explains a value at the given source position whose type violates a demand, or whose region is not live.
 pub fn explain_found(teller: &mut Teller, scope: &Scope<'_>, wanted: Wanted, span: Span) {
     let found = given(&teller.notes.found);
     if teller.is_fault(Code::TypeMismatch, span) && !wanted.allows(found) {

@@ -13,12 +13,10 @@ use std::mem::replace;
 
 const DIGITS: &[u8] = b"0123456789";
 
-/// The maximum number of bytes that fill a placeholder: a longer name or type is cut and ends in
-/// three dots.
+/// The maximum number of bytes that fill a placeholder: a longer name or type is cut and ends in three dots.
 const MOST_FILLED: usize = 160;
 
-/// The maximum number of bytes that fill a placeholder once `MOST_WHOLE` bytes are written; thus lines with many placeholders
-/// stay short.
+/// The maximum number of bytes that fill a placeholder once `MOST_WHOLE` bytes are written; thus lines with many placeholders stay short.
 const LEAST_FILLED: usize = 12;
 
 /// The number of bytes after which placeholders are limited to `LEAST_FILLED` bytes.
@@ -58,8 +56,7 @@ pub struct Words {
     pub bytes: Vec<u8>,
     /// The text written in place of each region, if it is not empty.
     pub stand_in: &'static [u8],
-    /// The number of bytes that the current placeholder may still take; unlimited outside
-    /// placeholders.
+    /// The number of bytes that the current placeholder may still take; unlimited outside placeholders.
     pub room: usize,
     /// True if a part of the current placeholder's content was left out.
     pub is_cut: bool,
@@ -96,8 +93,7 @@ fn text_on_place(origin: Origin) -> &'static [u8] {
 impl Words {
     // ---- texts of messages
 
-    /// Writes the text of a message. Each `%` in the text forms a placeholder with the letter after
-    /// it.
+    /// Writes the text of a message. Each `%` in the text forms a placeholder with the letter after it.
     pub fn say(&mut self, notes: &Notes, message: Message) {
         let wanted = message as usize;
         let mut line = 0usize;
@@ -111,8 +107,7 @@ impl Words {
         }
     }
 
-    /// Writes a byte of a text, or fills the placeholder that the byte denotes. Returns true if the next byte
-    /// denotes a placeholder.
+    /// Writes a byte of a text, or fills the placeholder that the byte denotes. Returns true if the next byte denotes a placeholder.
     fn say_byte(&mut self, notes: &Notes, byte: u8, is_gap: bool) -> bool {
         if is_gap {
             self.begin_gap();
@@ -231,8 +226,7 @@ impl Words {
 
     // ---- regions
 
-    /// Writes a region by its name; a region without a name is written by its source position, if
-    /// requested.
+    /// Writes a region by its name; a region without a name is written by its source position, if requested.
     fn put_region(
         &mut self,
         lexicon: &Lexicon,
@@ -428,8 +422,7 @@ impl Words {
         self.put_name(lexicon, name);
     }
 
-    /// Writes the name of a function and its parameters, each with its type as written in the
-    /// source.
+    /// Writes the name of a function and its parameters, each with its type as written in the source.
     pub fn put_head(&mut self, lexicon: &Lexicon, function: Ident, members: &[Member]) {
         self.begin_gap();
         self.put_name(lexicon, function.name.number);
@@ -463,8 +456,7 @@ impl Words {
         self.put_name(lexicon, member.name.name.number);
     }
 
-    /// Writes the type of a global in the program's notation; an omitted region is written as the
-    /// heap.
+    /// Writes the type of a global in the program's notation; an omitted region is written as the heap.
     pub fn put_written(&mut self, lexicon: &Lexicon, written: &WrittenType) {
         self.begin_gap();
         self.put_written_base(lexicon, &written.base);
@@ -492,8 +484,7 @@ impl Words {
         }
     }
 
-    /// Writes the name of the region after a pointer mark; an omitted region is written as the
-    /// heap.
+    /// Writes the name of the region after a pointer mark; an omitted region is written as the heap.
     fn put_mark_region(&mut self, lexicon: &Lexicon, region: Option<Ident>) {
         self.put_byte(b'`');
         match region {

@@ -34,8 +34,7 @@ use cyc_typing::{
 };
 use cyc_words::{Code, Span};
 
-/// Returns the variable name that an expression consists of, ignoring parentheses, or `None` for
-/// any other expression.
+/// Returns the variable name that an expression consists of, ignoring parentheses, or `None` for any other expression.
 fn name_in(expression: &Expr) -> Option<Ident>
     ensures { option_map view_name result ≡ name_in (view_expression expression.now) }
 {
@@ -74,8 +73,7 @@ struct Chain {
     of_type: Ty,
 }
 
-/// Returns the left operand of an operation: the chain's first operand, or the result of the previous operations, which is not
-/// a peek.
+/// Returns the left operand of an operation: the chain's first operand, or the result of the previous operations, which is not a peek.
 fn left_of<'a>(first: Left<'a>, of_type: &'a Option<Ty>) -> Left<'a>
     ensures span { result.span ≡ first.entry.span }
     ensures peeked { result.peeked ≡ peeked_after first.entry.peeked of_type.now }
@@ -91,8 +89,7 @@ fn left_of<'a>(first: Left<'a>, of_type: &'a Option<Ty>) -> Left<'a>
     }
 }
 
-/// Returns the type of a chain: the type of its last operation's result, or of its only operand. The chain
-/// begins at position `span`.
+/// Returns the type of a chain: the type of its last operation's result, or of its only operand. The chain begins at position `span`.
 fn whole_type(first: Given<'_>, of_type: Option<Ty>, span: Span) -> Result<Ty, Stop>
     ensures { Gives view_ty result (run (Own (value_wanted (left_of (view_given first.entry) of_type) (place_of_span span) ∷ [])
         (tests.value_of (left_of (view_given first.entry) of_type)))) }
@@ -111,8 +108,7 @@ fn whole_type(first: Given<'_>, of_type: Option<Ty>, span: Span) -> Result<Ty, S
     }
 }
 
-/// Returns the target of a pointer as a value. The expression begins at `span`, and the pointer at
-/// `pointer_span`.
+/// Returns the target of a pointer as a value. The expression begins at `span`, and the pointer at `pointer_span`.
 fn through(
     scope: &Scope<'_>,
     span: Span,
@@ -354,8 +350,7 @@ pub fn check_place(scope: &mut Scope<'_>, expression: &Expr, span: Span) -> Resu
     }
 }
 
-/// Checks the parts of an expression that is used as an lvalue but is not one, and then rejects the
-/// expression.
+/// Checks the parts of an expression that is used as an lvalue but is not one, and then rejects the expression.
 #[cycle(expression)]
 fn check_no_place(scope: &mut Scope<'_>, expression: &Expr, span: Span) -> Result<Box<Found>, Stop>
     ensures gives { Gives view_found result (run (rule_no_place scope.old (place_of_span span) (view_expression expression.now))) }
@@ -385,8 +380,7 @@ fn check_postfix(
     }
 }
 
-/// Returns the memory cell that an operand with postfixes denotes; the operand begins at position
-/// `span`.
+/// Returns the memory cell that an operand with postfixes denotes; the operand begins at position `span`.
 #[cycle(expression)]
 fn check_postfixes(
     scope: &mut Scope<'_>,
@@ -574,8 +568,7 @@ fn check_element(
     Ok(value)
 }
 
-/// Returns the placement of a new object, from the argument of `rnew`; `span` is the argument's
-/// source position.
+/// Returns the placement of a new object, from the argument of `rnew`; `span` is the argument's source position.
 #[cycle(expression)]
 fn check_placement(
     scope: &mut Scope<'_>,
@@ -608,8 +601,7 @@ fn check_placement(
     }
 }
 
-/// Checks the region handle of a new object and returns the placement in its region; `span` is the
-/// handle's source position.
+/// Checks the region handle of a new object and returns the placement in its region; `span` is the handle's source position.
 #[cycle(expression)]
 fn check_by_handle(
     scope: &mut Scope<'_>,

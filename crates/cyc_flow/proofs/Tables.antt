@@ -257,8 +257,7 @@ none_met [] os h = refl
 none_met (m ∷ ms) [] h = refl
 none_met (m ∷ ms) (o ∷ os) h = absurd (omega (arith, h))
 
--- `Met` says that the first `i` words of bits are the meet of two tables of local states, and the
--- remaining words are still unchanged.
+-- `Met` says that the first `i` words of bits are the meet of two tables of local states, and the remaining words are still unchanged.
 abbrev pub Met : (ms os : List Marks) → ℕ → (whole : List Marks) → Type 0
 Met ms os i whole = take i ms ++ met_each (drop i ms) (drop i os) ≡ whole
 
@@ -290,8 +289,7 @@ lacks_more ms os w n r is h i none p under = elim (cases_eq p n) [
   | inr apart ↦ h i (omega (arith, bit_at_or w r i, none)) p (omega (arith, under, apart))
 ]
 
--- If the word of missing bits is zero after all words are visited, then no bit is missing in any
--- word.
+-- If the word of missing bits is zero after all words are visited, then no bit is missing in any word.
 pub lacks_none : (ms os : List Marks) (w n : ℕ) → w ≡ 0 → min (length ms) (length os) ≤ n → LacksBelow ms os w n → CoverEach ms os
 lacks_none ms os w n none past h p below less i = h i (ap (λ (v : ℕ). bit_at v i) none ∙ bit_at-zero i) p (omega (arith, below, less, past))
 

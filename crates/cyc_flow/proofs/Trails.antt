@@ -1,5 +1,4 @@
--- Undoing the recorded changes of a flow state, and computing its meet with the state before these
--- changes.
+-- Undoing the recorded changes of a flow state, and computing its meet with the state before these changes.
 use Rattle.std.proofs.Common.{◌≡◌, ℕ, zero, suc, true, false, List, [], ◌∷◌, ◌++◌, get_or, set, refl, sym, ap, ◌∙◌}
 use Rattle.std.proofs.lemmas.List.{set-get_or}
 use Rattle.cyc_types.specs.flow.States.{Fullness, Vacant, Locked, Full, State, Unreached, Reached, lower, lower_each, meet, fullness, with_fullness, is_vacant}
@@ -22,8 +21,7 @@ restored : (f : State) (n : ℕ) (a : Fullness) → with_fullness (fullness f n)
 restored Unreached n a = refl
 restored (Reached as') n a = ap Reached (set_twice as' n a (get_or as' n Vacant) ∙ set-get_or as' n Vacant)
 
--- If a change of a local is recorded with the local's earlier state, undoing the changes yields the
--- same initial state.
+-- If a change of a local is recorded with the local's earlier state, undoing the changes yields the same initial state.
 pub noted_begun : (cs : List Change) (c : Change) (f : State) (a : Fullness) → view_fullness c.before ≡ fullness f c.number → undone (cs ++ c ∷ []) (with_fullness a f c.number) ≡ undone cs f
 noted_begun cs c f a e =
     undone_append cs (c ∷ []) (with_fullness a f c.number)
@@ -33,8 +31,7 @@ pub lowered_append : (cs ds : List Change) (f : State) → lowered (cs ++ ds) f 
 lowered_append [] ds f = refl
 lowered_append (c ∷ cs) ds f = lowered_append cs ds (with_fullness (lower (fullness f c.number) (view_fullness c.before)) f c.number)
 
--- Lowering locals to recorded states continues to agree when the present state of one more changed
--- local is recorded.
+-- Lowering locals to recorded states continues to agree when the present state of one more changed local is recorded.
 pub noted_now : (g : State) (vs : List Change) (v c : Change) (cs : List Change) (f : State) → v.number ≡ c.number → view_fullness v.before ≡ fullness g c.number
     → lowered_to g cs (lowered (vs ++ v ∷ []) f) ≡ lowered_to g (c ∷ cs) (lowered vs f)
 noted_now g vs v c cs f n e =
@@ -156,8 +153,7 @@ met_emptied (c ∷ cs) bs h =
     ∙ ap (λ a. set bs n a) (vacant_lower b now (and_left (is_vacant now) (are_emptied cs (Reached bs)) h))
     ∙ set-get_or bs n Vacant
 
--- If each changed local is empty in the present flow state, the meet with the state before the
--- changes is the present state.
+-- If each changed local is empty in the present flow state, the meet with the state before the changes is the present state.
 pub meet_emptied : (cs : List Change) (g : State) → are_emptied cs g ≡ true → meet (undone cs g) g ≡ g
 meet_emptied cs Unreached h = ap (λ (f : State). meet f Unreached) (undone_unreached cs)
 meet_emptied cs (Reached bs) h = ap (λ (f : State). meet f (Reached bs)) (undone_reached cs bs) ∙ ap Reached (met_emptied cs bs h)

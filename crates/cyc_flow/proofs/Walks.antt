@@ -1,5 +1,4 @@
--- A chain of operators in an expression, which the flow check traverses in a loop, one operator
--- after the other.
+-- A chain of operators in an expression, which the flow check traverses in a loop, one operator after the other.
 use Rattle.std.proofs.Common.{◌≡◌, ℕ, List, ◌∷◌, Ok, Err, refl}
 use Rattle.cyc_types.specs.declared.typed.Operation.{Operation}
 use Rattle.cyc_types.specs.declared.typed.Operation.TheVariants as operation

@@ -1,12 +1,10 @@
-//! Traverses expressions to find a local's change for a diagnostic, and records the effects on that
-//! local.
+//! Traverses expressions to find a local's change for a diagnostic, and records the effects on that local.
 use crate::cause::{Cause, Change};
 use crate::cause_state::{Found, Known};
 use cyc_types::typed::{Converted, Dereference, Expr, Initial, Lvalue, Operation, Placement};
 use cyc_words::{Fault, Span};
 
-/// The enclosing loop: the source position of the loop's keyword, and the local's state at the
-/// loop's head.
+/// The enclosing loop: the source position of the loop's keyword, and the local's state at the loop's head.
 #[derive(Clone, Copy)]
 pub(crate) struct Around {
     pub(crate) span: Span,
@@ -33,8 +31,7 @@ fn is_at(span: Span, fault: Fault) -> bool {
     span.line == fault.line && span.column == fault.column
 }
 
-/// Returns the local whose peek yields the dereferenced pointer, and the source position of that
-/// peek.
+/// Returns the local whose peek yields the dereferenced pointer, and the source position of that peek.
 pub(crate) fn peek_after(place: &Dereference) -> Option<(usize, Span)> {
     match place {
         Dereference::Target { pointer, .. } => peek_of(pointer),
@@ -120,8 +117,7 @@ impl Walk {
         }
     }
 
-    /// Visits an item that declares one local and locks another one, whose name is at this source
-    /// position.
+    /// Visits an item that declares one local and locks another one, whose name is at this source position.
     pub(crate) fn lock(
         &mut self,
         number: usize,
@@ -151,8 +147,7 @@ impl Walk {
         }
     }
 
-    /// Records that a peek of the local is in use from now on, if the operand is one. Returns the peek that was
-    /// in use before.
+    /// Records that a peek of the local is in use from now on, if the operand is one. Returns the peek that was in use before.
     pub(crate) fn wait(&mut self, peeked: Option<(usize, Span)>) -> Option<Cause> {
         let before = self.waiting;
         match peeked {

@@ -12,8 +12,7 @@ pub(crate) enum Known {
     Vacant(Option<Cause>),
 }
 
-/// Says that the traversal has reached the position of the fault, and holds the change to report,
-/// if any.
+/// Says that the traversal has reached the position of the fault, and holds the change to report, if any.
 pub(crate) struct Found(pub(crate) Option<Cause>);
 
 impl Known {
@@ -52,8 +51,7 @@ impl Known {
         }
     }
 
-    /// Returns the local's state after a block: full if the block had locked the local, otherwise
-    /// unchanged.
+    /// Returns the local's state after a block: full if the block had locked the local, otherwise unchanged.
     pub(crate) fn unlocked(self, is_locked: bool) -> Known {
         if is_locked {
             self.set(Known::Full)

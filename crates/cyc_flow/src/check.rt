@@ -26,11 +26,9 @@ use std::alloc::{AllocError, Global};
 /// while its value is lent or peeked at. At the end of a loop body, no local is emptier than at the loop's head. A catch clause relies on
 /// no local that the body of its `try` may have emptied. No path through a function with a result reaches the function's end.
 ///
-/// Returns the first flow fault, in execution order. Any copy of a flow state may fail for lack of
-/// memory.
+/// Returns the first flow fault, in execution order. Any copy of a flow state may fail for lack of memory.
 pub fn flow(alloc: Global, tree: TypedTree) -> Result<Flowed, Fault>
-    // A typed tree that `flow` accepts satisfies the flow rules and is returned. For a rejected
-    // tree, the rules have the returned fault.
+    // A typed tree that `flow` accepts satisfies the flow rules and is returned. For a rejected tree, the rules have the returned fault.
     ensures decides { Decides (λ (_ : Unit {0}). IsAllowedProgram (view_program tree)) (λ _ v. v.tree ≡ tree) (IsStoppedProgram (view_program tree))
         (IsStoppedProgram (view_program tree)) result }
     // If the typing rules derive the tree from a text and `flow` accepts it, no step of any run reads freed memory or does

@@ -15,8 +15,7 @@ use std::alloc::{AllocError, Global};
 pub(crate) struct Evaluation {
     pub(crate) state: State,
     pub(crate) touched: Touched,
-    /// The changes of locals since the start of the expression, or of the innermost enclosing operand of `&&` or `||`,
-    /// in order.
+    /// The changes of locals since the start of the expression, or of the innermost enclosing operand of `&&` or `||`, in order.
     pub(crate) trail: Vec<Change>,
 }
 
@@ -95,8 +94,7 @@ impl Evaluation {
         Ok(())
     }
 
-    /// Restores the flow state at the start of the expression, and undoes the changes recorded
-    /// since.
+    /// Restores the flow state at the start of the expression, and undoes the changes recorded since.
     fn undo(&mut self)
         ensures state { view_state self.new.state ≡ begun self.old }
         ensures touched { self.new.touched.numbers.list ≡ self.old.touched.numbers.list }
@@ -122,8 +120,7 @@ impl Evaluation {
     }
 
     /// Replaces the state by its meet with the state at the start. If an operand has only consumed locals, the result is the present state;
-    /// skipping the meet in this case keeps nested operators cheap, since each of them would visit
-    /// the same changes again.
+    /// skipping the meet in this case keeps nested operators cheap, since each of them would visit the same changes again.
     #[tactic(auto, using(crate::proofs::Trails::meet_undone, crate::proofs::Trails::meet_emptied))]
     pub(crate) fn meet_start(&mut self, alloc: Global) -> Result<(), AllocError>
         ensures state { IfOk result (λ _. view_state self.new.state ≡ meet (begun self.old) (view_state self.old.state)) }

@@ -28,8 +28,7 @@ use cyc_words::{Code, Span};
 use std::alloc::{AllocError, Global};
 use std::mem;
 
-/// The flow state at a program point, and the locals (unique pointers and keys) that were consumed, assigned or locked
-/// before this point.
+/// The flow state at a program point, and the locals (unique pointers and keys) that were consumed, assigned or locked before this point.
 #[derive(Drop)]
 pub(crate) struct Tracked {
     pub(crate) state: State,
@@ -91,8 +90,7 @@ impl Tracked {
         Ok(())
     }
 
-    /// Returns the flow state after the body of a `try`, with the locals touched before the body
-    /// and in it.
+    /// Returns the flow state after the body of a `try`, with the locals touched before the body and in it.
     pub(crate) fn after_body(self, touched: Touched) -> Tracked
         ensures state { view_state result.state ≡ view_state self.state }
         ensures touched { result.touched.numbers.list ≡ touched.numbers.list ++ self.touched.numbers.list }
@@ -239,8 +237,7 @@ impl Evaluation {
         }
     }
 
-    /// Checks the expression of the region handle with which an object is allocated, if there is
-    /// one.
+    /// Checks the expression of the region handle with which an object is allocated, if there is one.
     #[cycle(expression)]
     fn place(&mut self, alloc: Global, waiting: &[usize], placement: &Placement) -> Result<(), Stop>
         ensures { Leads result self.new (run (rule_placement waiting.now (view_placement placement.now) (view_state self.old.state)))

@@ -1,5 +1,4 @@
-//! The flow check decides that a typed tree satisfies the flow rules, by computing the state of each local variable
-//! at each program point.
+//! The flow check decides that a typed tree satisfies the flow rules, by computing the state of each local variable at each program point.
 #![tactic(auto)]
 
 pub use cause::{Cause, Change};

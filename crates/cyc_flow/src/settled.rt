@@ -56,8 +56,7 @@ impl Settled {
         self.demand(Code::LockedVariable, span, number, !fullness.is_locked());
     }
 
-    /// Requires that the local named here holds a value that is not lent, and that no peek of this local is
-    /// in use.
+    /// Requires that the local named here holds a value that is not lent, and that no peek of this local is in use.
     pub(crate) fn use_local(&mut self, waiting: &[usize], state: &State, span: Span, number: usize)
         ensures { self.new.known ≡ settled self.old.known (use_demanded waiting.now (place_of_span span) number (view_state state.now)) }
     {

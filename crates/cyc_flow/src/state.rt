@@ -61,8 +61,7 @@ pub(crate) struct Change {
 pub(crate) enum State {
     /// The program point is unreachable.
     Unreached,
-    /// The program point is reachable. The table contains the state of each local, indexed by its
-    /// number.
+    /// The program point is reachable. The table contains the state of each local, indexed by its number.
     Reached(Table),
 }
 
@@ -77,8 +76,7 @@ impl State {
         }
     }
 
-    /// Sets the fullness of one local. In unreachable code the call has no effect, since no state
-    /// is stored.
+    /// Sets the fullness of one local. In unreachable code the call has no effect, since no state is stored.
     pub(crate) fn set(&mut self, number: usize, fullness: Fullness)
         ensures { view_state self.new ≡ with_fullness (view_fullness fullness) (view_state self.old) number }
     {
@@ -139,8 +137,7 @@ impl State {
         }
     }
 
-    /// Returns the first local that is emptier in this flow state than in the other one, or 0 if there is none; only
-    /// diagnostics use it.
+    /// Returns the first local that is emptier in this flow state than in the other one, or 0 if there is none; only diagnostics use it.
     pub(crate) fn first_emptier(&self, other: &State) -> usize {
         let (State::Reached(here), State::Reached(there)) = (self, other) else {
             return 0;

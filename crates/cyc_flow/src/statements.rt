@@ -1,5 +1,4 @@
-//! The flow state after a statement that satisfies the flow rules. Each method receives the state
-//! before its statement.
+//! The flow state after a statement that satisfies the flow rules. Each method receives the state before its statement.
 ghost use Rattle.std.specs.Prelude.{◌≡◌, ◌++◌, [], IfOk, None, Ok, option_map};
 ghost use Rattle.cyc_syntax.specs.inside.TreeView.{place_of_span};
 ghost use Rattle.cyc_types.specs.Rules.{and_then, settled, run};
@@ -195,8 +194,7 @@ impl Walk {
         }
     }
 
-    /// Checks a `break`, which leaves the enclosing loop, and adds its flow state to those at the
-    /// loop's breaks.
+    /// Checks a `break`, which leaves the enclosing loop, and adds its flow state to those at the loop's breaks.
     fn break_loop(&mut self, tracked: Tracked) -> Tracked
         ensures state { view_state result.state ≡ Unreached }
         ensures touched { result.touched.numbers.list ≡ tracked.touched.numbers.list }
@@ -224,8 +222,7 @@ impl Walk {
         check_head(&at_exit, &around.head, around.span)
     }
 
-    /// Checks an item that declares one local and locks another one, named here, until the end of the
-    /// block.
+    /// Checks an item that declares one local and locks another one, named here, until the end of the block.
     fn lock(
         &mut self,
         number: usize,
@@ -377,8 +374,7 @@ impl Walk {
         Ok(following)
     }
 
-    /// Checks a catch clause that begins with this flow state. The int of the exception, if it has
-    /// one, is stored in a local.
+    /// Checks a catch clause that begins with this flow state. The int of the exception, if it has one, is stored in a local.
     #[cycle(statement)]
     fn check_clause(
         &mut self,
@@ -409,8 +405,7 @@ impl Walk {
         })
     }
 
-    /// Checks a block. At the end of the block, the locals that its items have locked are full
-    /// again.
+    /// Checks a block. At the end of the block, the locals that its items have locked are full again.
     #[cycle(statement)]
     fn check_block(
         &mut self,

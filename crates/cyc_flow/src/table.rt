@@ -1,5 +1,4 @@
-//! The flow state of each local of a function, as bits of words, so that the join of two branches processes 64
-//! locals at once.
+//! The flow state of each local of a function, as bits of words, so that the join of two branches processes 64 locals at once.
 ghost use Rattle.std.specs.Prelude.{◌≡◌, ◌≢◌, ◌<◌, ◌≤◌, ◌++◌, IfOk, ℕ, List, true, length, replicate, drop, get_or, slice_set};
 ghost use Rattle.std.specs.Int.{bit_at};
 ghost use Rattle.cyc_types.specs.flow.States.{Vacant, Full, Reached, lower_each, are_as_full, with_each, emptied};
@@ -66,8 +65,7 @@ impl Marks {
         }
     }
 
-    /// Returns the bits that are set in the marks `other` but not in these marks. Marks contain two
-    /// bits for each of 64 locals.
+    /// Returns the bits that are set in the marks `other` but not in these marks. Marks contain two bits for each of 64 locals.
     fn missing(self, other: Marks) -> u64
         ensures { result ≡ missing self other }
     {
@@ -209,8 +207,7 @@ impl Table {
     }
 }
 
-/// Returns the bits that are set in both lists of local states, up to the length of the shorter
-/// list.
+/// Returns the bits that are set in both lists of local states, up to the length of the shorter list.
 fn meet_each(mut one: Vec<Marks>, other: &[Marks]) -> Vec<Marks>
     ensures { result.items ≡ met_each one.items other.now }
 {

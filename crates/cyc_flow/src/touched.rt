@@ -8,12 +8,10 @@ use crate::table::with_bit;
 use std::alloc::{AllocError, Global};
 use std::mem;
 
-/// The locals (unique pointers and keys) that were consumed, assigned or locked in a part of a
-/// function.
+/// The locals (unique pointers and keys) that were consumed, assigned or locked in a part of a function.
 #[derive(Drop)]
 pub(crate) struct Touched {
-    /// One bit for each local, 64 in a word, which is set if the local was touched. Locals beyond
-    /// the last word were not touched.
+    /// One bit for each local, 64 in a word, which is set if the local was touched. Locals beyond the last word were not touched.
     words: Vec<u64>,
     pub(crate) numbers: Numbers,
     ghost stand: { Stand words.items numbers.list },
@@ -86,8 +84,7 @@ impl Touched {
         Ok(())
     }
 
-    /// Returns the union of two sets of touched locals, whose list of numbers is the first set's
-    /// list followed by the second's.
+    /// Returns the union of two sets of touched locals, whose list of numbers is the first set's list followed by the second's.
     pub(crate) fn joined(self, more: Touched) -> Touched
         ensures { result.numbers.list ≡ self.numbers.list ++ more.numbers.list }
     {

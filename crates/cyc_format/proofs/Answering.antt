@@ -17,8 +17,7 @@ module _ {X : Type 0} (view : X → List ℕ) (text : List ℕ) where
   laid_out x tokens others accepted also same =
       decides (IsAccepted text) (λ ts y. HasSameTokens ts (view y)) (IsRefused text) (IsRefused text) (text_is_decided text) (Ok x) (tokens, accepted, (others, also, same)) tt
 
-  -- If the tokens of the result were compared with those of the text and are equal, the result is
-  -- correct.
+  -- If the tokens of the result were compared with those of the text and are equal, the result is correct.
   pub kept : (x : X) (ts us : List CodeToken) → (a : List Token) × IsAccepted text a × (map (token_of text) ts ≡ a) → AreTokensOf text ts
       → (b : List Token) × IsAccepted (view x) b × (map (token_of (view x)) us ≡ b) → AreTokensOf (view x) us
       → map (spelling_of text) ts ≡ map (spelling_of (view x)) us

@@ -43,8 +43,7 @@ module _ (text other : List ℕ) where
       let rest = same_kinds ts us (All-tail (LiesIn text) t ts lie) (All-tail (LiesIn other) u us also) (ap (drop 1) alike) in
       ap (λ (k : Kind). k ∷ kinds_of (map (token_of other) us)) here ∙ ap (λ (ks : List Kind). kind_of (spelling_of text t) t.kind ∷ ks) rest
 
--- If the next tokens of two texts have equal spellings, the lists of tokens that are extended by
--- them have equal spellings too.
+-- If the next tokens of two texts have equal spellings, the lists of tokens that are extended by them have equal spellings too.
 pub one_token_more : (text other : List ℕ) (ts us : List CodeToken) (i : ℕ) (d e : CodeToken) → i < length ts → i < length us
     → map (spelling_of text) (take i ts) ≡ map (spelling_of other) (take i us)
     → spelling_of text (get_or ts i d) ≡ spelling_of other (get_or us i e)

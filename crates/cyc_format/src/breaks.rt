@@ -103,8 +103,7 @@ impl<'t> Layout<'t> {
         self.role = Role::End;
     }
 
-    /// Returns true if the text has a line end between two operands, which shows that a semicolon
-    /// is missing.
+    /// Returns true if the text has a line end between two operands, which shows that a semicolon is missing.
     fn misses_end(&self, number: usize, kind: Option<TokenKind>) -> bool {
         let is_begun = matches!(
             kind,

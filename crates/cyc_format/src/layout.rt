@@ -1,5 +1,4 @@
-//! Lays out a text: before each token, the formatter decides between a line end, a space and
-//! nothing.
+//! Lays out a text: before each token, the formatter decides between a line end, a space and nothing.
 use crate::breaks::Break;
 use crate::frames::Frames;
 use crate::gap::Gap;
@@ -11,8 +10,7 @@ use std::alloc::Global;
 /// The position of the next token relative to statements.
 #[derive(Clone, Copy, Debug, PartialEq, Eq)]
 pub(crate) enum At {
-    /// The next token is at the beginning of a statement, an item or a declaration, or at the end
-    /// of a body.
+    /// The next token is at the beginning of a statement, an item or a declaration, or at the end of a body.
     Statement,
     /// The next token is after a condition, before the statement that the condition controls.
     Nested,

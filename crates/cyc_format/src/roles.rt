@@ -146,8 +146,7 @@ fn is_name_byte(byte: u8) -> bool {
     byte.is_ascii_alphanumeric() || byte == b'_'
 }
 
-/// Returns true if two adjacent bytes would be read as one token or as the beginning of a comment, or would look like
-/// one.
+/// Returns true if two adjacent bytes would be read as one token or as the beginning of a comment, or would look like one.
 fn are_one(last: u8, first: u8) -> bool {
     is_name_byte(last) && is_name_byte(first)
         || matches!(

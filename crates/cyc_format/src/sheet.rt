@@ -5,8 +5,7 @@ use std::alloc::Global;
 /// The most bytes of a text. A longer formatted text is not completed, since it cannot be a result.
 const MOST_BYTES: usize = 1048576;
 
-/// The deepest indentation level; the lines of deeper levels are indented as much as those of this
-/// level.
+/// The deepest indentation level; the lines of deeper levels are indented as much as those of this level.
 const DEEPEST: usize = 40;
 
 /// The number of spaces by which each level is indented.
@@ -79,8 +78,7 @@ impl Sheet {
         }
     }
 
-    /// Ends the line, if one was begun, and begins the next line at an indentation level, after an empty line
-    /// if `is_apart`.
+    /// Ends the line, if one was begun, and begins the next line at an indentation level, after an empty line if `is_apart`.
     pub(crate) fn end_line(&mut self, level: usize, is_apart: bool) {
         if !self.is_empty() {
             self.put(b"\n");
@@ -92,8 +90,7 @@ impl Sheet {
         self.put_spaces(level.min(DEEPEST).saturating_mul(STEP));
     }
 
-    /// Writes a comment. If the column of the comment changes, its further lines are moved by the same number
-    /// of columns.
+    /// Writes a comment. If the column of the comment changes, its further lines are moved by the same number of columns.
     pub(crate) fn put_comment(&mut self, text: &[u8], comment: Comment) {
         let bytes = text.get(comment.start..comment.end).unwrap_or(&[]);
         let (from, to) = (comment.column, self.column);

@@ -26,8 +26,7 @@ impl<'t> Layout<'t> {
         }
     }
 
-    /// Returns true if the formatter writes no space between the token with this number and the
-    /// token before it.
+    /// Returns true if the formatter writes no space between the token with this number and the token before it.
     fn touches(&self, number: usize) -> bool {
         match self.role {
             Role::Open | Role::Prefix | Role::Mark | Role::Arrow | Role::OpenRegions => true,

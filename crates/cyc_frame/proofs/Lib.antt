@@ -1,3 +1,2 @@
--- the proof that the frames are correct and that the reported function is the first whose frame is
--- too large
+-- the proof that the frames are correct and that the reported function is the first whose frame is too large
 pub mod Sound

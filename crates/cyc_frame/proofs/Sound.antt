@@ -1,5 +1,4 @@
--- The frames that layout returns are correct. If layout reports a function, it is the first whose
--- frame is too large.
+-- The frames that layout returns are correct. If layout reports a function, it is the first whose frame is too large.
 use Rattle.std.proofs.Common.{◌≡◌, ℕ, zero, suc, ◌+◌, ◌<◌, ◌≤◌, Bool, false, List, [], ◌∷◌, ◌++◌, length, map, Some, None, Result, Ok, Err, refl, sym, ap, subst, ◌∙◌, arith, inl, inr}
 use Rattle.std.specs.Prelude.{if◌then◌else◌, slice_index_or, slice_set, true, ◌⊎◌, Option}
 use Rattle.std.proofs.lemmas.Bool.{cases_eq, cases_lt, lt-ltb}
@@ -195,8 +194,7 @@ module _ (program : Program) (most : ℕ) (few : most ≤ MOST_SAVED) where
     at_raised : (n k : ℕ) → n < length frames → k ≡ n → frame_at (raising n) k ≡ record (frame_at frames n) { saved = most }
     at_raised n k below same = ap (frame_at (raising n)) same ∙ get_or-set_same frames n (record (frame_at frames n) { saved = most }) no_frame below
 
-    -- A property of all frames still holds after one frame is changed to save more registers, if it
-    -- holds for the changed frame.
+    -- A property of all frames still holds after one frame is changed to save more registers, if it holds for the changed frame.
     still : (P : ℕ → Frame → Type 0) (n : ℕ) → n < length program.functions → ((k : ℕ) → k < length program.functions → P k (frame_at frames k)) → P n (record (frame_at frames n) { saved = most })
         → (k : ℕ) → k < length program.functions → P k (frame_at (raising n) k)
     still P n known each one k below = elim (cases_eq k n) [

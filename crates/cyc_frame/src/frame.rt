@@ -7,23 +7,19 @@ ghost use Rattle.cyc_registers.specs.inside.Idle.{idle_at};
 use cyc_registers::Home;
 use std::marker::Model;
 
-/// The use of the words of a function's frame, and the homes of its slots. Words are numbered from the lowest address of the
-/// frame.
+/// The use of the words of a function's frame, and the homes of its slots. Words are numbered from the lowest address of the frame.
 #[derive(Drop)]
 pub struct Frame {
-    /// The number of the frame's word that keeps the return address while the function calls
-    /// another.
+    /// The number of the frame's word that keeps the return address while the function calls another.
     pub return_address: usize,
     /// True if the function saves its return address in the frame at its entry. A function that does not save its return address never
     /// overwrites the return address register.
     pub saves: bool,
-    /// The word of the frame for the first saved callee-saved register. The words for the other
-    /// saved registers follow in order.
+    /// The word of the frame for the first saved callee-saved register. The words for the other saved registers follow in order.
     pub first_saved: usize,
     /// The number of callee-saved registers that the function saves.
     pub saved: usize,
-    /// The word of the frame for the function's slot 0. The words for the other slots follow in
-    /// order.
+    /// The word of the frame for the function's slot 0. The words for the other slots follow in order.
     pub first_slot: usize,
     /// The number of parameters; the first slots of a function are its parameters.
     pub parameters: usize,
@@ -31,8 +27,7 @@ pub struct Frame {
     pub homes: Vec<Home>,
     /// For each instruction of the function's code, true if it is idle: it needs no machine code.
     pub idle: Vec<bool>,
-    /// For each instruction, true if its word may be computed in the delay slots of the branches to
-    /// it.
+    /// For each instruction, true if its word may be computed in the delay slots of the branches to it.
     pub fills: Vec<bool>,
 }
 

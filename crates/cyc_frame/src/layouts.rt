@@ -50,8 +50,7 @@ fn loses_any(code: &[Instruction]) -> bool
     false
 }
 
-/// Returns true if an instruction is a return, whose size includes words to save and restore
-/// registers.
+/// Returns true if an instruction is a return, whose size includes words to save and restore registers.
 fn returns(instruction: Instruction) -> bool
     ensures { result ≡ returns instruction }
 {
@@ -93,7 +92,7 @@ fn opens(instruction: Instruction) -> bool
     matches!(instruction, Instruction::Try { .. })
 }
 
-/// Returns true if some instruction of the code opens a handler.
+/// Returns true if some instruction of the code overwrites the return address register.
 fn opens_any(code: &[Instruction]) -> bool
     ensures { result ≡ opens_any code.now }
 {

@@ -1,5 +1,4 @@
-//! Frame layout assigns a word of a function's stack frame to each slot, and limits the size of
-//! frames.
+//! Frame layout assigns a word of a function's stack frame to each slot, and limits the size of frames.
 #![tactic(auto)]
 
 mod frame;

@@ -21,8 +21,7 @@ use Rattle.cyc_front.specs.declared.front.Phases.{Phases}
 use Rattle.cyc_front.specs.Front.{names_in, IsAcceptedText, IsStoppedText, IsRefusedText, HasFault}
 use Rattle.cyc_front.specs.inside.Phases.{HasTree}
 
--- Says that a phase passed the result a: a is accepted, no other result is accepted, and there is
--- no fault.
+-- Says that a phase passed the result a: a is accepted, no other result is accepted, and there is no fault.
 pub record Passes {A : Type 0} (Accepted : A → Type 0) (Has : Fault → Type 0) (a : A) : Type 0 where
   pub is : Accepted a
   pub only : (b : A) → Accepted b → a ≡ b
@@ -35,8 +34,7 @@ passed view Accepted Refused Has x d =
     let (a, is, same) = d.accepted in
     record { is = subst Accepted (sym same) is; only = d.accepts; no_fault = d.refuses }
 
--- Says that the lexer passed the tokens; the next definitions say that the parser passed the tree and the type checker passed
--- the program.
+-- Says that the lexer passed the tokens; the next definitions say that the parser passed the tree and the type checker passed the program.
 abbrev pub Lexed : List ℕ → List Token → Type 0
 Lexed text tokens = Passes (lexer.IsAccepted text) (lexer.IsRefused text) tokens
 
@@ -55,8 +53,7 @@ pub of_tokens : (text : List ℕ) (us ts : List TokenCode) (tree : Tree) → us 
     → tree.names ≡ names_in (map (token_of text) us) → HasTree text ts tree
 of_tokens text us ts tree same is names = subst (λ (x : List TokenCode). HasTree text x tree) same (is, names)
 
--- If the list of texts contains the names of the tokens, the result of type checking holds for the
--- names of the tokens.
+-- If the list of texts contains the names of the tokens, the result of type checking holds for the names of the tokens.
 pub checked : (tokens : List Token) (tree : List Declaration) (p : Program) (texts : List (List ℕ)) → texts ≡ names_in tokens
     → Passes (IsTypedProgram texts tree) (IsRefusedProgram texts tree) p → Checked tokens tree p
 checked tokens tree p texts same c = subst (λ ns. Passes (IsTypedProgram ns tree) (IsRefusedProgram ns tree) p) same c
@@ -94,14 +91,12 @@ faulty_here OfGrammar text tokens tree l r f (inr (inr (inr (ts, d, p, has, of, 
 
 -- ---- a phase that rejects the text
 
--- Says that a phase rejected the text: no result is accepted unless memory ran out, and there is no
--- other fault.
+-- Says that a phase rejected the text: no result is accepted unless memory ran out, and there is no other fault.
 pub record Stops {A : Type 0} (Accepted : A → Type 0) (Has : Fault → Type 0) (f : Fault) : Type 0 where
   pub none : (a : A) → Accepted a → f ≡ memory_fault
   pub no_other : (g : Fault) → Has g → (f ≡ memory_fault) ⊎ (f ≡ g)
 
--- Says that a result answers a text as the front end must; `Gives` states how a result contains the
--- typed program.
+-- Says that a result answers a text as the front end must; `Gives` states how a result contains the typed program.
 abbrev pub IsAnsweredBy : {X : Type 0} → (Program → X → Type 0) → List ℕ → Result X Fault → Type 0
 IsAnsweredBy Gives text result = Decides (IsAcceptedText text) Gives (IsRefusedText text) (HasFault text) result
 

@@ -36,8 +36,7 @@ IsStoppedText OfGrammar text f =
     ⊎ ((tokens : List Token) × (tree : List Declaration) × lexer.IsAccepted text tokens × parser.IsAccepted tokens tree × IsRefusedProgram (names_in tokens) tree f)
     ⊎ ((tokens : List Token) × (tree : List Declaration) × (p : Program) × lexer.IsAccepted text tokens × parser.IsAccepted tokens tree × IsTypedProgram (names_in tokens) tree p × IsStoppedProgram p f)
 
--- Says that a fault reported for the text is true: the condition of the fault's code holds at the
--- fault's position.
+-- Says that a fault reported for the text is true: the condition of the fault's code holds at the fault's position.
 abbrev pub IsRefusedText : List ℕ → Fault → Type 0
 IsRefusedText = IsStoppedText parser.IsRefused
 

@@ -20,8 +20,7 @@ pub fn accepted_or_refused()
     cyc_types::laws::allowed_or_stopped();
 }
 
-/// Soundness: no run of an accepted text's program accesses freed memory or goes wrong, after any number of steps and for
-/// every input.
+/// Soundness: no run of an accepted text's program accesses freed memory or goes wrong, after any number of steps and for every input.
 pub fn accepted_programs_are_sound()
     ensures { (text : List ℕ) (p : Program) → IsAcceptedText text p → IsSound p }
 {

@@ -1,5 +1,4 @@
-//! The front end as one function: it translates a source text to a typed tree, or rejects the text
-//! with a fault.
+//! The front end as one function: it translates a source text to a typed tree, or rejects the text with a fault.
 #![tactic(auto)]
 
 mod front;

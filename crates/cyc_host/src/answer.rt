@@ -40,8 +40,7 @@ pub enum Answer {
     Unformatted,
 }
 
-/// The number of the fault for an image outside the machine's memory; this number follows those of
-/// ELF faults.
+/// The number of the fault for an image outside the machine's memory; this number follows those of ELF faults.
 const OUTSIDE: u32 = 8;
 
 /// Returns the words of the last line for the cause of a trap.
@@ -153,8 +152,7 @@ impl From<RunFault> for Answer {
     }
 }
 
-/// Returns the reason why a run with these limits and this budget ended before its program did, computed from its answer and
-/// its report.
+/// Returns the reason why a run with these limits and this budget ended before its program did, computed from its answer and its report.
 pub fn ending(
     answer: &Answer,
     report: Option<Report>,
@@ -176,8 +174,7 @@ pub fn ending(
     }
 }
 
-/// Returns further words for a user about an answer, in addition to its last line and the messages printed
-/// earlier.
+/// Returns further words for a user about an answer, in addition to its last line and the messages printed earlier.
 pub fn explanation(answer: &Answer) -> Option<&'static str> {
     match *answer {
         Answer::BadImage(number) => Some(image_fault(number)),

@@ -30,8 +30,7 @@ pub struct Screen<W: Write + Drop> {
 impl<W: Write + Drop> Screen<W> {
     ghost use Rattle.cyc_host.specs.inside.Console.{screen_written, screen_held, screen_is_stuck};
 
-    /// Returns a screen with an empty buffer; with `by_lines` each line is flushed when it ends. The only error is lack of
-    /// memory.
+    /// Returns a screen with an empty buffer; with `by_lines` each line is flushed when it ends. The only error is lack of memory.
     pub fn new(alloc: Global, output: W, by_lines: bool) -> io::Result<Self>
         ensures { IfOk result (λ s. Keeps (W.contents output) (screen_written W.contents s)) }
     {

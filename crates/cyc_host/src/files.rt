@@ -12,8 +12,7 @@ use std::path::PathBuf;
 use std::rt::Files;
 use std::{fs, io};
 
-/// The largest number of bytes of a source file that are read: one more than a program may have, to detect a program
-/// that is too large.
+/// The largest number of bytes of a source file that are read: one more than a program may have, to detect a program that is too large.
 const MOST_TEXT: u64 = 1_048_577;
 
 const MOST_IMAGE: u64 = 33_554_432;
@@ -53,8 +52,7 @@ fn room_for<R: Files>(rt: &R, path: &str, most: u64) -> usize {
     }
 }
 
-/// Returns at most `most` bytes of a reader, with capacity for `room` bytes allocated before the first byte is
-/// read.
+/// Returns at most `most` bytes of a reader, with capacity for `room` bytes allocated before the first byte is read.
 fn read_up_to<R: Read + Drop>(
     alloc: Global,
     reader: R,
@@ -151,8 +149,7 @@ fn is_one(first: &Metadata, second: &Metadata) -> bool {
     first.dev() == second.dev() && first.ino() == second.ino()
 }
 
-/// Returns true if two names refer to the same regular file: by the same name, by links, or by the number of an open
-/// file.
+/// Returns true if two names refer to the same regular file: by the same name, by links, or by the number of an open file.
 pub fn is_one_file<R: Files>(rt: &R, first: &str, second: &str) -> bool {
     match (fs::metadata(rt, first), fs::metadata(rt, second)) {
         (Ok(first), Ok(second)) => first.is_file() && is_one(&first, &second),
@@ -163,8 +160,7 @@ pub fn is_one_file<R: Files>(rt: &R, first: &str, second: &str) -> bool {
 /// The largest number of links that are followed from a name, as the operating system follows them.
 const MOST_LINKS: u32 = 40;
 
-/// Returns the name at the end of the links that begin with a name; a file of that name need not
-/// exist yet.
+/// Returns the name at the end of the links that begin with a name; a file of that name need not exist yet.
 fn end_of_links<R: Files + AllocGlobal>(rt: &R, path: &str) -> Result<PathBuf, AllocError> {
     let mut end = PathBuf::from_str(rt.alloc(), ".")?;
     end.push(path)?;
@@ -179,8 +175,7 @@ fn end_of_links<R: Files + AllocGlobal>(rt: &R, path: &str) -> Result<PathBuf, A
     Ok(end)
 }
 
-/// Returns true if no file exists at the end of a name's links, so that a file would be created
-/// there.
+/// Returns true if no file exists at the end of a name's links, so that a file would be created there.
 fn is_free<R: Files>(rt: &R, path: &str) -> bool {
     match fs::metadata(rt, path) {
         Err(error) => error.kind() == io::ErrorKind::NotFound,
@@ -188,8 +183,7 @@ fn is_free<R: Files>(rt: &R, path: &str) -> bool {
     }
 }
 
-/// Returns true if two names of files that do not exist yet end at the same name in the same
-/// directory.
+/// Returns true if two names of files that do not exist yet end at the same name in the same directory.
 fn have_one_end<R: Files + AllocGlobal>(rt: &R, first: &str, second: &str) -> bool {
     let (Ok(mut first), Ok(mut second)) = (end_of_links(rt, first), end_of_links(rt, second)) else {
         // If the ends of the names cannot be determined, they are taken to be equal.
@@ -209,8 +203,7 @@ fn have_one_end<R: Files + AllocGlobal>(rt: &R, first: &str, second: &str) -> bo
     }
 }
 
-/// Returns true if two names, of which one is to be written, will denote one file, even if neither file exists
-/// yet.
+/// Returns true if two names, of which one is to be written, will denote one file, even if neither file exists yet.
 pub fn will_be_one_file<R: Files + AllocGlobal>(rt: &R, first: &str, second: &str) -> bool {
     is_one_file(rt, first, second)
         || is_free(rt, first) && is_free(rt, second) && have_one_end(rt, first, second)
@@ -221,15 +214,13 @@ pub fn will_be_one_file<R: Files + AllocGlobal>(rt: &R, first: &str, second: &st
 enum Place {
     /// The directory has no entry with the name of the output file, so a new file is made.
     Free,
-    /// The entry is a regular file with these permissions: a new file that replaces it gets these
-    /// permissions.
+    /// The entry is a regular file with these permissions: a new file that replaces it gets these permissions.
     Taken(u32),
     /// The entry is a link, a device or a pipe, which is kept and written to.
     Kept,
 }
 
-/// The permission bits for the owner, the group and others. A file mode has further bits, which a write to the file
-/// clears.
+/// The permission bits for the owner, the group and others. A file mode has further bits, which a write to the file clears.
 const PERMISSIONS: u32 = 0o777;
 
 fn place_of<R: Files>(rt: &R, path: &str) -> Place {
@@ -308,8 +299,7 @@ fn create_beside<R: Files<File = File> + AllocGlobal>(
     Ok(None)
 }
 
-/// The bits of a device number that identify its driver. Network and user-space file systems are on devices whose driver
-/// number is 0.
+/// The bits of a device number that identify its driver. Network and user-space file systems are on devices whose driver number is 0.
 const DRIVER: u64 = 0xffff_f000_000f_ff00;
 
 /// Returns true if a file is on a device without a driver: on such a device a failed write may be reported as late as when the file
@@ -364,8 +354,7 @@ fn fill_part<R: Files>(
     fs::rename(rt, part.name.as_str(), path)
 }
 
-/// Writes bytes to a temporary file, and renames the file to this name, so that the file is
-/// complete or absent.
+/// Writes bytes to a temporary file, and renames the file to this name, so that the file is complete or absent.
 fn write_beside<R: Files>(
     rt: &R,
     path: &str,

@@ -6,8 +6,7 @@ use std::{fs, io};
 /// The standard input of the program.
 #[derive(Drop)]
 pub enum Input {
-    /// A regular file. A locked input reads ahead, and when it is dropped, it seeks back over the bytes
-    /// that were not consumed.
+    /// A regular file. A locked input reads ahead, and when it is dropped, it seeks back over the bytes that were not consumed.
     File(StdinLock<'static>),
     /// A pipe, a terminal or a device, in which seeking back is not possible.
     Stream(Stdin),

@@ -1,5 +1,4 @@
-//! This file provides the standard output as a writer that returns an error before the system kills
-//! the process.
+//! This file provides the standard output as a writer that returns an error before the system kills the process.
 ghost use Rattle.std.specs.Prelude.{◌≡◌, take};
 
 use crate::system::{file_limit, room_of_output};

@@ -6,12 +6,10 @@ ghost use Rattle.std.specs.Fmt.InlineText.{inline_text};
 
 use std::fmt::{Display, InlineText};
 
-/// The largest number of bytes of a message; a message that is cut to this length is followed by a
-/// line feed.
+/// The largest number of bytes of a message; a message that is cut to this length is followed by a line feed.
 pub const MOST_SAID: usize = 4095;
 
-/// Returns the bytes of a message: the complete message, or as many bytes as allowed, ending in three
-/// dots.
+/// Returns the bytes of a message: the complete message, or as many bytes as allowed, ending in three dots.
 pub fn within_bounds<D: Display + Drop>(message: D) -> InlineText<MOST_SAID>
     ensures bounded { length (inline_text result) ≤ MOST_SAID }
     ensures whole { IfSome (D.output message) (λ bytes. IsTextOrCut MOST_SAID bytes (inline_text result)) }

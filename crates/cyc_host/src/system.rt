@@ -1,5 +1,4 @@
-//! This file reads the system's limits for this process from files of `/proc`. Without these files, no limit
-//! is known.
+//! This file reads the system's limits for this process from files of `/proc`. Without these files, no limit is known.
 ghost use Rattle.std.specs.Prelude.{◌≡◌, ◌↔◌, ◌≤◌, ◌-◌, IsTrue};
 
 use std::io::Read;
@@ -10,12 +9,10 @@ use std::{fs, str};
 /// the system allows no more. No command needs more than the remaining stack, for any text or image.
 pub const STACK: u64 = 4_194_304;
 
-/// The maximum number of bytes read from a file of `/proc`. Each file of `/proc` that is read has at most
-/// this many bytes.
+/// The maximum number of bytes read from a file of `/proc`. Each file of `/proc` that is read has at most this many bytes.
 const MOST: usize = 4096;
 
-/// Reads a file of `/proc`, as far as it fits in `room`. Returns the number of bytes read; 0 if the file does not
-/// exist.
+/// Reads a file of `/proc`, as far as it fits in `room`. Returns the number of bytes read; 0 if the file does not exist.
 fn read_part<R: Files>(rt: &R, path: &str, room: &mut [u8; MOST]) -> usize
     ensures { result ≤ 4096 }
 {
@@ -45,8 +42,7 @@ fn word_after<'a>(text: &'a [u8], name: &[u8]) -> Option<&'a str> {
     None
 }
 
-/// Returns the limit of this process with this name, in bytes; the greatest number if there is no
-/// limit.
+/// Returns the limit of this process with this name, in bytes; the greatest number if there is no limit.
 fn limit_of<R: Files>(rt: &R, name: &[u8]) -> u64 {
     let mut room = [0; MOST];
     let count = read_part(rt, "/proc/self/limits", &mut room);
@@ -62,8 +58,7 @@ pub fn stack_limit<R: Files>(rt: &R) -> u64 {
     limit_of(rt, b"Max stack size")
 }
 
-/// Returns the limit of the size of files that this process writes, in bytes. The system kills a process that writes beyond
-/// this limit.
+/// Returns the limit of the size of files that this process writes, in bytes. The system kills a process that writes beyond this limit.
 #[inline(never)]
 pub fn file_limit<R: Files>(rt: &R) -> u64 {
     limit_of(rt, b"Max file size")
@@ -86,8 +81,7 @@ fn room_at(limit: u64, place: u64) -> u64
 /// The flag of an open file that makes each write append to the file. The flags are given in octal.
 const APPENDS: u64 = 0o2000;
 
-/// Returns the position of the next byte written to the standard output, if the standard output is a file
-/// of this length.
+/// Returns the position of the next byte written to the standard output, if the standard output is a file of this length.
 fn place_of_output<R: Files>(rt: &R, length: u64) -> u64 {
     let mut room = [0; MOST];
     let count = read_part(rt, "/proc/self/fdinfo/1", &mut room);

@@ -1,5 +1,4 @@
-//! This crate has facts about images that the compiler and the emulator share: the limits of an image, and the
-//! origins of its words.
+//! This crate has facts about images that the compiler and the emulator share: the limits of an image, and the origins of its words.
 #![tactic(auto)]
 
 pub mod laws;

@@ -1,5 +1,4 @@
-//! This file defines the origins of an image in the text of its program: each stretch of the
-//! image's words has one source.
+//! This file defines the origins of an image in the text of its program: each stretch of the image's words has one source.
 use cyc_words::Span;
 
 /// The origin of a word of an image's text.
@@ -9,8 +8,7 @@ pub enum Source {
     Start,
     /// The word comes from the part of the text at this span, in the function with this number.
     Part { function: usize, span: Span },
-    /// The word belongs to the code that raises a built-in exception for all failed checks of the
-    /// function with this number.
+    /// The word belongs to the code that raises a built-in exception for all failed checks of the function with this number.
     Raise { function: usize },
     /// The word belongs to the code that passes on an exception that the `try` at this span does not catch, in the
     /// function with this number.

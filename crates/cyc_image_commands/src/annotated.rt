@@ -66,8 +66,7 @@ impl Text {
         })
     }
 
-    /// Returns a line of the file by its number, counted from 1; the line is empty if the file does
-    /// not have it.
+    /// Returns a line of the file by its number, counted from 1; the line is empty if the file does not have it.
     fn line(&self, number: u32) -> &[u8] {
         let place = number.saturating_sub(1) as usize;
         let Some(start) = self.starts.get(place) else {
@@ -107,8 +106,7 @@ fn address_in(line: &[u8]) -> Option<u32> {
     number_in(line.get(..DIGITS)?)
 }
 
-/// Returns the target address of the branch or jump in a line of a listing, if the line contains
-/// one.
+/// Returns the target address of the branch or jump in a line of a listing, if the line contains one.
 fn target_in(line: &[u8]) -> Option<u32> {
     let start = line.len().checked_sub(DIGITS)?;
     let before = line.get(..start)?;
@@ -164,8 +162,7 @@ impl<'a, W: ByteOut + Drop> Annotated<'a, W> {
         }
     }
 
-    /// Returns the function that contains an address: the last function that begins at the address
-    /// or before it.
+    /// Returns the function that contains an address: the last function that begins at the address or before it.
     fn function_at(&self, address: u32) -> Option<Begun> {
         let after = self
             .functions
@@ -173,8 +170,7 @@ impl<'a, W: ByteOut + Drop> Annotated<'a, W> {
         self.functions.get(after.checked_sub(1)?).copied()
     }
 
-    /// Writes the name of the function that begins at the given address, if a function begins
-    /// there.
+    /// Writes the name of the function that begins at the given address, if a function begins there.
     fn put_function(&mut self, address: u32) -> Result<(), Failed> {
         let Some(begun) = self.function_at(address) else {
             return Ok(());
@@ -221,8 +217,7 @@ impl<'a, W: ByteOut + Drop> Annotated<'a, W> {
         }
     }
 
-    /// Writes the function that contains the target of the line's branch or jump, and the target's
-    /// offset in the function.
+    /// Writes the function that contains the target of the line's branch or jump, and the target's offset in the function.
     fn put_target(&mut self) -> Result<(), Failed> {
         let Some(target) = target_in(&self.line) else {
             return Ok(());

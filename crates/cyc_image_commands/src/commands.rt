@@ -16,8 +16,7 @@ use cyc_places::{Functions, Table, Unread, sum_of, table_in};
 use std::io;
 use std::io::{IsTerminal, Write};
 
-/// Returns the contents of an image's file of source positions. The file must belong to the image,
-/// which a checksum shows.
+/// Returns the contents of an image's file of source positions. The file must belong to the image, which a checksum shows.
 fn read_table(rt: &HostRuntime, path: &str, image: &[u8]) -> Result<Table, Answer> {
     let file = read_places(rt, path)?;
     match table_in(rt.alloc(), file.as_slice()) {
@@ -194,8 +193,7 @@ fn write_report(
     }
 }
 
-/// Writes the report about the outcome of a run to the named file, if one is named. If the writing succeeds, the answer
-/// does not change.
+/// Writes the report about the outcome of a run to the named file, if one is named. If the writing succeeds, the answer does not change.
 pub fn write_outcome(
     rt: &HostRuntime,
     report: Option<&str>,

@@ -44,8 +44,7 @@ impl fmt::Display for Int {
     }
 }
 
-/// A text written in quotes as JSON; a missing text is `null`. No such text contains a character
-/// that JSON escapes.
+/// A text written in quotes as JSON; a missing text is `null`. No such text contains a character that JSON escapes.
 #[derive(Drop)]
 struct Words(Option<&'static str>);
 
@@ -83,8 +82,7 @@ fn end_words(answer: Answer) -> &'static str
     }
 }
 
-/// Returns the value that `main` returned, or the int of the uncaught exception, if the run ended
-/// in this way.
+/// Returns the value that `main` returned, or the int of the uncaught exception, if the run ended in this way.
 fn value_in(answer: Answer) -> Option<i32>
     ensures { result ≡ value_in answer }
 {
@@ -208,8 +206,7 @@ fn write_figures<W: fmt::Write>(report: Option<Report>, f: &mut fmt::Formatter<W
     }
 }
 
-/// The outcome of a run, with its report if the run reached a stop. `Display` writes the outcome as a JSON
-/// object and a line feed.
+/// The outcome of a run, with its report if the run reached a stop. `Display` writes the outcome as a JSON object and a line feed.
 #[derive(Drop)]
 pub struct RunReport {
     pub answer: Answer,

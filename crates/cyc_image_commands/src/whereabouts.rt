@@ -1,5 +1,4 @@
-//! The source position at which a run stopped before its program ended, and the source positions of the calls active
-//! at that point.
+//! The source position at which a run stopped before its program ended, and the source positions of the calls active at that point.
 use cyc_cli::FileName;
 use cyc_emulator::{Limit, MOST_REPORTED, Report, Trail};
 use cyc_host::Answer;
@@ -11,8 +10,7 @@ use std::fmt;
 /// The built-in exceptions, in the order of their numbers.
 const BUILT_IN: [&str; 4] = ["Null_Exception", "Array_bounds", "Array_size", "Div_zero"];
 
-/// The source position at which a run stopped. `Display` writes a line for the stop and one for each active call,
-/// innermost first.
+/// The source position at which a run stopped. `Display` writes a line for the stop and one for each active call, innermost first.
 #[derive(Drop)]
 pub struct Whereabouts<'a> {
     pub table: &'a Table,
@@ -113,8 +111,7 @@ impl Whereabouts<'_> {
 }
 
 impl Whereabouts<'_> {
-    /// Returns the number of active calls that are written. If the run stopped in an inlined call, that call takes one of
-    /// the lines.
+    /// Returns the number of active calls that are written. If the run stopped in an inlined call, that call takes one of the lines.
     fn reported_count(&self) -> usize {
         let count = self.trail.calls.len();
         match self.place_of(self.trail.address) {
@@ -129,8 +126,7 @@ impl fmt::Display for Whereabouts<'_> {
         self.write_stop(f)?;
         let reported = self.reported_count();
         for address in self.trail.calls.iter().take(reported) {
-            // A function that contains calls is never inlined, so the call's position lies in the
-            // function's own code.
+            // A function that contains calls is never inlined, so the call's position lies in the function's own code.
             if let Some((call, _)) = self.place_of(*address) {
                 self.write_call(call, f)?;
             }

@@ -67,8 +67,7 @@ fn run_as<R: ByteIn, W: ByteOut>(
     }
 }
 
-/// Runs an image with the given input device, output device and options. Returns the answer and the
-/// report.
+/// Runs an image with the given input device, output device and options. Returns the answer and the report.
 fn run_between<R: ByteIn, W: ByteOut>(
     alloc: Global,
     image: &[u8],
@@ -151,8 +150,7 @@ impl<W: ByteOut + Drop> ByteOut for FirstLines<W> {
     }
 }
 
-/// Returns the answer of a listing. A write failure counts as success if the device failed because
-/// no line was left.
+/// Returns the answer of a listing. A write failure counts as success if the device failed because no line was left.
 fn answer_with(answer: Answer, left: u32) -> Answer {
     match answer {
         Answer::WriteFault if left == 0 => Answer::Done,
@@ -188,8 +186,7 @@ pub fn list_part<W: Write + Drop>(
     finish_for(&mut part.writer, answer)
 }
 
-/// Writes the description of an image to a device. The description needs only the headers of the
-/// image.
+/// Writes the description of an image to a device. The description needs only the headers of the image.
 #[tactic(auto, using(crate::proofs::Describing::no_memory, crate::proofs::Describing::all_reported, crate::proofs::Describing::describes_refusal))]
 fn describe_to<W: ByteOut>(alloc: Global, image: &[u8], writer: &mut W) -> Answer
     ensures { AnswersInfo image.now (W.written writer.old) (W.written writer.new) result }

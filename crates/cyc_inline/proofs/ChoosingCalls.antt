@@ -1,5 +1,4 @@
--- The chosen calls and duplicates satisfy the conditions for inlining, and the numbers in the code fit
--- machine words.
+-- The chosen calls and duplicates satisfy the conditions for inlining, and the numbers in the code fit machine words.
 use Rattle.std.proofs.Common.{◌≡◌, ℕ, zero, suc, ◌+◌, ◌^◌, ◌<◌, ◌≤◌, Bool, true, false, List, [], ◌∷◌, ◌++◌, length, Option, Some, None, refl, sym, ap, subst, ◌∙◌, arith, inl, inr}
 use Rattle.std.specs.Prelude.{◌⊎◌, ◌==◌, nat_lt, nat_le, if◌then◌else◌, not, ◌&&◌, filter, slice_get, sum_by}
 use Rattle.std.specs.List.{AllByRecursion}
@@ -39,8 +38,7 @@ use Rattle.cyc_inline.specs.inside.Emission.{IsFitOperand, IsFit, IsFitEnd, IsFi
 abbrev instruction_of : Call → Instruction
 instruction_of call = instructions.Call call.callee call.arguments call.count call.result
 
--- If an instruction is chosen for inlining, it is a call, and `line` of the callee's instructions
--- are placed in line, with `line` above 0.
+-- If an instruction is chosen for inlining, it is a call, and `line` of the callee's instructions are placed in line, with `line` above 0.
 pub call_is : (i : Instruction) (line : ℕ) (call : Call) → chosen_call i line ≡ Some call → (i ≡ instruction_of call) × (call.line ≡ line) × (0 < line)
 call_is (instructions.Call callee arguments count result) line call is = go (line == 0) refl is
   where
@@ -135,8 +133,7 @@ further_least given slots slot is = leb-true given slot (and_left (nat_le given 
 pub further_below : (given slots slot : ℕ) → is_further given slots slot ≡ true → slot < slots
 further_below given slots slot is = nat_lt-true slot slots (and_right (nat_le given slot) (nat_lt slot slots) is)
 
--- An instruction that passes the test `may_hoisted` satisfies the definition of hoisted
--- instructions.
+-- An instruction that passes the test `may_hoisted` satisfies the definition of hoisted instructions.
 pub is_hoisted : (globals given slots : ℕ) (x : Instruction) → may_hoisted globals given slots x ≡ true → IsHoisted given slots x
 is_hoisted globals given slots (instructions.Move destination source) may =
     let further = and_left (is_further given slots destination) (fits_in slots source) may in

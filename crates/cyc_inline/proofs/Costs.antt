@@ -27,8 +27,7 @@ module _ {P Q : Type 0} (same : P → P → Bool) (is : (p r : P) → same p r �
   own_sum price q qs p true e = sum_by-cons price q (made_of qs p)
   own_sum price q qs p false e = omega arith
 
-  -- If a list has no duplicates and a cost is charged for one of its elements, the total is that
-  -- cost.
+  -- If a list has no duplicates and a cost is charged for one of its elements, the total is that cost.
   none_there : (x : ℕ) (r : P) (ps : List P) → AllByRecursion (λ p. r ≢ p) ps → sum_by (λ (p : P). if same p r then x else 0) ps ≡ 0
   none_there x r [] apart = refl
   none_there x r (p ∷ ps) (first, rest) =
@@ -61,8 +60,7 @@ module _ {P Q : Type 0} (same : P → P → Bool) (is : (p r : P) → same p r �
   nothing [] price = refl
   nothing (p ∷ ps) price = let a = sum_by-cons (λ (x : P). sum_by price (made_of [] x)) p ps in let r = nothing ps price in let z : sum_by price (made_of [] p) ≡ 0 = refl in omega (arith, a, r, z)
 
-  -- The total cost of the positions made from distinct origins is at most the cost of all
-  -- positions.
+  -- The total cost of the positions made from distinct origins is at most the cost of all positions.
   pub parts_cheap : (price : Q → ℕ) (ps : List P) (qs : List Q) → IsDistinct ps → sum_by (λ (p : P). sum_by price (made_of qs p)) ps ≤ sum_by price qs
   parts_cheap price ps [] distinct = let n = nothing ps price in omega (arith, n)
   parts_cheap price ps (q ∷ qs) distinct =

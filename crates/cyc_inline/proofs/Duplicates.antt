@@ -39,8 +39,7 @@ use Rattle.cyc_inline.proofs.Steps.{IsPrecededHere}
 use Rattle.cyc_inline.proofs.Passing.{after_inside, has_each}
 use Rattle.cyc_inline.proofs.Inside.{ordinary_calls, ordinary_limit, step_so}
 
--- An instruction that hoisted instructions may precede is ordinary: control falls through to the
--- next instruction.
+-- An instruction that hoisted instructions may precede is ordinary: control falls through to the next instruction.
 preceded_ordinary : (i : Instruction) → may_follow_hoisted i ≡ true → is_ordinary i ≡ true
 preceded_ordinary (instructions.Move destination source) may = refl
 preceded_ordinary (instructions.MoveWords destination source count) may = refl

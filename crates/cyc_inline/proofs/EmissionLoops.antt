@@ -1,5 +1,4 @@
--- Invariants of the emitting loops: the code emitted so far, followed by the code still to emit, is the complete
--- code.
+-- Invariants of the emitting loops: the code emitted so far, followed by the code still to emit, is the complete code.
 use Rattle.std.proofs.Common.{◌≡◌, ℕ, zero, suc, ◌+◌, ◌-◌, ◌<◌, Bool, List, [], ◌∷◌, ◌++◌, drop, length, replicate, refl, sym, ap, ◌∙◌, arith}
 use Rattle.std.specs.Prelude.{Result, Ok, Err, OnOk}
 use Rattle.std.specs.declared.alloc.AllocError.{AllocError}
@@ -95,8 +94,7 @@ pub front_origins : (origin : Origin) (all_hoisted duplicate : List Instruction)
 front_origins origin [] duplicate = replicate_last origin (length duplicate)
 front_origins origin (x ∷ all_hoisted) duplicate = ap (λ (os : List Origin). origin ∷ os) (front_origins origin all_hoisted duplicate)
 
--- If a condition on a successful result implies another condition, the result satisfies the other
--- condition too.
+-- If a condition on a successful result implies another condition, the result satisfies the other condition too.
 pub then_ok : {T : Type 0} {P Q : Type 0} (result : Result T AllocError) → OnOk result P → (P → Q) → OnOk result Q
 then_ok (Ok value) holds next = next holds
 then_ok (Err e) holds next = tt

@@ -1,5 +1,4 @@
--- Lemmas about lists with one piece for each instruction of a code, and about the position of each
--- piece.
+-- Lemmas about lists with one piece for each instruction of a code, and about the position of each piece.
 use Rattle.std.proofs.Common.{◌≡◌, ℕ, zero, suc, ◌+◌, ◌<◌, ◌≤◌, List, [], ◌∷◌, ◌++◌, length, replicate, Some, None, slice_get, refl, sym, ap, subst, ◌∙◌, arith, length-append}
 use Rattle.std.specs.List.{AllByRecursion}
 use Rattle.cyc_words.proofs.Lists.{all_append}
@@ -26,8 +25,7 @@ stands_at_back all front back at stands k x is =
     let same : at + length front + k ≡ at + (length front + k) = omega arith in
     ap (slice_get all) same ∙ stands (length front + k) x (slice_get_back front back k ∙ is)
 
--- If a part occurs in a list, it also occurs in the list with a prefix added, at an index shifted
--- by the prefix's length.
+-- If a part occurs in a list, it also occurs in the list with a prefix added, at an index shifted by the prefix's length.
 stands_at_after : {A : Type 0} (front all part : List A) (at : ℕ) → StandsAt all part at → StandsAt (front ++ all) part (length front + at)
 stands_at_after front all part at stands k x is =
     let same : length front + at + k ≡ length front + (at + k) = omega arith in
@@ -36,8 +34,7 @@ stands_at_after front all part at stands k x is =
 stands_before : {A : Type 0} (all back part : List A) (at : ℕ) → StandsAt all part at → StandsAt (all ++ back) part at
 stands_before all back part at stands k x is = slice_get_front all back (at + k) x (stands k x is)
 
--- If a part occurs in a list and a smaller part occurs in the part, the smaller part occurs in the
--- list.
+-- If a part occurs in a list and a smaller part occurs in the part, the smaller part occurs in the list.
 pub stands_within : {A : Type 0} (all part smaller : List A) (at inner : ℕ) → StandsAt all part at → StandsAt part smaller inner → StandsAt all smaller (at + inner)
 stands_within all part smaller at inner outer stands k x is =
     let same : at + inner + k ≡ at + (inner + k) = omega arith in
@@ -87,8 +84,7 @@ offset_next count first (j ∷ code) (suc k) i at =
     omega (arith, all, offset_next count (suc first) code k i at, there)
 
 module _ {A : Type 0} (piece : ℕ → Instruction → List A) (count : ℕ → Instruction → ℕ) (long : (k : ℕ) (i : Instruction) → length (piece k i) ≡ count k i) where
-  -- The piece of an instruction occurs in the concatenated code, directly after the pieces of all
-  -- earlier instructions.
+  -- The piece of an instruction occurs in the concatenated code, directly after the pieces of all earlier instructions.
   pub piece_stands : (first : ℕ) (code : List Instruction) (k : ℕ) (i : Instruction) → At code k i → StandsAt (pieces piece first code) (piece (first + k) i) (offset count first code k)
   piece_stands first [] k i at = absurd (let e : None ≡ Some i = at in cc)
   piece_stands first (j ∷ code) zero i at =
@@ -106,8 +102,7 @@ module _ {A : Type 0} (piece : ℕ → Instruction → List A) (count : ℕ → 
   pieces_long first [] = refl
   pieces_long first (i ∷ code) = omega (arith, length-append (piece first i) (pieces piece (suc first) code), long first i, pieces_long (suc first) code)
 
--- If a property holds for the items of each piece, it holds for all items of the concatenated
--- pieces.
+-- If a property holds for the items of each piece, it holds for all items of the concatenated pieces.
 pub all_pieces : {A : Type 0} (P : A → Type 0) (piece : ℕ → Instruction → List A) (first : ℕ) (code : List Instruction)
     → ((k : ℕ) (i : Instruction) → At code k i → AllByRecursion P (piece (first + k) i)) → AllByRecursion P (pieces piece first code)
 all_pieces P piece first [] each = tt

@@ -1,5 +1,4 @@
--- Lemmas about the code positions of a function's instructions after inlining, from which the
--- function's code follows.
+-- Lemmas about the code positions of a function's instructions after inlining, from which the function's code follows.
 use Rattle.std.proofs.Common.{◌≡◌, ℕ, zero, suc, ◌+◌, ◌<◌, ◌^◌, ◌≤◌, Bool, true, false, List, [], ◌∷◌, ◌++◌, length, replicate, Option, Some, None, refl, sym, ap, subst, ◌∙◌, arith, inl, inr, length-append}
 use Rattle.std.specs.Prelude.{◌⊎◌, if◌then◌else◌}
 use Rattle.std.specs.List.{AllByRecursion}
@@ -26,8 +25,7 @@ use Rattle.cyc_inline.proofs.EmissionSites.{is_site, site_long, site_origins_lon
 
 -- ---- the tables of places
 
--- The number of instructions in an instruction's replacement, for the in-line or the out-of-line
--- part.
+-- The number of instructions in an instruction's replacement, for the in-line or the out-of-line part.
 abbrev pub count_at : Program → List ℕ → (front_at : ℕ → Instruction → List Instruction) → (in_line : Bool) → (index : ℕ) → Instruction → ℕ
 count_at program chosen front_at in_line index i = part_count program in_line (chosen_call i (place_in chosen index)) (length (front_at index i))
 
@@ -80,8 +78,7 @@ parts_are program number choice places rests table rest plain is_function calls 
       omega (arith, most, same, is_last, within));
 }
 
--- The replacement of the next instruction directly follows the replacement of the current
--- instruction.
+-- The replacement of the next instruction directly follows the replacement of the current instruction.
 pub place_next : (program : Program) (chosen : List ℕ) (front_at : ℕ → Instruction → List Instruction) (in_line : Bool) (here : ℕ) (code : List Instruction) (places : List ℕ) (k : ℕ) (i : Instruction)
     → places ≡ opened_places program chosen front_at in_line 0 here code → At code k i → place_in places (k + 1) ≡ place_in places k + count_at program chosen front_at in_line k i
 place_next program chosen front_at in_line start code places k i are at =
@@ -159,8 +156,7 @@ module _ (program : Program) (number : ℕ) (chosen : List ℕ) (front_at : ℕ 
   abbrev rest : ℕ → ℕ
   rest = place_in rests
 
-  -- The code position where an instruction's replacement begins, for the in-line or the out-of-line
-  -- part.
+  -- The code position where an instruction's replacement begins, for the in-line or the out-of-line part.
   abbrev pub begins : (in_line : Bool) → (k : ℕ) → ℕ
   begins in_line k = if in_line then place k else rest k
 

@@ -217,8 +217,7 @@ module _ (program : Program) (room : ℕ) (given functions : List Function) (cha
   pub whole_inlined : IsInlined program (program_of functions globals main)
   whole_inlined = subst (IsInlined program) (sym same) (are_inlined program routines (all_origins 0 program.functions changes) plain made small)
 
-  -- The program with replaced functions has at most `room` words, or at most as many words as the
-  -- source program.
+  -- The program with replaced functions has at most `room` words, or at most as many words as the source program.
   pub whole_small : sum_by size (map routine_of functions) ≤ max (sum_by size program.functions) room
   whole_small = (let (first, second) = begun.most in let equal = ap (λ (rs : List Routine). sum_by size rs) functions_are in omega (arith, first, equal))
 

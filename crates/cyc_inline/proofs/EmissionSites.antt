@@ -37,8 +37,7 @@ part_long site place index i (Some value) =
     )
 part_long site place index i None = refl
 
--- The replacement of a callee's instruction in the in-line or the out-of-line part; it is empty in
--- the other part.
+-- The replacement of a callee's instruction in the in-line or the out-of-line part; it is empty in the other part.
 abbrev pub piece_inside : Site → (place : ℕ → ℕ) → (in_line : Bool) → (index : ℕ) → Instruction → List Instruction
 piece_inside site place in_line index i = if stands_in in_line site.call.line index then inside_part site place index i (is_end i) else []
 
@@ -146,8 +145,7 @@ module _ (program : Program) (code : List Instruction) (origins : List Origin) (
   abbrev begin : (in_line : Bool) → ℕ
   begin in_line = if in_line then first else site.rest
 
-  -- Says that a callee's instruction is in the in-line or out-of-line part, at the code position
-  -- that the table states.
+  -- Says that a callee's instruction is in the in-line or out-of-line part, at the code position that the table states.
   record IsThere (k : ℕ) : Type 0 where
     pub in_line : Bool
     pub stands : stands_in in_line site.call.line k ≡ true
@@ -195,8 +193,7 @@ module _ (program : Program) (code : List Instruction) (origins : List Origin) (
         (stands_within origins (pieces piece 0 t.code) (piece k i) (begin is.in_line) (offset (counts is.in_line) 0 t.code k) whole
         (subst (λ (n : ℕ). StandsAt (pieces piece 0 t.code) (piece n i) (offset (counts is.in_line) 0 t.code k)) same inner))))
 
-    -- In the same part, the offset of the next instruction is the offset of the current instruction
-    -- plus the size of its replacement.
+    -- In the same part, the offset of the next instruction is the offset of the current instruction plus the size of its replacement.
     further : (in_line : Bool) (k : ℕ) (i : Instruction) → At t.code k i → stands_in in_line site.call.line k ≡ true
         → offset (counts in_line) 0 t.code (k + 1) ≡ offset (counts in_line) 0 t.code k + inside_count site.results site.call.line k (is_end i)
     further in_line k i at is =
@@ -204,8 +201,7 @@ module _ (program : Program) (code : List Instruction) (origins : List Origin) (
         offset_next (counts in_line) 0 t.code k i at
         ∙ ap (λ (n : ℕ). offset (counts in_line) 0 t.code k + n) (same ∙ count_there site.results site.call.line in_line k i is)
 
-    -- The replacement of the next instruction directly follows an instruction's replacement, unless
-    -- control never falls through.
+    -- The replacement of the next instruction directly follows an instruction's replacement, unless control never falls through.
     next_place : (k : ℕ) (i : Instruction) → At t.code k i → leaves i ≡ false → k + 1 < length t.code → place (k + 1) ≡ place k + inside_count site.results site.call.line k (is_end i)
     next_place k i at stays more = elim (cases_lt (k + 1) site.call.line) [
       | inl before ↦
@@ -276,8 +272,7 @@ module _ (program : Program) (code : List Instruction) (origins : List Origin) (
 
 -- ---- the inlined call
 
--- If the in-line and out-of-line code of an inlined call are at their positions, the caller's code contains the
--- callee's code.
+-- If the in-line and out-of-line code of an inlined call are at their positions, the caller's code contains the callee's code.
 module _ (program : Program) (r s : Routine) (origins : List Origin) (number index here following rest : ℕ) (call : Call) (openable : IsOpenable program r s.slots call)
     (routine : IsRoutine program (routine_at program call.callee)) (next : following ≡ here + call_size program true call)
     (stands : (in_line : Bool) → StandsAt s.code (site_code (site_of program r call following rest) in_line here (routine_at program call.callee).code) (if in_line then here else rest))

@@ -1,5 +1,4 @@
--- Simulation of the steps that enter an inlined call: the arguments are moved, stack space is checked, and the
--- call becomes active.
+-- Simulation of the steps that enter an inlined call: the arguments are moved, stack space is checked, and the call becomes active.
 use Rattle.std.proofs.Common.{◌≡◌, ℕ, suc, ◌+◌, ◌-◌, ◌<◌, Bool, true, ◌&&◌, List, [], ◌∷◌, ◌++◌, length, Option, Some, refl, sym, ap, subst, ◌∙◌, arith, inl, inr, length-append}
 use Rattle.std.specs.Prelude.{nat_le, Contains}
 use Rattle.std.specs.List.{AllByRecursion}
@@ -89,8 +88,7 @@ module _ (program inlined : Program) (origins : List (List Origin)) (are : AreOp
   words : HoldsWords (Running e)
   words = (passed_words shift arguments count b.slots matches.words.0, matches.words.1, matches.words.2, matches.words.3, matches.words.4)
 
-  -- The slots of the source call correspond to the extra slots of the caller in the inlined
-  -- program.
+  -- The slots of the source call correspond to the extra slots of the caller in the inlined program.
   abbrev found : Words
   found = λ (k : ℕ). passer.slots (shift + k)
 

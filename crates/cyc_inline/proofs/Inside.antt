@@ -54,8 +54,7 @@ step_so program pages calls c i s at free does within = (
       ∙ limited-within pages calls (Running c) s within))),
 )
 
--- If a state has at most as many calls as a state within the limits, and the same heap demand, it
--- is within the limits too.
+-- If a state has at most as many calls as a state within the limits, and the same heap demand, it is within the limits too.
 pub fewer_within : (pages calls : ℕ) (c d : Configuration) → stores.demand d.store ≡ stores.demand c.store → length d.frames ≤ length c.frames → is_within pages calls (Running c) ≡ true → is_within pages calls (Running d) ≡ true
 fewer_within pages calls c d as_much fewer within =
     let (paged, some) = and_parts (nat_le (stores.demand c.store) pages) (nat_le (suc (length c.frames)) calls) within in
@@ -82,8 +81,7 @@ module _ (program inlined : Program) (origins : List (List Origin)) (are : AreOp
     handlers = l.handlers;
   }
 
-  -- In an inlined call, the inlined program has one active call less than the source program, so it
-  -- is within the same limits.
+  -- In an inlined call, the inlined program has one active call less than the source program, so it is within the same limits.
   pub lodged_within : (pages calls : ℕ) (c : Configuration) (b : Activation) (gs : List Frame) → IsLodged program inlined origins are c b gs → is_within pages calls (Running c) ≡ true
       → is_within pages calls (Running (beside program inlined origins are c b gs)) ≡ true
   lodged_within pages calls c b gs l within =
@@ -178,16 +176,14 @@ module _ (program inlined : Program) (origins : List (List Origin)) (are : AreOp
               by_one (machine program pages calls) (machine inlined pages calls) (matching program inlined origins are plain fine pages calls) (Running c) (Running d) matches refl owned
               (λ u step. arrives u g.active.next (comes_to u step) to (words_kept program inlined origins are plain fine pages calls (Running d) u matches.words step))
 
-          -- The case in which a jump lies between an instruction's replacement and the replacement
-          -- of its successor.
+          -- The case in which a jump lies between an instruction's replacement and the replacement of its successor.
           module _ (following : e.active.next ≡ c.active.next + 1) (beyond : g.active.next ≡ b.next + 1)
               (jump_at : At (routine_at inlined lodged.waits.caller.function).code (b.next + 1) (instructions.Jump (lodged.site.place (c.active.next + 1))))
               (jump_made : AreMadeOf (origins_of origins lodged.waits.caller.function) (b.next + 1) 1 (origin_at c.active.function c.active.next)) where
             abbrev target : ℕ
             target = place (c.active.next + 1)
 
-            -- The code position of the active call in the inlined program after the instruction's
-            -- step.
+            -- The code position of the active call in the inlined program after the instruction's step.
             stands_after : place_of (Running below) ≡ place_at b.function (b.next + 1)
             stands_after = λ k. place_at ((g.lodges.slotted.function ∙ (g.caller ∙ sym lodged.slotted.function)) k) (beyond k)
 
@@ -247,8 +243,7 @@ module _ (program inlined : Program) (origins : List (List Origin)) (are : AreOp
         by_state (Ended ending output input) does going = absurd going
         by_state (Stuck output input) does going = absurd (never (Stuck output input) (step_so program pages calls c i (Stuck output input) at (ordinary_calls i ordinary) does (stuck_within pages calls output input)) refl)
 
-        -- After an instruction that falls through, control continues at the code position of its
-        -- successor.
+        -- After an instruction that falls through, control continues at the code position of its successor.
         falls_here : leaves i ≡ false → Falls program inlined origins are plain.well_formed c b gs lodged
         falls_here stays =
             subst (λ (n : ℕ). GoesTo code others (n + 1) (place (c.active.next + 1)) (origin_at c.active.function c.active.next)) (sym next) (falls stays)

@@ -28,8 +28,7 @@ pub mod EmissionSites
 pub mod EmissionPlaces
 -- lemmas: the loops that emit code, iteration by iteration
 pub mod EmissionLoops
--- lemmas: everything that the emitted code names exists, so an emitted function correctly replaces
--- its source function
+-- lemmas: everything that the emitted code names exists, so an emitted function correctly replaces its source function
 pub mod RangesMoved
 pub mod RangesCode
 pub mod RangesEnds

@@ -79,8 +79,7 @@ module _ (program inlined : Program) (origins : List (List Origin)) (are : AreOp
 
     -- ---- the call continues
 
-    -- Says that control falls through or jumps to the code position after an instruction of the
-    -- inlined call.
+    -- Says that control falls through or jumps to the code position after an instruction of the inlined call.
     abbrev pub Falls : Type 0
     Falls = GoesTo (routine_at inlined lodged.waits.caller.function).code (origins_of origins lodged.waits.caller.function) (b.next + 1) (lodged.site.place (c.active.next + 1)) (origin_at c.active.function c.active.next)
 
@@ -98,15 +97,13 @@ module _ (program inlined : Program) (origins : List (List Origin)) (are : AreOp
       pub as_much : stores.demand e.store ≡ stores.demand c.store
       pub as_deep : length e.frames ≡ length c.frames
 
-    -- Says that states match during an inlined call; the source run does not end inside the inlined
-    -- call.
+    -- Says that states match during an inlined call; the source run does not end inside the inlined call.
     abbrev pub Going : State → State → Type 0
     Going (Running e) t = IsGoing e t
     Going (Ended ending output input) t = ⊥
     Going (Stuck output input) t = Unit {0}
 
-    -- The relation of an inlined call still holds after its slots and code position change
-    -- correspondingly in both programs.
+    -- The relation of an inlined call still holds after its slots and code position change correspondingly in both programs.
     abbrev moved_on : (slots others : Words) (to other : ℕ) (globals : Words) (store : StoreState) (output input : List ℕ) → Agree leaf.slots slots (from_slot shift others) → Agree shift b.slots others
         → IsLodged (record c { active = record c.active { slots = slots; next = to }; globals = globals; store = store; output = output; input = input }) (record b { slots = others; next = other }) gs
     moved_on slots others to other globals store output input agree kept = record {

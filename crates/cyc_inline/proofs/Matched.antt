@@ -1,5 +1,4 @@
--- The simulation relation between the states of a program and of its inlined version, and lemmas that restore
--- the relation after a step.
+-- The simulation relation between the states of a program and of its inlined version, and lemmas that restore the relation after a step.
 use Rattle.std.proofs.Common.{◌≡◌, ℕ, suc, ◌+◌, ◌<◌, Bool, true, false, ◌&&◌, List, Option, Some, slice_get, refl, sym, ap, subst, ◌∙◌, arith, inl, inr}
 use Rattle.std.specs.Prelude.{◌⊎◌, nat_le, Contains, if◌then◌else◌}
 use Rattle.cyc_words.specs.Ending.{Full}
@@ -59,8 +58,7 @@ module _ (program inlined : Program) (origins : List (List Origin)) (are : AreOp
   alike_if true e s t u v same first second = subst (λ (x : Bool). Alike s (if x then u else v)) (sym same) first
   alike_if false e s t u v same first second = subst (λ (x : Bool). Alike t (if x then u else v)) (sym same) second
 
-  -- If the states of both programs match outside inlined calls, both are within the limits or
-  -- neither is.
+  -- If the states of both programs match outside inlined calls, both are within the limits or neither is.
   within_same : (pages calls : ℕ) (s u : State) → Outside program inlined origins are s u → is_within pages calls u ≡ is_within pages calls s
   within_same pages calls (Running c) u outside =
       ap (is_within pages calls) outside.is
@@ -84,8 +82,7 @@ module _ (program inlined : Program) (origins : List (List Origin)) (are : AreOp
       → instruction_at inlined (place_at b.function b.next) ≡ Some i
   finds a b next i slotted at there = ap (instruction_at inlined) (stands a b next slotted at) ∙ there
 
-  -- The code position of the active call in the inlined program is among the positions made from
-  -- the call's origin.
+  -- The code position of the active call in the inlined program is among the positions made from the call's origin.
   pub owns : (a b : Activation) (next function index : ℕ) (i : Instruction) → AreSlotted program inlined origins are a b → b.next ≡ next → At (routine_at inlined a.function).code next i
       → slice_get (origins_of origins a.function) next ≡ Some (origin_at function index)
       → Contains (own inlined origins (place_at function index)) (place_at b.function b.next)
@@ -115,8 +112,7 @@ module _ (program inlined : Program) (origins : List (List Origin)) (are : AreOp
       endings = λ s t ending matches over. ended s t ending matches.alike over;
     }
 
-    -- The simulation relation holds again if the source program makes a step and the resulting
-    -- states correspond.
+    -- The simulation relation holds again if the source program makes a step and the resulting states correspond.
     pub kept : (s t next u : State) → Matches s t → Step program pages calls s next → Alike next u → HoldsWords u → Matches next u
     kept s t next u matches step alike words = record {
       alike = alike;

@@ -22,8 +22,7 @@ use Rattle.cyc_inline.proofs.Waiting.{each_opened, place_in, slots_of, AreSlotte
 
 -- ---- slots whose address is taken
 
--- If a slot of a function is pinned, an instruction of the function's code takes the slot's
--- address.
+-- If a slot of a function is pinned, an instruction of the function's code takes the slot's address.
 pinned_there : (code : List Instruction) (slot : ℕ) → is_pinned code slot ≡ true → (p : ℕ) × (i : Instruction) × At code p i × (pins i slot ≡ true)
 pinned_there [] slot pinned = absurd (let e : false ≡ true = pinned in cc)
 pinned_there (i ∷ code) slot pinned = elim (or_cases (pins i slot) (is_pinned code slot) pinned) [

@@ -1,5 +1,4 @@
--- Lemmas: moving words one by one to disjoint slots has the same effect as copying the words at
--- once.
+-- Lemmas: moving words one by one to disjoint slots has the same effect as copying the words at once.
 use Rattle.std.proofs.Common.{◌≡◌, ℕ, zero, suc, ◌+◌, ◌<◌, ◌≤◌, inl, inr, refl, ap, ◌∙◌, arith}
 use Rattle.std.specs.Prelude.{◌⊎◌}
 use Rattle.cyc_plain.specs.inside.State.{Words, put}
@@ -10,8 +9,7 @@ abbrev pub passed : (destination source count : ℕ) → Words → Words
 passed destination source zero slots = slots
 passed destination source (suc count) slots = passed (destination + 1) (source + 1) count (put slots destination (slots source))
 
--- If source and destination slots are disjoint, each destination slot receives its word, and all other
--- slots are unchanged.
+-- If source and destination slots are disjoint, each destination slot receives its word, and all other slots are unchanged.
 pub passed_other : (destination source count : ℕ) (slots : Words) (k : ℕ) → (k < destination) ⊎ (destination + count ≤ k) → passed destination source count slots k ≡ slots k
 passed_other destination source zero slots k apart = refl
 passed_other destination source (suc count) slots k apart =

@@ -1,5 +1,4 @@
--- Simulation of an instruction outside inlined calls: an instruction that was not inlined has the
--- same effect in both programs.
+-- Simulation of an instruction outside inlined calls: an instruction that was not inlined has the same effect in both programs.
 use Rattle.std.proofs.Common.{◌≡◌, ℕ, suc, ◌+◌, ◌*◌, ◌≤◌, false, List, [], ◌∷◌, map, Option, Some, None, refl, sym, ap, subst, ◌∙◌, arith, inl, inr}
 use Rattle.std.specs.Prelude.{◌==◌, if◌then◌else◌}
 use Rattle.std.specs.List.{AllByRecursion}

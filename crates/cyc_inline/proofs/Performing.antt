@@ -1,5 +1,4 @@
--- An instruction with shifted slots and moved jump targets has the same effect as the original
--- instruction.
+-- An instruction with shifted slots and moved jump targets has the same effect as the original instruction.
 use Rattle.std.proofs.Common.{◌≡◌, ℕ, ◌+◌, ◌-◌, ◌%◌, ◌^◌, ◌≤◌, Bool, true, false, List, [], ◌∷◌, ◌++◌, drop, Option, Some, None, slice_get, refl, sym, ap, subst, ◌∙◌, arith, inl, inr}
 use Rattle.std.specs.Prelude.{◌⊎◌, if◌then◌else◌, unwrap_or}
 use Rattle.cyc_words.specs.Word.{add_of}
@@ -18,8 +17,7 @@ use Rattle.cyc_plain.proofs.SlotLaws.{put-other, copied-below}
 use Rattle.cyc_inline.specs.inside.Opened.{shifted_operand, moved}
 use Rattle.cyc_inline.proofs.Agreeing.{Agree, from_slot, put_shifted, copied_at, operand_agree}
 
--- Returns true for an ordinary instruction: it calls no function, opens or closes no handler, and
--- takes no slot's address.
+-- Returns true for an ordinary instruction: it calls no function, opens or closes no handler, and takes no slot's address.
 abbrev pub is_ordinary : Instruction → Bool
 is_ordinary (instructions.Call function arguments count result) = false
 is_ordinary (instructions.Return value) = false
@@ -37,13 +35,11 @@ module _ (program inlined : Program) (r : Routine) (shift : ℕ) (place : ℕ �
   abbrev d : Configuration
   d = record c { active = b; frames = gs }
 
-  -- The configuration after the active call has advanced to another code position, in the source or
-  -- in the inlined program.
+  -- The configuration after the active call has advanced to another code position, in the source or in the inlined program.
   abbrev pub gone : (d : Configuration) (slots : Words) (next : ℕ) (globals : Words) (output input : List ℕ) → Configuration
   gone d slots next globals output input = record d { active = record d.active { slots = slots; next = next }; globals = globals; output = output; input = input }
 
-  -- Says that both programs are at corresponding code positions, or that both are just after the
-  -- instruction.
+  -- Says that both programs are at corresponding code positions, or that both are just after the instruction.
   abbrev pub IsNext : (to other : ℕ) → Type 0
   IsNext to other = (other ≡ place to) ⊎ ((to ≡ c.active.next + 1) × (other ≡ b.next + 1) × Falls)
 
@@ -70,8 +66,7 @@ module _ (program inlined : Program) (r : Routine) (shift : ℕ) (place : ℕ �
         (λ k below. put-other b.slots (shift + destination) k same (λ e. omega (arith, e, below)))
         (inr (refl, refl, falls))
 
-    -- The states still match if only the code position, the globals, the output and the input have
-    -- changed.
+    -- The states still match if only the code position, the globals, the output and the input have changed.
     stays : (to next : ℕ) → IsNext to next → Match (Running (gone c c.active.slots to c.globals c.output c.input)) (Running (gone d b.slots next c.globals c.output c.input))
     stays to next is = bears.goes c.active.slots b.slots to next c.globals c.output c.input agree (λ k below. refl) is
 

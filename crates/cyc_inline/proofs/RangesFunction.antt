@@ -90,8 +90,7 @@ module _ (program : Program) (number : ℕ) (chosen : List ℕ) (front_at : ℕ 
     pinned = pinned program number chosen front_at places rests s origins is;
   }
 
-  -- The in-line code of a function does not run off its end, because it ends with the replacement
-  -- of the last instruction.
+  -- The in-line code of a function does not run off its end, because it ends with the replacement of the last instruction.
   front_ends : EndsWell front
   front_ends k i at last =
       let some = has_code program r routine in

@@ -1,5 +1,4 @@
--- If everything that an instruction names exists, everything that the moved instruction names
--- exists.
+-- If everything that an instruction names exists, everything that the moved instruction names exists.
 use Rattle.std.proofs.Common.{◌≡◌, ℕ, ◌+◌, ◌^◌, ◌<◌, ◌≤◌, true, false, length, Option, Some, None, refl, sym, ap, ◌∙◌, arith}
 use Rattle.std.specs.Prelude.{not, ◌&&◌, nat_lt}
 use Rattle.std.proofs.lemmas.Bool.{false≢true}
@@ -46,8 +45,7 @@ module _ (program : Program) (t s : Routine) (shift : ℕ) (place : ℕ → ℕ)
   argument_still (Some operand) is = operand_still operand is
   argument_still None is = tt
 
-  -- A moved instruction names only existing slots, globals and functions, unless it is a return or
-  -- opens a handler.
+  -- A moved instruction names only existing slots, globals and functions, unless it is a return or opens a handler.
   pub moved_in : (i : Instruction) → IsInRange program t i → ((value : ℕ) → is_end i ≡ Some value → HasSlots s value s.results)
       → ((first handler : ℕ) → i ≡ instructions.Try first handler → IsInRange program s (instructions.Try first (place handler))) → IsInRange program s (moved shift place i)
   moved_in (instructions.Move destination source) (first, second) ends tries = (slot_in destination first, operand_in source second)

@@ -188,8 +188,7 @@ module _ (program inlined : Program) (origins : List (List Origin)) (are : AreOp
           comes = through [] places (arrives places (Running (below (b.next + results))) (ap (λ (n : ℕ). Running (below n)) (ap (λ (n : ℕ). n + results) next ∙ to)));
         }
 
-    -- The case in which a jump after the moves of the results leads to the position where the
-    -- caller continues.
+    -- The case in which a jump after the moves of the results leads to the position where the caller continues.
     module _ (jump_at : At (routine_at inlined lodged.waits.caller.function).code (lodged.site.place c.active.next + (routine_at program c.active.function).results) (instructions.Jump (place_in program inlined origins are lodged.waits.caller.function (lodged.index + 1))))
         (jump_made : AreMadeOf (origins_of origins lodged.waits.caller.function) (lodged.site.place c.active.next + (routine_at program c.active.function).results) 1 (origin_at c.active.function c.active.next)) where
       abbrev last : CodePlace

@@ -43,8 +43,7 @@ module _ (program inlined : Program) (origins : List (List Origin)) (are : AreOp
   abbrev FailsNever : State → Type 0
   FailsNever s = (next : State) → Step program pages calls s next → status_of next ≡ simulation.Failed → ⊥
 
-  -- Says that a configuration's next instruction is in the code of its function, and that
-  -- everything the instruction names exists.
+  -- Says that a configuration's next instruction is in the code of its function, and that everything the instruction names exists.
   record IsFound (c : Configuration) : Type 0 where
     pub i : Instruction
     pub at : At (routine_at program c.active.function).code c.active.next i

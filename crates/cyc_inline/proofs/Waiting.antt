@@ -1,5 +1,4 @@
--- Lemmas about active and waiting calls of both programs, and about exceptions that reach these
--- calls.
+-- Lemmas about active and waiting calls of both programs, and about exceptions that reach these calls.
 use Rattle.std.proofs.Common.{◌≡◌, ℕ, suc, ◌+◌, ◌≤◌, Bool, true, false, List, [], ◌∷◌, length, map, refl, sym, ap, subst, arith, inl, inr}
 use Rattle.std.specs.Prelude.{if◌then◌else◌}
 use Rattle.std.specs.List.{AllByRecursion}
@@ -15,8 +14,7 @@ use Rattle.cyc_inline.specs.declared.origin.Origin.{Origin}
 use Rattle.cyc_inline.specs.inside.Opened.{IsOpened, AreOpened, origins_of}
 use Rattle.cyc_inline.proofs.Agreeing.{Agree, put_agree, intact_agree}
 
--- For every function number the inlined code satisfies `IsOpened`, even for a number without a
--- function.
+-- For every function number the inlined code satisfies `IsOpened`, even for a number without a function.
 nothing_opened : (program : Program) (function : ℕ) (origins : List Origin) → length origins ≡ 0 → IsOpened program function no_routine no_routine origins
 nothing_opened program function origins none = record {
   like = record { name = refl; parameters = refl; results = refl; slots = omega arith; frame = inl refl };
@@ -57,8 +55,7 @@ module _ (program inlined : Program) (origins : List (List Origin)) (are : AreOp
   HasRecord function (Open index first contents) = first + RECORD_WORDS ≤ slots_of function
   HasRecord function Caught = Unit {0}
 
-  -- Says that a call of the source program and a call of the inlined program correspond, at any
-  -- code positions.
+  -- Says that a call of the source program and a call of the inlined program correspond, at any code positions.
   pub record AreSlotted (a b : Activation) : Type 0 where
     pub function : b.function ≡ a.function
     pub base : b.base ≡ a.base
@@ -66,14 +63,12 @@ module _ (program inlined : Program) (origins : List (List Origin)) (are : AreOp
     pub records : AllByRecursion (HasRecord a.function) a.handlers
     pub slots : Agree (slots_of a.function) a.slots b.slots
 
-  -- Says that a call of the source program and a call of the inlined program correspond and are at
-  -- corresponding code positions.
+  -- Says that a call of the source program and a call of the inlined program correspond and are at corresponding code positions.
   pub record AreCalls (a b : Activation) : Type 0 where
     pub slotted : AreSlotted a b
     pub next : b.next ≡ place_in a.function a.next
 
-  -- Says that the calls that wait for a call of the function correspond in both programs; the
-  -- outermost call is a call of `main`.
+  -- Says that the calls that wait for a call of the function correspond in both programs; the outermost call is a call of `main`.
   abbrev pub AreWaiting : (function : ℕ) → List Frame → List Frame → Type 0
   AreWaiting function [] [] = function ≡ program.main
   AreWaiting function (f ∷ fs) (g ∷ gs) = AreCalls f.caller g.caller × (g.result ≡ f.result) × AreWaiting f.caller.function fs gs
@@ -86,13 +81,11 @@ module _ (program inlined : Program) (origins : List (List Origin)) (are : AreOp
   as_deep function (f ∷ fs) [] waiting = absurd waiting
   as_deep function (f ∷ fs) (g ∷ gs) (calls, result, rest) = ap suc (as_deep f.caller.function fs gs rest)
 
-  -- The source configuration with the active call and the waiting calls replaced by those of the
-  -- inlined program.
+  -- The source configuration with the active call and the waiting calls replaced by those of the inlined program.
   abbrev pub beside : Configuration → Activation → List Frame → Configuration
   beside c b gs = record c { active = b; frames = gs }
 
-  -- Says that a running source configuration and a state of the inlined program correspond outside
-  -- inlined calls.
+  -- Says that a running source configuration and a state of the inlined program correspond outside inlined calls.
   pub record IsOutside (c : Configuration) (t : State) : Type 0 where
     pub active : Activation
     pub frames : List Frame

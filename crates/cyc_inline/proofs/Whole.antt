@@ -1,5 +1,4 @@
--- If each function of a program is made from a function of a plain program, the program is plain and
--- behaves as that plain program.
+-- If each function of a program is made from a function of a plain program, the program is plain and behaves as that plain program.
 use Rattle.std.proofs.Common.{◌≡◌, ℕ, ◌<◌, ◌≤◌, List, length, Some, slice_get, refl, sym, subst, ◌∙◌, arith}
 use Rattle.std.specs.Prelude.{All, sum_by}
 use Rattle.std.proofs.lemmas.Option.{get_or_from_slice_get}
@@ -32,8 +31,7 @@ module _ (program : Program) (routines : List Routine) (origins : List (List Ori
   like : (k : ℕ) → k < length program.functions → IsLike (routine_at program k) (routine_at inlined k)
   like k below = (made.each k below).opened.like
 
-  -- Everything that an instruction names and that exists in the source program also exists in the
-  -- new program.
+  -- Everything that an instruction names and that exists in the source program also exists in the new program.
   in_range : (s : Routine) (i : Instruction) → IsInRange program s i → IsInRange inlined s i
   in_range s (instructions.Call function arguments count result) range =
       let same = like function range.function_in_range in

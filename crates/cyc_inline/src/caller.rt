@@ -20,8 +20,7 @@ use crate::tables::place_in;
 use cyc_plain::{Instruction, Plain};
 use std::alloc::{AllocError, Global};
 
-/// A function of a program, its inlined calls, and the code positions of the replacements of its
-/// instructions.
+/// A function of a program, its inlined calls, and the code positions of the replacements of its instructions.
 #[derive(Clone, Copy)]
 pub(crate) struct Caller<'a> {
     pub(crate) plain: &'a Plain,
@@ -30,8 +29,7 @@ pub(crate) struct Caller<'a> {
     pub(crate) choice: &'a Choice,
     /// The code position of each instruction's replacement, and the position after the last.
     pub(crate) places: &'a [usize],
-    /// The code position of the out-of-line part of each instruction's replacement, and the position
-    /// after the last.
+    /// The code position of the out-of-line part of each instruction's replacement, and the position after the last.
     pub(crate) rests: &'a [usize],
 }
 
@@ -42,8 +40,7 @@ pub(crate) struct Places {
     pub(crate) end: usize,
 }
 
-/// Returns the number of instructions in an instruction's replacement, for the in-line or the
-/// out-of-line part.
+/// Returns the number of instructions in an instruction's replacement, for the in-line or the out-of-line part.
 fn part_count(plain: &Plain, in_line: bool, call: Option<Call>, front: usize) -> usize
     requires plain { IsPlain plain.now }
     requires call { IfSome call (λ it. IsSmallCall plain.now it) }
@@ -113,8 +110,7 @@ impl Emission {
         Ok(())
     }
 
-    /// Appends the instructions hoisted before an instruction, unless hoisting is not allowed there or
-    /// too many are wanted.
+    /// Appends the instructions hoisted before an instruction, unless hoisting is not allowed there or too many are wanted.
     fn push_all_hoisted_of(
         &mut self,
         globals: usize,

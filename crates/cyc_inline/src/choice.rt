@@ -1,5 +1,4 @@
-//! Chooses the calls of a function that are inlined, and the function's duplicated and hoisted
-//! instructions.
+//! Chooses the calls of a function that are inlined, and the function's duplicated and hoisted instructions.
 ghost use Rattle.std.specs.Prelude.{◌≡◌, ◌+◌, ◌*◌, ◌<◌, ◌≤◌, ◌⊎◌, Some, [], length, IfOk, IfSome, OnOk};
 ghost use Rattle.cyc_plain.specs.inside.Program.{routine_at, routine_of};
 ghost use Rattle.cyc_plain.specs.inside.Straight.{At};
@@ -29,27 +28,23 @@ pub(crate) struct Need {
     pub(crate) line: usize,
 }
 
-/// The calls of a function that are inlined, and the function's duplicated and hoisted
-/// instructions.
+/// The calls of a function that are inlined, and the function's duplicated and hoisted instructions.
 #[derive(Drop)]
 pub(crate) struct Choice {
-    /// For each instruction, the number of the callee's in-line instructions if the instruction is an inlined call, else
-    /// 0.
+    /// For each instruction, the number of the callee's in-line instructions if the instruction is an inlined call, else 0.
     pub(crate) chosen: Vec<usize>,
     /// For each instruction, the slot wanted for its duplicate. The duplicate is made only if the slot is an extra slot and the instruction
     /// may be duplicated.
     pub(crate) duplicates: Vec<usize>,
     /// For each instruction, the instructions that should be hoisted before it.
     pub(crate) all_hoisted: Vec<Vec<Instruction>>,
-    /// The number of the function's slots, including those of the inlined callees and of the
-    /// duplicates.
+    /// The number of the function's slots, including those of the inlined callees and of the duplicates.
     pub(crate) slots: usize,
     /// The number of instructions that replace the inlined calls of the function.
     pub(crate) growth: usize,
 }
 
-/// Returns the number of instructions that replace an inlined call: in the call's place, or out of
-/// line.
+/// Returns the number of instructions that replace an inlined call: in the call's place, or out of line.
 pub(crate) fn call_size(plain: &Plain, in_line: bool, call: Call) -> usize
     requires plain { IsPlain plain.now }
     requires call { IsSmallCall plain.now call }
@@ -71,8 +66,7 @@ fn line_of(leafs: &[usize], instruction: Instruction) -> usize
     }
 }
 
-/// Returns what a function needs to inline one of its instructions, if the instruction is a call that may be
-/// inlined.
+/// Returns what a function needs to inline one of its instructions, if the instruction is a call that may be inlined.
 fn need_of(plain: &Plain, leafs: &[usize], number: usize, instruction: Instruction) -> Option<Need>
     requires plain { IsPlain plain.now }
     requires leafs { AreLeafs plain.now leafs.now }
@@ -115,8 +109,7 @@ impl Choice {
         }
     }
 
-    /// Adds one instruction to the choice. A call that may be inlined is chosen if the function does not
-    /// grow too much.
+    /// Adds one instruction to the choice. A call that may be inlined is chosen if the function does not grow too much.
     fn add(&mut self, need: Option<Need>) -> Result<(), AllocError>
         requires { self.now.growth ≤ limits.MOST_GROWTH }
         ensures { OnOk result (IsChosenBy self.old self.new need) }
@@ -233,8 +226,7 @@ pub(crate) fn choose(
     Ok(choice)
 }
 
-/// Chooses duplicates and hoisted instructions, but no call to inline, if the frame stays small with the
-/// extra slots.
+/// Chooses duplicates and hoisted instructions, but no call to inline, if the frame stays small with the extra slots.
 pub(crate) fn choose_duplicates(
     alloc: Global,
     plain: &Plain,

@@ -42,8 +42,7 @@ pub(crate) fn duplicate_slot(
     None
 }
 
-/// Returns true if hoisted instructions may precede an instruction: control can continue after it, and it is not an inlined
-/// call.
+/// Returns true if hoisted instructions may precede an instruction: control can continue after it, and it is not an inlined call.
 pub(crate) fn may_follow_hoisted(instruction: Instruction) -> bool
     ensures { result ≡ opened.may_follow_hoisted instruction }
 {

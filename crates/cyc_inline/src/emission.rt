@@ -39,8 +39,7 @@ impl Emission {
         Ok(())
     }
 
-    /// Appends moves of `count` words from consecutive source slots to consecutive destination
-    /// slots, one by one.
+    /// Appends moves of `count` words from consecutive source slots to consecutive destination slots, one by one.
     pub(crate) fn push_passing(
         &mut self,
         destination: usize,

@@ -122,8 +122,7 @@ fn origin_of(opened: &Option<Opened>, number: usize, index: usize) -> Origin {
     }
 }
 
-/// Returns a function reduced to one instruction, `stub`, with the instruction's origin in the source
-/// function.
+/// Returns a function reduced to one instruction, `stub`, with the instruction's origin in the source function.
 fn emptied(
     alloc: Global,
     function: Function,
@@ -156,8 +155,7 @@ fn emptied(
     })
 }
 
-/// Returns the function with number `number`, reduced to a return if no code calls it. A function without a return keeps
-/// its code.
+/// Returns the function with number `number`, reduced to a return if no code calls it. A function without a return keeps its code.
 fn keep(
     alloc: Global,
     function: Function,

@@ -30,8 +30,7 @@ fn front_of(code: &[Instruction], head: usize) -> Option<usize> {
     }
 }
 
-/// The candidates for hoisting, from `first` up to `end`, that remain candidates for the enclosing
-/// loop.
+/// The candidates for hoisting, from `first` up to `end`, that remain candidates for the enclosing loop.
 #[derive(Clone, Copy)]
 struct Kept {
     first: usize,
@@ -51,8 +50,7 @@ impl Search {
         false
     }
 
-    /// Returns true if a value stays the same from instruction `front` to the end of the loop that
-    /// follows.
+    /// Returns true if a value stays the same from instruction `front` to the end of the loop that follows.
     fn is_same_from(&self, value: Value, front: usize, kept: Kept) -> bool {
         match value {
             Value::Word { .. } => true,
@@ -77,8 +75,7 @@ impl Search {
         }
     }
 
-    /// Decides about a candidate. If the candidate is invariant in some loop, it is hoisted before
-    /// that loop.
+    /// Decides about a candidate. If the candidate is invariant in some loop, it is hoisted before that loop.
     fn settle(&mut self, candidate: Candidate) -> Result<(), AllocError> {
         if candidate.front.is_some() {
             self.need(candidate.number);
@@ -101,8 +98,7 @@ impl Search {
         }
     }
 
-    /// Closes a loop: moves the candidates that stay invariant to the front of the list and removes
-    /// the others.
+    /// Closes a loop: moves the candidates that stay invariant to the front of the list and removes the others.
     fn close_loop(&mut self, code: &[Instruction], head: usize) -> Result<(), AllocError> {
         let front = front_of(code, head);
         let first = self.first_from(head);
@@ -121,8 +117,7 @@ impl Search {
         Ok(())
     }
 
-    /// Returns a loop's candidate as a candidate of the enclosing loop, hoisted before the inner loop, if hoisting is
-    /// allowed there.
+    /// Returns a loop's candidate as a candidate of the enclosing loop, hoisted before the inner loop, if hoisting is allowed there.
     fn held_on(
         &mut self,
         candidate: Candidate,
@@ -191,8 +186,7 @@ impl Search {
         }
     }
 
-    /// Returns the instruction that computes an expression of the code into the expression's own
-    /// slot.
+    /// Returns the instruction that computes an expression of the code into the expression's own slot.
     fn hoisted_of(&self, code: &[Instruction], number: usize) -> Option<Instruction> {
         let expression = self.expressions.get(number)?;
         let destination = expression.slot;

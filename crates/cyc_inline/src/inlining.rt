@@ -57,8 +57,7 @@ fn first_of(search: &mut Search, plain: &Plain, work: Work) -> Result<usize, All
     }
 }
 
-/// Returns the number of words by which a program may grow, if the functions from `first` on may
-/// change.
+/// Returns the number of words by which a program may grow, if the functions from `first` on may change.
 fn spare_for(plain: &Plain, first: usize, room: usize) -> usize
     ensures { (result ≡ 0) ⊎ ((sum_by size plain.now.functions + result ≤ room) × (sum_by size plain.now.functions + result ≤ limits.MOST_SIZE)) }
 {

@@ -11,8 +11,7 @@ use crate::limits::MOST_LEAF_CODE;
 use cyc_plain::{Function, Instruction, Plain};
 use std::alloc::{AllocError, Global};
 
-/// Returns true if a leaf may contain the instruction. A jump back is not allowed in a leaf, because a loop costs
-/// much more than the call.
+/// Returns true if a leaf may contain the instruction. A jump back is not allowed in a leaf, because a loop costs much more than the call.
 fn is_of_leaf(instruction: Instruction, index: usize) -> bool
     ensures { result ≡ true → is_of_leaf instruction ≡ true }
 {
@@ -128,8 +127,7 @@ fn line_at(plain: &Plain, number: usize) -> usize
     }
 }
 
-/// Returns, for each function, the number of its in-line instructions if the function is a leaf, else
-/// 0.
+/// Returns, for each function, the number of its in-line instructions if the function is a leaf, else 0.
 pub(crate) fn leafs_of(alloc: Global, plain: &Plain) -> Result<Vec<usize>, AllocError>
     ensures { IfOk result (λ lines. AreLeafs plain.now lines.items) }
 {

@@ -1,5 +1,4 @@
-//! Inlining of small functions that call no function, and extra slots for the values of repeated
-//! expressions.
+//! Inlining of small functions that call no function, and extra slots for the values of repeated expressions.
 #![tactic(auto)]
 
 mod caller;

@@ -1,5 +1,4 @@
-//! Makes replacements of a program's functions, in which some calls are inlined or some
-//! instructions are duplicated.
+//! Makes replacements of a program's functions, in which some calls are inlined or some instructions are duplicated.
 ghost use Rattle.std.specs.Prelude.{◌+◌, ◌<◌, ◌≤◌, length, IfOk, IfSome};
 ghost use Rattle.cyc_plain.specs.inside.Program.{routine_at, routine_of, size};
 ghost use Rattle.cyc_plain.specs.inside.WellFormed.{IsPlain};
@@ -17,8 +16,7 @@ use crate::tables::place_in;
 use cyc_plain::{Function, Instruction, LAYOUT_WORDS, MOST_SIZE, Plain};
 use std::alloc::{AllocError, Global};
 
-/// A replacement of a function: the new function, the origins of its instructions, and the growth
-/// left.
+/// A replacement of a function: the new function, the origins of its instructions, and the growth left.
 #[derive(Drop)]
 pub(crate) struct Made {
     pub(crate) function: Function,
@@ -69,8 +67,7 @@ fn opened(
     })
 }
 
-/// Returns the number of words by which later functions may grow, or `None` if the replacement
-/// `made` grows too much.
+/// Returns the number of words by which later functions may grow, or `None` if the replacement `made` grows too much.
 fn spare_after(given: &Function, made: &Function, spare: usize) -> Option<usize>
     ensures { IfSome result (λ left. size (routine_of made.now) + left ≤ size (routine_of given.now) + spare) }
 {

@@ -10,8 +10,7 @@ use std::alloc::{AllocError, Global};
 /// The maximum number of expressions in a hash bucket that are compared.
 const MOST_COMPARED: usize = 8;
 
-/// The maximum number of instructions of a small function. In a small function an expression may get a slot
-/// outside loops too.
+/// The maximum number of instructions of a small function. In a small function an expression may get a slot outside loops too.
 const MOST_SMALL: usize = 256;
 
 #[derive(Clone, Copy)]
@@ -21,8 +20,7 @@ pub(crate) struct Expression {
     pub(crate) index: usize,
     /// The number plus 1 of the previous expression in the same hash bucket, or 0.
     before: usize,
-    /// The time at which the expression was last computed, and the time since which the expression has had
-    /// its present value.
+    /// The time at which the expression was last computed, and the time since which the expression has had its present value.
     seen_at: usize,
     since: usize,
     /// The slot into which the expression was last computed.
@@ -53,8 +51,7 @@ const UNWRITTEN: Held = Held {
 /// The facts known about an instruction.
 #[derive(Clone, Copy)]
 pub(crate) struct Place {
-    /// The number plus 1 of the last instruction that jumps back to this instruction, or 0 if none
-    /// does.
+    /// The number plus 1 of the last instruction that jumps back to this instruction, or 0 if none does.
     end: usize,
     /// The number plus 1 of the expression that the instruction computes, or 0.
     pub(crate) seen: usize,
@@ -70,27 +67,23 @@ const UNSEEN: Place = Place {
     newest: 0,
 };
 
-/// The facts known about a function. The lists in this struct are reused for the next function, which saves
-/// allocations.
+/// The facts known about a function. The lists in this struct are reused for the next function, which saves allocations.
 #[derive(Drop)]
 pub(crate) struct Search {
     held: Vec<Held>,
     pub(crate) places: Vec<Place>,
     pub(crate) expressions: Vec<Expression>,
-    /// The candidates for hoisting out of loops that have not ended yet, and the hoisted
-    /// expressions.
+    /// The candidates for hoisting out of loops that have not ended yet, and the hoisted expressions.
     pub(crate) candidates: Vec<Candidate>,
     pub(crate) all_hoisted: Vec<Candidate>,
     /// The time of the last change of memory, and the time since which the known values are valid.
     pub(crate) stored: usize,
     begun: usize,
-    /// The last instruction at which an expression is worth a slot: the last instruction of the loops so far, or of a small
-    /// function.
+    /// The last instruction at which an expression is worth a slot: the last instruction of the loops so far, or of a small function.
     worth: usize,
     /// The number plus 1 of the last instruction of the loops so far, or 0.
     looped: usize,
-    /// The first instruction after which no expression can become needed; it follows every loop and any small
-    /// function.
+    /// The first instruction after which no expression can become needed; it follows every loop and any small function.
     pub(crate) decided: usize,
     /// True if some expression is needed.
     pub(crate) has_needed: bool,
@@ -178,8 +171,7 @@ impl Search {
         }
     }
 
-    /// Returns the number plus 1 of the last instruction that jumps back to the given one, or 0 if
-    /// none does.
+    /// Returns the number plus 1 of the last instruction that jumps back to the given one, or 0 if none does.
     pub(crate) fn end_of(&self, index: usize) -> usize {
         match self.places.get(index) {
             Some(place) => place.end,
@@ -243,8 +235,7 @@ impl Search {
         }
     }
 
-    /// Returns the value of an operand. The value of a slot whose address is taken is the slot
-    /// itself.
+    /// Returns the value of an operand. The value of a slot whose address is taken is the slot itself.
     fn value_of(&self, operand: Operand) -> Value {
         match operand {
             Operand::Word { word } => Value::Word { word },
@@ -255,8 +246,7 @@ impl Search {
         }
     }
 
-    /// Returns the expression that an operator computes into a slot, if the slot's address is not
-    /// taken.
+    /// Returns the expression that an operator computes into a slot, if the slot's address is not taken.
     fn shape_of(
         &self,
         operator: BinaryOperator,
@@ -298,8 +288,7 @@ impl Search {
 
     // ---- computed expressions
 
-    /// Returns the number plus 1 of the first known expression with the given shape in a hash bucket, or
-    /// 0.
+    /// Returns the number plus 1 of the first known expression with the given shape in a hash bucket, or 0.
     fn find(&self, shape: Shape, newest: usize) -> usize {
         let mut at = newest;
         for _ in 0..MOST_COMPARED {

@@ -28,8 +28,7 @@ fn has_loop(code: &[Instruction]) -> bool {
 }
 
 impl Search {
-    /// Scans a function until no further expression can become needed. Returns true if the function needs an extra slot for an
-    /// expression.
+    /// Scans a function until no further expression can become needed. Returns true if the function needs an extra slot for an expression.
     fn look_at(&mut self, plain: &Plain, function: &Function) -> Result<bool, AllocError> {
         if function.frame_count > MOST_FRAME_WORDS {
             return Ok(false);
@@ -64,8 +63,7 @@ impl Search {
         Ok(functions.len())
     }
 
-    /// Assigns extra slots to needed expressions while the frame has space. Returns the function's number of slots after the
-    /// assignment.
+    /// Assigns extra slots to needed expressions while the frame has space. Returns the function's number of slots after the assignment.
     fn give_slots(&mut self, slots: usize) -> usize {
         let mut next = slots;
         for number in 0..self.expressions.len() {

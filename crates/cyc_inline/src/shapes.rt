@@ -1,8 +1,7 @@
 //! The operation and operands of an instruction, by which expressions are compared.
 use cyc_plain::BinaryOperator;
 
-/// The kind number of the first comparison operator; the kinds of loads follow those of the
-/// comparisons.
+/// The kind number of the first comparison operator; the kinds of loads follow those of the comparisons.
 pub(crate) const COMPARED: usize = 10;
 
 /// The kind number of a load from an address, after the kinds of the operators.

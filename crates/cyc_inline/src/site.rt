@@ -1,5 +1,4 @@
-//! Emits inlined calls: the callee's code replaces the call, and part of it is placed out of line after the caller's
-//! code.
+//! Emits inlined calls: the callee's code replaces the call, and part of it is placed out of line after the caller's code.
 ghost use Rattle.std.specs.Prelude.{◌≡◌, ◌+◌, ◌*◌, ◌<◌, ◌≤◌, ◌^◌, IfOk, length, replicate, nat_lt, if◌then◌else◌, [], true, false};
 ghost use Rattle.cyc_plain.specs.declared.limits.TheConstants.{GREATEST_VALUE};
 ghost use Rattle.cyc_inline.specs.declared.limits.TheConstants.{MOST_LEAF_CODE};
@@ -70,16 +69,14 @@ pub(crate) fn chosen_call(instruction: Instruction, line: usize) -> Option<Call>
     }
 }
 
-/// Returns true if an instruction of the callee belongs to the requested part: the in-line or the
-/// out-of-line part.
+/// Returns true if an instruction of the callee belongs to the requested part: the in-line or the out-of-line part.
 fn stands_in(in_line: bool, line: usize, index: usize) -> bool
     ensures { result ≡ sites.stands_in in_line line index }
 {
     if in_line { index < line } else { line <= index }
 }
 
-/// Returns the first of the slots that a return reads, or `None` if the instruction is not a
-/// return.
+/// Returns the first of the slots that a return reads, or `None` if the instruction is not a return.
 fn end_of(instruction: Instruction) -> Option<usize>
     ensures { result ≡ is_end instruction }
 {
@@ -109,8 +106,7 @@ fn inside_count(results: usize, line: usize, index: usize, instruction: Instruct
     }
 }
 
-/// Returns the number of instructions that a callee's instruction contributes to the requested
-/// part, in line or out of line.
+/// Returns the number of instructions that a callee's instruction contributes to the requested part, in line or out of line.
 fn count_in(
     results: usize,
     line: usize,
@@ -144,16 +140,14 @@ pub(crate) fn inside_size(results: usize, line: usize, in_line: bool, code: &[In
     size
 }
 
-/// Returns the next code position for a callee's instruction: `here` if the instruction is in line,
-/// `there` if it is out of line.
+/// Returns the next code position for a callee's instruction: `here` if the instruction is in line, `there` if it is out of line.
 fn next_place(line: usize, index: usize, here: usize, there: usize) -> usize
     ensures { result ≡ (if nat_lt index line then here else there) }
 {
     if index < line { here } else { there }
 }
 
-/// Returns the code position of each of the callee's instructions, from the positions where the in-line and the out-of-line part
-/// begin.
+/// Returns the code position of each of the callee's instructions, from the positions where the in-line and the out-of-line part begin.
 fn inside_places(
     alloc: Global,
     site: &Site,
@@ -213,8 +207,7 @@ impl Emission {
         }
     }
 
-    /// Appends the replacement of a callee's instruction if it belongs to the requested part, in line or out
-    /// of line.
+    /// Appends the replacement of a callee's instruction if it belongs to the requested part, in line or out of line.
     fn push_inside_in(
         &mut self,
         site: &Site,

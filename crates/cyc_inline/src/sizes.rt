@@ -29,8 +29,7 @@ fn request_size(request: Request) -> usize
     }
 }
 
-/// Returns the size of an instruction in words, or `None` for an instruction that no program
-/// contains.
+/// Returns the size of an instruction in words, or `None` for an instruction that no program contains.
 fn instruction_size(instruction: Instruction) -> Option<usize>
     ensures { IfSome result (λ it. it ≡ instruction_size instruction) }
 {

@@ -1,5 +1,4 @@
-//! The effects of instructions: the slots that an instruction writes, and memory, which contains the slots whose
-//! address is taken.
+//! The effects of instructions: the slots that an instruction writes, and memory, which contains the slots whose address is taken.
 use cyc_plain::{Instruction, Plain, RECORD_WORDS, Request};
 
 /// A range of consecutive slots: the first slot and the number of slots.

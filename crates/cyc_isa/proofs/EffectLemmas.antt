@@ -54,15 +54,13 @@ IsWord-branch_target a o = IsWord-add_of (slot_address a) (mul_of 4 (sign_extend
 pub IsWord-jump_target : (addr index : ℕ) → index < 2 ^ 26 → IsWord (jump_target addr index)
 IsWord-jump_target a x f = omega arith
 
--- The target of a branch is the delay slot's address plus four times the signed offset, modulo
--- 2^32.
+-- The target of a branch is the delay slot's address plus four times the signed offset, modulo 2^32.
 pub branch_target-unsigned : (addr offset : ℕ) → IsWord addr → branch_target addr offset ≡ unsigned ((pos addr +ℤ pos 4) +ℤ (pos 4 *ℤ signed_half offset))
 unfolding sign_extended
 branch_target-unsigned a o w =
     rw (unsigned-add (pos a +ℤ pos 4) (pos 4 *ℤ signed_half o), unsigned-add (pos a) (pos 4), unsigned-mul (pos 4) (signed_half o), mod-eq_of_lt w)
 
--- The target of a jump has the upper four bits of the delay slot's address, and below them the index times
--- four.
+-- The target of a jump has the upper four bits of the delay slot's address, and below them the index times four.
 pub jump_target-upper : (addr index : ℕ) → index < 2 ^ 26 → jump_target addr index / 2 ^ 28 ≡ slot_address addr / 2 ^ 28
 jump_target-upper a x f = omega arith
 

@@ -1,5 +1,4 @@
--- Worked examples of the definitions, each proved by computation. The instruction words are those that an
--- assembler produces.
+-- Worked examples of the definitions, each proved by computation. The instruction words are those that an assembler produces.
 use Rattle.std.specs.Prelude.{◌≡◌, Some, None, true, refl}
 use Rattle.cyc_words.specs.Word.{sign_extended, div_of, rem_of}
 use Rattle.cyc_isa.specs.Encoding.{word_of}
@@ -34,16 +33,14 @@ sb_decoded = refl
 lb_refused : decode_of 0x81040001 ≡ None
 lb_refused = refl
 
--- Example: the word of `jr $31`, and the word of `jr $31` with a nonzero number in its unused field
--- `rt`.
+-- Example: the word of `jr $31`, and the word of `jr $31` with a nonzero number in its unused field `rt`.
 jr_decoded : decode_of 0x03e00008 ≡ Some (JumpRegister (register_of 31))
 jr_decoded = refl
 
 jr_refused : decode_of 0x03e10008 ≡ None
 jr_refused = refl
 
--- Example: a branch whose target is its own address, and a backward branch across the end of the
--- address space.
+-- Example: a branch whose target is its own address, and a backward branch across the end of the address space.
 branch_to_itself : branch_target 0x00400000 0xffff ≡ 0x00400000
 unfolding sign_extended
 branch_to_itself = refl

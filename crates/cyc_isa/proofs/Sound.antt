@@ -1,5 +1,4 @@
--- If a word decodes to an instruction, the instruction encodes to the word, and its operands fit
--- their fields.
+-- If a word decodes to an instruction, the instruction encodes to the word, and its operands fit their fields.
 use Rattle.std.proofs.Common.{◌≡◌, ℕ, ◌^◌, ◌<◌, ◌==◌, true, false, List, [], ◌∷◌, Option, Some, None, option_and_then, IsSome, ◌↔◌, if◌then◌else◌, lit<, refl, subst}
 use Rattle.std.proofs.Math.Nat.{mod-lt}
 use Rattle.std.proofs.lemmas.Bool.{eqb-true, eq-eqb, ne_eqb}

@@ -5,8 +5,7 @@ use Rattle.cyc_words.specs.Seen.{IsPrefix}
 use Rattle.cyc_words.specs.Device.{TakesText}
 use Rattle.cyc_words.proofs.DeviceLemmas.{TakesText-append, TakesText-fails}
 
--- If a writer accepts the first part of a text and then takes the second part, it takes the whole
--- text.
+-- If a writer accepts the first part of a text and then takes the second part, it takes the whole text.
 pub TakesText-parts : {A E : Type 0} (a b c : Option (List ℕ)) (xs ys text : List ℕ) (r : Result A E) → xs ++ ys ≡ text
     → Appends a b xs → TakesText b ys r c → TakesText a text r c
 TakesText-parts a b c xs ys text r is first second =

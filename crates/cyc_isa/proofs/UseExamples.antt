@@ -1,5 +1,4 @@
--- Examples: the registers that instructions read and write, with at least one example for each row of
--- the table.
+-- Examples: the registers that instructions read and write, with at least one example for each row of the table.
 use Rattle.std.specs.Prelude.{◌≡◌, ℕ, List, [], ◌∷◌, map, filter, Option, Some, None, refl}
 use Rattle.std.specs.List.{range_with_len}
 use Rattle.cyc_isa.specs.Decoding.{decode_of}

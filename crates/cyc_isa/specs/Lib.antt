@@ -1,5 +1,4 @@
--- the table of instructions, and the definitions for the contracts of `encode`, `decode` and
--- `write_text`
+-- the table of instructions, and the definitions for the contracts of `encode`, `decode` and `write_text`
 pub mod Field
 pub mod Table
 pub mod Encoding

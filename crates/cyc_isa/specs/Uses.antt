@@ -52,7 +52,6 @@ names_result (MoveFrom op destination) number = destination.number == number
 names_result (MultiplyDivide op left right) number = false
 names_result (Arithmetic op destination left right) number = destination.number == number
 
--- Returns true if an instruction writes a register. Register 0 is never written, even if the
--- instruction names it as the destination.
+-- Returns true if an instruction writes a register. Register 0 is never written, even if the instruction names it as the destination.
 abbrev pub writes : Instr → ℕ → Bool
 writes instruction number = not (number == 0) && names_result instruction number

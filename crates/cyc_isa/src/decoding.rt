@@ -244,8 +244,7 @@ fn by_function(word: u32) -> Option<Instr>
     Some(instr)
 }
 
-/// Returns the instruction that a word may encode, selected by its opcode and, for opcodes 0 and 1,
-/// by a further field.
+/// Returns the instruction that a word may encode, selected by its opcode and, for opcodes 0 and 1, by a further field.
 fn selected(word: u32) -> Option<Instr>
     ensures { result ≡ selected_of word }
 {
@@ -280,8 +279,7 @@ fn selected(word: u32) -> Option<Instr>
 
 /// Returns the instruction that a word encodes.
 ///
-/// Returns `None` if the word is not an instance of a row of the table: its operation does not exist, or an unused field is
-/// not 0.
+/// Returns `None` if the word is not an instance of a row of the table: its operation does not exist, or an unused field is not 0.
 pub fn decode(word: u32) -> Option<Instr>
     ensures instruction { IsSome result ↔ IsInstruction word }
     ensures encodes { IfSome result (λ instr. word_of instr ≡ word) }

@@ -28,8 +28,7 @@ pub fn words_of_instructions()
     ensures distinct { (i j : Instr) → IsEncodable i → IsEncodable j → word_of i ≡ word_of j → i ≡ j }
 {}
 
-/// A word decodes to an instruction exactly if it is an instance of a row of the table; the instruction encodes
-/// to the word.
+/// A word decodes to an instruction exactly if it is an instance of a row of the table; the instruction encodes to the word.
 pub fn instructions_of_words()
     ensures instruction { (w : ℕ) → IsSome (decode_of w) ↔ IsInstruction w }
     ensures encodes { (w : ℕ) (i : Instr) → decode_of w ≡ Some i → word_of i ≡ w }

@@ -16,16 +16,14 @@ pub struct ShiftAmount {
     pub ghost in_range: { bits < 32 },
 }
 
-/// The 26-bit index field of a jump: the target's position, in words, within its region of 256
-/// megabytes.
+/// The 26-bit index field of a jump: the target's position, in words, within its region of 256 megabytes.
 #[derive(Clone, Copy, Debug, PartialEq, Eq)]
 pub struct JumpIndex {
     pub index: u32,
     pub ghost in_range: { index < 2 ^ 26 },
 }
 
-/// The 20 bits of a `syscall` or `break` instruction that the machine ignores and leaves to
-/// software.
+/// The 20 bits of a `syscall` or `break` instruction that the machine ignores and leaves to software.
 #[derive(Clone, Copy, Debug, PartialEq, Eq)]
 pub struct TrapCode {
     pub code: u32,

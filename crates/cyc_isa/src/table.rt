@@ -8,8 +8,7 @@ use crate::instr::{
     MultiplyDivideOp, ShiftOp,
 };
 
-/// The name of an operation, and its number in the field that distinguishes the operations of its
-/// format.
+/// The name of an operation, and its number in the field that distinguishes the operations of its format.
 #[derive(Clone, Copy)]
 pub struct Code {
     pub name: &'static str,
@@ -173,8 +172,7 @@ pub fn arithmetic(op: ArithmeticOp) -> Code
     }
 }
 
-/// Returns the number in the field `rt` of a branch on a sign; it distinguishes such branches with
-/// the same opcode.
+/// Returns the number in the field `rt` of a branch on a sign; it distinguishes such branches with the same opcode.
 pub fn branch_zero_rt(op: BranchZeroOp) -> u8
     ensures number { result ≡ (branch_zero op).1 }
     ensures small { result < 32 }

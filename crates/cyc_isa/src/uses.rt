@@ -8,11 +8,9 @@ use crate::instr::{ExceptionOp, Instr, JumpOp, MemoryOp};
 /// The register in which `jal` stores its return address.
 const RETURN_ADDRESS: u8 = 31;
 
-/// Returns true if an instruction reads the general register with the given number, that is, if the register is a
-/// source.
+/// Returns true if an instruction reads the general register with the given number, that is, if the register is a source.
 ///
-/// `syscall` reads registers 2, 4 and 5. HI, LO, memory and the program counter do not count as
-/// registers.
+/// `syscall` reads registers 2, 4 and 5. HI, LO, memory and the program counter do not count as registers.
 pub fn reads(instr: Instr, register: u8) -> bool
     requires { register < 32 }
     ensures { result ≡ reads instr register }
@@ -54,8 +52,7 @@ pub fn reads(instr: Instr, register: u8) -> bool
     }
 }
 
-/// Returns true if the register with the given number is the destination of an instruction's
-/// result.
+/// Returns true if the register with the given number is the destination of an instruction's result.
 fn names_result(instr: Instr, register: u8) -> bool
     ensures { result ≡ names_result instr register }
 {

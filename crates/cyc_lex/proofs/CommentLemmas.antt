@@ -60,8 +60,7 @@ closes_at text i within ends slash =
 pub first_close : (text : List ℕ) (i : ℕ) → ClosesAt text i → has_close (take i text) ≡ false → HasNoClose (take (i + 1 - 2) text ++ codes "*")
 first_close text i closes none = subst HasNoClose closes.star (HasNoClose-from_has_close (take i text) none)
 
--- If the byte at an index does not close the comment, then the comment is still open after this
--- byte.
+-- If the byte at an index does not close the comment, then the comment is still open after this byte.
 pub not_yet : (text : List ℕ) (i : ℕ) → i < length text → has_close (take i text) ≡ false
     → ends_in_star (take i text) && eqb (get_or text i 0) 47 ≡ false → has_close (take (i + 1) text) ≡ false
 not_yet text i within none apart =

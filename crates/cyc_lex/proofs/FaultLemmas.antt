@@ -173,8 +173,7 @@ holds_nothing codes.NumberTooLarge count h = begins_nothing (Lexeme (Number h.0)
 holds_nothing codes.TooManyTokens count h = begins_nothing (Lexeme h.0) h.1
 holds_nothing _ count h = h
 
--- If a division of a text into pieces cannot be extended by another division, then the two are
--- equal.
+-- If a division of a text into pieces cannot be extended by another division, then the two are equal.
 end_of : (ps qs more : List Part) (r s : List ℕ) → qs ≡ ps ++ more → IsCut more r s → more ≡ [] → (qs ≡ ps) × (r ≡ s)
 end_of ps qs more r s e cut none = (e ∙ ap (λ l. ps ++ l) none ∙ append-nil ps, subst (λ l. IsCut l r s) none cut)
 

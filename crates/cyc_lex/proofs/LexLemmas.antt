@@ -1,5 +1,4 @@
--- This file is about one step of the lexer: the part of the text read so far is extended by one
--- token, space or comment.
+-- This file is about one step of the lexer: the part of the text read so far is extended by one token, space or comment.
 use Rattle.std.proofs.Common.{◌≡◌, ◌≢◌, ℕ, ◌+◌, ◌-◌, ◌<◌, ◌≤◌, true, false, inl, ⊎_elim, Option, Some, None, List, [], ◌∷◌, ◌++◌, length, get_or, take, drop, map, refl, sym, ap, subst, ◌∙◌, append-nil, arith}
 use Rattle.std.specs.Prelude.{All, slice_range}
 use Rattle.std.proofs.lemmas.Bool.{cases_lt, cond-true, cond-false}
@@ -46,8 +45,7 @@ found_space (b ∷ bs) some space = record {
     starts : start_of b ≡ AtSpace
     starts = cond-false (is_letter b) _ _ no_letter ∙ cond-false (is_digit b) _ _ no_digit ∙ cond-true (is_space b) _ _ space
 
--- Says that the text before `start` has been read as these tokens, and that `place` is the source
--- position of `start`.
+-- Says that the text before `start` has been read as these tokens, and that `place` is the source position of `start`.
 pub record IsReadUpTo (text : List ℕ) (tokens : List CodeToken) (start : ℕ) (place : Span) : Type 0 where
   pub parts : List Part
   pub cut : IsCut parts text (drop start text)

@@ -121,8 +121,7 @@ token_stays (Character c) bytes h =
 token_stays (Word k) bytes h = ap is_one_line h ∙ name_stays (keyword_text k) (is_name-keyword_text k)
 token_stays (Mark s) bytes h = ap is_one_line h ∙ sign_stays s
 
--- The source position after a token is on the same line, and its column is greater by the token's
--- length.
+-- The source position after a token is on the same line, and its column is greater by the token's length.
 pub after_one_line : (place next : Span) (front bytes : List ℕ) → is_one_line bytes ≡ true → next.line ≡ place.line → next.column ≡ place.column + length bytes
     → IsAfter place front → IsAfter next (front ++ bytes)
 after_one_line place next front [] passes line column following = record {

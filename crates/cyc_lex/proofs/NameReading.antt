@@ -20,8 +20,7 @@ name_bytes (b ∷ bs) named =
     let parts = and_parts (is_letter b) (list_all is_name_byte bs) named in
     and_from _ _ (or_left _ _ parts.0) parts.1
 
--- If the first byte of a text is a letter, then the run of name bytes at the start of the text is a
--- name.
+-- If the first byte of a text is a letter, then the run of name bytes at the start of the text is a name.
 name_run : (text : List ℕ) → is_letter (get_or text 0 0) ≡ true → 0 < length text → is_name (take (prefix_len is_name_byte text) text) ≡ true
 name_run [] letter within = absurd (omega arith)
 name_run (b ∷ bs) letter within =

@@ -9,8 +9,7 @@ use Rattle.cyc_syntax.specs.Spelling.{Piece, Lexeme, OpenComment, Spells}
 use Rattle.cyc_syntax.specs.Tokens.{Kind, Number, Token}
 use Rattle.cyc_syntax.specs.TokenRule.{IsRead, Part, IsCut, bytes_of, tokens_of, line_after, column_after, HasTokens, IsWithinLimits, max_bytes, max_tokens, max_number}
 
--- Says that a text begins with this piece (token, space or comment), and that the piece is the
--- longest one.
+-- Says that a text begins with this piece (token, space or comment), and that the piece is the longest one.
 abbrev pub Begins : Piece → List ℕ → Type 0
 Begins m text = (bytes : List ℕ) × (after : List ℕ) × (text ≡ bytes ++ after) × IsRead m bytes after
 
@@ -42,15 +41,13 @@ pub record IsFirstFault (text : List ℕ) (fault : Fault) : Type 0 where
   pub line : fault.line ≡ line_after (bytes_of parts)
   pub column : fault.column ≡ column_after (bytes_of parts)
 
--- Says that a text is rejected with this fault: the text is too long, or else the fault is the
--- first fault of the text.
+-- Says that a text is rejected with this fault: the text is too long, or else the fault is the first fault of the text.
 abbrev pub IsRefused : List ℕ → Fault → Type 0
 IsRefused text fault =
     ((max_bytes < length text) × (fault ≡ record { code = codes.TextTooLong; line = 1; column = 1 }))
     ⊎ ((length text ≤ max_bytes) × IsFirstFault text fault)
 
--- Says that a text is accepted with these tokens: they are the text's tokens, and the text and its tokens are
--- within the limits.
+-- Says that a text is accepted with these tokens: they are the text's tokens, and the text and its tokens are within the limits.
 pub record IsAccepted (text : List ℕ) (tokens : List Token) : Type 0 where
   pub short : length text ≤ max_bytes
   pub rule : HasTokens text tokens

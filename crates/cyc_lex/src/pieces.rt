@@ -12,8 +12,7 @@ use crate::spellings::{keyword, sign};
 use cyc_syntax::{Sign, TokenKind};
 use cyc_words::Code;
 
-/// The piece (token, space or comment) at the start of a text: its kind, if it is a token, and its
-/// length.
+/// The piece (token, space or comment) at the start of a text: its kind, if it is a token, and its length.
 #[derive(Clone, Copy)]
 pub struct Found {
     pub kind: Option<TokenKind>,

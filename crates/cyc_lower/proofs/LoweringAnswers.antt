@@ -14,8 +14,7 @@ use Rattle.cyc_lower_proof.specs.inside.Lowered.{CanBeLowered, IsAccepted, IsLow
 use Rattle.cyc_lower_proof.proofs.sizes.Lowerings.{is_lowered}
 use Rattle.cyc_lower.proofs.Routines.{one_too_many}
 
--- If `lower` rejects a program with `TooManyFunctions`, the program has more than `max_functions`
--- functions.
+-- If `lower` rejects a program with `TooManyFunctions`, the program has more than `max_functions` functions.
 pub too_many_functions : (source : Program) (fault : Fault) → HasTooMany source fault → max_functions < length source.functions
 too_many_functions source fault (h, there, is) = slice_get_within source.functions max_functions h there
 

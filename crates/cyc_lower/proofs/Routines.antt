@@ -25,8 +25,7 @@ use Rattle.cyc_lower_proof.proofs.emission.Alike.{same_length, turned_alike}
 use Rattle.cyc_lower_proof.proofs.emission.Lengths.{body_alike}
 use Rattle.cyc_lower_proof.proofs.emission.Blocks.{some_blocks}
 
--- If the number of words of a frame is within the limit, the frame has space for the slots of the
--- locals.
+-- If the number of words of a frame is within the limit, the frame has space for the slots of the locals.
 pub few_locals : (f : FunctionCode) → frame_count (view_function f) ≤ most_frame_count
     → (words_of_all (view_function f).parameters ≤ most_frame_count) × (first_temporary (view_function f) + kept_by_items (view_function f).body ≤ most_locals)
 few_locals f small = (omega (arith, small), omega (arith, small, slots-few (view_function f)))

@@ -51,8 +51,7 @@ impl Emitter {
         })
     }
 
-    /// Emits the conversion of the word in slot `free` to a truth value: 0 remains 0, and any other
-    /// word becomes 1.
+    /// Emits the conversion of the word in slot `free` to a truth value: 0 remains 0, and any other word becomes 1.
     fn make_truth(&mut self, free: usize, slot: usize) -> Result<(), AllocError>
         ensures { Appends result self.old self.new (truth_code free slot) }
     {
@@ -203,8 +202,7 @@ impl Emitter {
         }
     }
 
-    /// Emits a chain of operators from its first operator on, and moves the result of the last
-    /// operator to a slot.
+    /// Emits a chain of operators from its first operator on, and moves the result of the last operator to a slot.
     #[cycle(expression)]
     pub(crate) fn lower_operations(
         &mut self,

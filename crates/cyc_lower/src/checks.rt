@@ -8,8 +8,7 @@ use crate::starts::Starts;
 use cyc_plain::{BinaryOperator, Comparison, Instruction, Operand};
 use std::alloc::AllocError;
 
-/// The tag of the exception for a null pointer, the first of the exceptions that the language
-/// raises.
+/// The tag of the exception for a null pointer, the first of the exceptions that the language raises.
 pub(crate) const NULL_EXCEPTION: u32 = 1;
 
 pub(crate) const ARRAY_BOUNDS: u32 = 2;

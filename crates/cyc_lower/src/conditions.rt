@@ -25,8 +25,7 @@ pub(crate) struct Pending {
     pub(crate) condition: Condition,
 }
 
-/// The condition of a branch before the jump over its first statement, and the inner jumps that will have the same target as
-/// this jump.
+/// The condition of a branch before the jump over its first statement, and the inner jumps that will have the same target as this jump.
 #[derive(Drop)]
 pub(crate) struct Tested {
     pub(crate) last: Condition,
@@ -42,8 +41,7 @@ fn is_same(operator: LogicalOperator, other: LogicalOperator) -> bool
     }
 }
 
-/// Returns the logical operator that negated tests by this operator have: `&&` for `||`, and `||`
-/// for `&&`.
+/// Returns the logical operator that negated tests by this operator have: `&&` for `||`, and `||` for `&&`.
 fn turned_test(operator: LogicalOperator) -> LogicalOperator
     ensures { result ≡ turned_test operator }
 {
@@ -78,8 +76,7 @@ fn all_test(operator: LogicalOperator, operations: &[Operation]) -> bool
     true
 }
 
-/// Returns true if a chain has at least one operator, and all of them are tests by this logical
-/// operator.
+/// Returns true if a chain has at least one operator, and all of them are tests by this logical operator.
 fn are_tests(operator: LogicalOperator, operations: &[Operation]) -> bool
     ensures { result ≡ are_tests operator (operations_of operations.now) }
 {
@@ -129,8 +126,7 @@ impl Emitter {
         })
     }
 
-    /// Emits the first of two compared operands. The first operand is used without code only if the second operand is
-    /// simple.
+    /// Emits the first of two compared operands. The first operand is used without code only if the second operand is simple.
     fn lower_first(
         &mut self,
         starts: &Starts,
@@ -174,8 +170,7 @@ impl Emitter {
         })
     }
 
-    /// Emits a condition that is a chain of operators. If the only operator is a comparison, the
-    /// jump performs it.
+    /// Emits a condition that is a chain of operators. If the only operator is a comparison, the jump performs it.
     fn compare_chain(
         &mut self,
         starts: &Starts,
@@ -229,8 +224,7 @@ impl Emitter {
         }
     }
 
-    /// Emits the right operand of a test, after a jump that is taken if the condition of the left operand decides
-    /// the test.
+    /// Emits the right operand of a test, after a jump that is taken if the condition of the left operand decides the test.
     fn lower_other(
         &mut self,
         starts: &Starts,
@@ -375,8 +369,7 @@ impl Emitter {
         }
     }
 
-    /// Emits the condition of a branch whose tests are by the other logical operator, so that all of its jumps
-    /// have their targets.
+    /// Emits the condition of a branch whose tests are by the other logical operator, so that all of its jumps have their targets.
     fn lower_settled(
         &mut self,
         starts: &Starts,
@@ -396,8 +389,7 @@ impl Emitter {
         })
     }
 
-    /// Emits the condition of a branch that is a chain of operators, which may be tests by this
-    /// logical operator or not.
+    /// Emits the condition of a branch that is a chain of operators, which may be tests by this logical operator or not.
     fn branch_chain(
         &mut self,
         starts: &Starts,

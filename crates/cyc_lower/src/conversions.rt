@@ -74,8 +74,7 @@ impl Emitter {
         self.emit(move_of(words_of_kind(kind), slot, source))
     }
 
-    /// Emits the move of an address to a slot. The address is the word of an operand plus a number
-    /// of bytes.
+    /// Emits the move of an address to a slot. The address is the word of an operand plus a number of bytes.
     pub(crate) fn bring_address(
         &mut self,
         address: Operand,

@@ -28,8 +28,7 @@ fn target_of(instruction: &Instruction) -> usize
     }
 }
 
-/// Returns the instruction with a nearer target: a target at a distance after `far` is replaced by the
-/// one at this distance after `near`.
+/// Returns the instruction with a nearer target: a target at a distance after `far` is replaced by the one at this distance after `near`.
 fn turned(instruction: Instruction, far: usize, near: usize) -> Instruction
     requires { near ≤ far }
     ensures { result ≡ turned far near instruction }
@@ -53,8 +52,7 @@ fn turned(instruction: Instruction, far: usize, near: usize) -> Instruction
     }
 }
 
-/// Replaces the target of an instruction, if it is after `far`, by the one at the same distance
-/// after `near`.
+/// Replaces the target of an instruction, if it is after `far`, by the one at the same distance after `near`.
 fn turn(instruction: &mut Instruction, far: usize, near: usize)
     requires { near ≤ far }
     ensures { IsTurned far near instruction.old instruction.new }
@@ -89,8 +87,7 @@ impl Emitter {
         }
     }
 
-    /// Sets the source position of the following instructions, if one is given. Returns the previous source
-    /// position.
+    /// Sets the source position of the following instructions, if one is given. Returns the previous source position.
     pub(crate) fn enter(&mut self, place: Option<Span>) -> Span
         ensures { self.new.code.items ≡ self.old.code.items }
     {
@@ -149,8 +146,7 @@ impl Emitter {
         place
     }
 
-    /// Replaces each target after `far` by the one at the same distance after `near`, which is
-    /// nearer.
+    /// Replaces each target after `far` by the one at the same distance after `near`, which is nearer.
     pub(crate) fn settle(&mut self, far: usize, near: usize)
         requires { near ≤ far }
         ensures { AreTurned far near self.old.code.items self.new.code.items }

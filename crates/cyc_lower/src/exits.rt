@@ -24,8 +24,7 @@ pub(crate) fn nothing_opened() -> Opened
     }
 }
 
-/// Returns the slot of the outermost opened handler or region: this slot if nothing was opened
-/// before.
+/// Returns the slot of the outermost opened handler or region: this slot if nothing was opened before.
 fn outermost(opened: Option<usize>, slot: usize) -> Option<usize>
     ensures { result ≡ outermost opened slot }
 {
@@ -35,8 +34,7 @@ fn outermost(opened: Option<usize>, slot: usize) -> Option<usize>
     }
 }
 
-/// Returns the record of opened handlers and regions, extended by a handler whose record begins at
-/// this slot.
+/// Returns the record of opened handlers and regions, extended by a handler whose record begins at this slot.
 fn with_handler(opened: Opened, slot: usize) -> Opened
     ensures { result ≡ with_handler opened slot }
 {
@@ -46,8 +44,7 @@ fn with_handler(opened: Opened, slot: usize) -> Opened
     }
 }
 
-/// Returns the record of opened handlers and regions, extended by a lexical region whose closing
-/// number is in this slot.
+/// Returns the record of opened handlers and regions, extended by a lexical region whose closing number is in this slot.
 fn with_mark(opened: Opened, slot: usize) -> Opened
     ensures { result ≡ with_mark opened slot }
 {
@@ -57,8 +54,7 @@ fn with_mark(opened: Opened, slot: usize) -> Opened
     }
 }
 
-/// Returns the exits of a statement in the body of a `try`, whose handler record begins at this
-/// slot.
+/// Returns the exits of a statement in the body of a `try`, whose handler record begins at this slot.
 pub(crate) fn inside_try(exits: Exits, slot: usize) -> Exits
     ensures { result ≡ inside_try exits slot }
 {
@@ -70,8 +66,7 @@ pub(crate) fn inside_try(exits: Exits, slot: usize) -> Exits
     }
 }
 
-/// Returns the exits of a statement after the opening of a lexical region, whose closing number is
-/// in this slot.
+/// Returns the exits of a statement after the opening of a lexical region, whose closing number is in this slot.
 fn inside_region(exits: Exits, slot: usize) -> Exits
     ensures { result ≡ inside_region exits slot }
 {
@@ -83,8 +78,7 @@ fn inside_region(exits: Exits, slot: usize) -> Exits
     }
 }
 
-/// Returns the exits of the statements after an item of a block, before which the temporaries begin
-/// at this slot.
+/// Returns the exits of the statements after an item of a block, before which the temporaries begin at this slot.
 pub(crate) fn exits_after(item: &Item, exits: Exits, free: usize) -> Exits
     ensures { result ≡ exits_after item.now exits free }
 {
@@ -99,8 +93,7 @@ pub(crate) fn exits_after(item: &Item, exits: Exits, free: usize) -> Exits
 }
 
 impl Emitter {
-    /// Emits the closing of opened handlers and regions: all handlers from the outermost on, and then all
-    /// lexical regions.
+    /// Emits the closing of opened handlers and regions: all handlers from the outermost on, and then all lexical regions.
     pub(crate) fn lower_leave(&mut self, opened: Opened) -> Result<(), AllocError>
         ensures { Appends result self.old self.new (leave_code opened) }
     {
@@ -133,8 +126,7 @@ impl Emitter {
         self.emit(Instruction::Finish { value: from })
     }
 
-    /// Emits a `break`: the closing of the handlers and regions opened in the loop, and the jump to the end of
-    /// the loop.
+    /// Emits a `break`: the closing of the handlers and regions opened in the loop, and the jump to the end of the loop.
     pub(crate) fn lower_break(&mut self, exits: Exits) -> Result<(), AllocError>
         ensures { Appends result self.old self.new (leave_code exits.in_loop ++ Instruction.Jump (break_target exits) ∷ []) }
     {

@@ -146,8 +146,7 @@ impl Emitter {
                 Placement::AsUnique => {
                     self.lower_object(starts, initial, Operand::Word { word: UNIQUE }, slot, free)
                 }
-                // The region handle stays in the first free slot while the values of the object are
-                // evaluated.
+                // The region handle stays in the first free slot while the values of the object are evaluated.
                 Placement::ByHandle { handle } => {
                     self.lower_expression(starts, handle, free, free)?;
                     let following = slot_after(free, Kind::Handle)?;
@@ -245,8 +244,7 @@ impl Emitter {
         }
     }
 
-    /// Emits a fat pointer before its index. The pointer stays in its local if the index is simple, otherwise it
-    /// is moved to slots.
+    /// Emits a fat pointer before its index. The pointer stays in its local if the index is simple, otherwise it is moved to slots.
     #[cycle(expression)]
     fn lower_pointer(
         &mut self,
@@ -286,8 +284,7 @@ impl Emitter {
         self.bring_address(address, place_offset(starts, place), slot)
     }
 
-    /// Emits the store of a value in the cell whose address is in the slot `free`. Returns the operand of
-    /// the value.
+    /// Emits the store of a value in the cell whose address is in the slot `free`. Returns the operand of the value.
     #[cycle(expression)]
     fn store(
         &mut self,
@@ -399,8 +396,7 @@ impl Emitter {
         }
     }
 
-    /// Emits a value before its conversion, and moves it to a slot. For an int that becomes a char, only the low byte is
-    /// moved.
+    /// Emits a value before its conversion, and moves it to a slot. For an int that becomes a char, only the low byte is moved.
     #[cycle(expression)]
     pub(crate) fn bring(
         &mut self,
@@ -419,8 +415,7 @@ impl Emitter {
         self.lower_expression(starts, &value.value, slot, free)
     }
 
-    /// Emits a value before its conversion: in its final slot, or in a temporary if the conversion
-    /// changes its words.
+    /// Emits a value before its conversion: in its final slot, or in a temporary if the conversion changes its words.
     #[cycle(expression)]
     fn lower_source(
         &mut self,
@@ -557,8 +552,7 @@ impl Emitter {
         }
     }
 
-    /// Emits a value that must be in a slot: in the slot of its local if the conversion changes no
-    /// words, otherwise in `free`.
+    /// Emits a value that must be in a slot: in the slot of its local if the conversion changes no words, otherwise in `free`.
     pub(crate) fn lower_to_slot(
         &mut self,
         starts: &Starts,

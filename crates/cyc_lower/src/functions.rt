@@ -61,8 +61,7 @@ fn blocks_kept(farthest: usize) -> usize
     if farthest == 1 { 2 } else { farthest }
 }
 
-/// Emits the code of a function's body, whose temporaries begin at this slot. Records source positions if
-/// requested.
+/// Emits the code of a function's body, whose temporaries begin at this slot. Records source positions if requested.
 fn lower_body(
     alloc: Global,
     starts: &Starts,
@@ -147,8 +146,7 @@ fn lower_functions(
     Ok(lowered)
 }
 
-/// Returns true if one of a function's locals is a region handle. Each lexical region that a
-/// function opens has one.
+/// Returns true if one of a function's locals is a region handle. Each lexical region that a function opens has one.
 fn has_handles(types: &[Ty]) -> bool
     ensures { result ≡ list_any is_handle (map view_ty types.now) }
 {

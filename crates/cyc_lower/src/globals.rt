@@ -1,5 +1,4 @@
-//! Lowers globals. Each global has as many words as its type, and they follow each other in the
-//! order of their numbers.
+//! Lowers globals. Each global has as many words as its type, and they follow each other in the order of their numbers.
 ghost use Rattle.std.specs.Prelude.{◌≡◌, ◌≤◌, ◌++◌, map, IfOk};
 ghost use Rattle.cyc_types.specs.TypedTreeView.{view_constant, view_global};
 ghost use Rattle.cyc_meaning.specs.FrameCount.{words_of_all};

@@ -1,5 +1,4 @@
-//! Emits the code of exceptions: throws, and the clauses of a `try`. Each method of this file appends code to the existing
-//! code.
+//! Emits the code of exceptions: throws, and the clauses of a `try`. Each method of this file appends code to the existing code.
 ghost use Rattle.std.specs.Prelude.{◌≡◌, ◌+◌, ◌≤◌, ◌<◌, [], ◌∷◌, ◌++◌, length, set, option_map, IfOk, OnOk};
 ghost use Rattle.cyc_types.specs.TypedTrees.{NoClauses};
 ghost use Rattle.cyc_types.specs.TypedTreeView.{view_expression, items_of, clauses_of, default_of};
@@ -103,8 +102,7 @@ impl Emitter {
         Ok(())
     }
 
-    /// Emits the default clause of a `try`. Without a default clause, an exception that no clause catches is
-    /// thrown again.
+    /// Emits the default clause of a `try`. Without a default clause, an exception that no clause catches is thrown again.
     #[cycle(statement)]
     pub(crate) fn lower_default(
         &mut self,

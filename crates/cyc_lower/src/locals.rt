@@ -115,8 +115,7 @@ fn add_locals(starts: &mut Vec<usize>, first: usize, types: &[Ty]) -> Result<usi
     Ok(slot)
 }
 
-/// Returns the first slots of the locals of a function, the slot after the locals, and the first slot for
-/// temporaries.
+/// Returns the first slots of the locals of a function, the slot after the locals, and the first slot for temporaries.
 pub(crate) fn slots_of_locals(
     alloc: Global,
     function: &Function,

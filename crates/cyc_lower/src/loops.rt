@@ -44,8 +44,7 @@ impl Emitter {
         self.emit(holding_jump(condition, body))
     }
 
-    /// Sets the target of the entry of the loop that begins at position `head`: the loop's condition begins at
-    /// the next instruction.
+    /// Sets the target of the entry of the loop that begins at position `head`: the loop's condition begins at the next instruction.
     fn enter_loop(&mut self, starts: &Starts, condition: &Expr, head: usize)
         requires { head < length self.old.code.items }
         ensures { self.new.code.items ≡ entered_loop (view_starts starts.now) (view_expression condition.now) self.old.code.items head }
@@ -55,8 +54,7 @@ impl Emitter {
         }
     }
 
-    /// Emits a loop with a light condition and no `break`. If the first copy of the condition fails, it jumps to the end
-    /// of the loop.
+    /// Emits a loop with a light condition and no `break`. If the first copy of the condition fails, it jumps to the end of the loop.
     #[cycle(statement)]
     pub(crate) fn lower_through(
         &mut self,

@@ -1,5 +1,4 @@
-//! Emits the code that allocates and frees objects, once their values are in slots. No object has more words than a block of the
-//! store.
+//! Emits the code that allocates and frees objects, once their values are in slots. No object has more words than a block of the store.
 ghost use Rattle.std.specs.Prelude.{◌≡◌, [], ◌∷◌, ◌+◌, ◌^◌, ◌<◌, ◌≤◌, length, IfOk};
 ghost use Rattle.cyc_types.specs.TypedTreeView.{arguments_of};
 ghost use Rattle.cyc_meaning.specs.Values.{words_of_kind, bytes_from};
@@ -32,8 +31,7 @@ pub(crate) fn last_element(words: usize, index: usize) -> Condition
     }
 }
 
-/// Returns the most elements that an array may have if each has this number of bytes: as many as fit in a block of the
-/// store.
+/// Returns the most elements that an array may have if each has this number of bytes: as many as fit in a block of the store.
 fn most_elements(bytes: usize) -> u32
     ensures most { result ≡ most_elements bytes }
     ensures few { result ≤ 4000 }
@@ -59,8 +57,7 @@ pub(crate) fn kinds_passed(alloc: Global, values: &[Converted]) -> Result<Vec<Ki
     Ok(kinds)
 }
 
-/// Returns the number of bytes of an object with cells of these kinds, up to the end of the last
-/// cell.
+/// Returns the number of bytes of an object with cells of these kinds, up to the end of the last cell.
 fn bytes_of_kinds(kinds: &[Kind]) -> u32
     requires { bytes_from 0 kinds.now ≤ 4000 }
     ensures { result ≡ bytes_from 0 kinds.now }
@@ -73,8 +70,7 @@ fn bytes_of_kinds(kinds: &[Kind]) -> u32
 }
 
 impl Emitter {
-    /// Emits the allocation of an object with one cell, which receives a value of this kind from the slots
-    /// from `free` on.
+    /// Emits the allocation of an object with one cell, which receives a value of this kind from the slots from `free` on.
     pub(crate) fn make_cell(
         &mut self,
         handle: Operand,
@@ -204,8 +200,7 @@ impl Emitter {
         self.emit_both(counted, begun)
     }
 
-    /// Emits the computation of the number of words of an array from its number of elements in the slot `free`. Four chars share one
-    /// word.
+    /// Emits the computation of the number of words of an array from its number of elements in the slot `free`. Four chars share one word.
     fn size_array(&mut self, kind: Kind, free: usize) -> Result<(), AllocError>
         ensures { Appends result self.old self.new (sized_code kind free) }
     {
@@ -321,8 +316,7 @@ impl Emitter {
         self.emit_both(next, Instruction::Jump { target: head })
     }
 
-    /// Emits the end of the loop that fills an array: the index becomes 0, and the pointer is moved
-    /// to its slot.
+    /// Emits the end of the loop that fills an array: the index becomes 0, and the pointer is moved to its slot.
     pub(crate) fn end_array(
         &mut self,
         slot: usize,
@@ -338,8 +332,7 @@ impl Emitter {
         self.copy(Kind::Fat, Operand::Slot { number: free }, slot)
     }
 
-    /// Emits the freeing of the block at an address, to which the program has a unique pointer,
-    /// unless the address is 0.
+    /// Emits the freeing of the block at an address, to which the program has a unique pointer, unless the address is 0.
     pub(crate) fn free_block(&mut self, address: Operand) -> Result<(), AllocError>
         ensures { Appends result self.old self.new (free_code address (length self.old.code.items)) }
     {

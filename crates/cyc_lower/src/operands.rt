@@ -58,8 +58,7 @@ pub(crate) fn operand_of(starts: &Starts, value: &Expr) -> Option<Operand>
     }
 }
 
-/// Returns the slot for the value of an expression: the slot of the assigned local if the expression is an
-/// assignment, otherwise `free`.
+/// Returns the slot for the value of an expression: the slot of the assigned local if the expression is an assignment, otherwise `free`.
 pub(crate) fn value_slot(starts: &Starts, value: &Expr, free: usize) -> usize
     ensures { result ≡ value_slot (view_starts starts.now) (view_expression value.now) free }
 {
@@ -115,8 +114,7 @@ pub(crate) fn is_simple(starts: &Starts, value: &Expr) -> bool
     }
 }
 
-/// Returns true if a memory access is light: it accesses an element at a simple index, through a
-/// pointer that needs no code.
+/// Returns true if a memory access is light: it accesses an element at a simple index, through a pointer that needs no code.
 fn is_light_place(starts: &Starts, place: &Dereference) -> bool
     ensures { result ≡ is_light_place (view_starts starts.now) (view_dereference place.now) }
 {
@@ -127,8 +125,7 @@ fn is_light_place(starts: &Starts, place: &Dereference) -> bool
     }
 }
 
-/// Returns true if an expression is light: it is simple, or a load at a simple index through a pointer that needs no
-/// code.
+/// Returns true if an expression is light: it is simple, or a load at a simple index through a pointer that needs no code.
 fn is_light(starts: &Starts, value: &Expr) -> bool
     ensures { result ≡ is_light (view_starts starts.now) (view_expression value.now) }
 {
@@ -297,8 +294,7 @@ pub(crate) fn span_in(of_type: &Ty) -> Option<usize>
     }
 }
 
-/// Returns the number of bytes of the cells to which a pointer of this type refers, unless they are
-/// structs.
+/// Returns the number of bytes of the cells to which a pointer of this type refers, unless they are structs.
 fn span_after(of_type: &Ty) -> Option<usize>
     ensures { result ≡ option_map bytes_of_kind (target_of_value (Value (view_ty of_type.now))) }
 {
@@ -346,8 +342,7 @@ pub(crate) fn kind_at(place: &Dereference) -> Kind
     }
 }
 
-/// Returns the number of bytes that precede a variable in its words: a char is the last byte of its
-/// word.
+/// Returns the number of bytes that precede a variable in its words: a char is the last byte of its word.
 pub(crate) fn variable_bytes(kind: Kind) -> u32
     ensures { result ≡ variable_bytes kind }
 {
@@ -357,8 +352,7 @@ pub(crate) fn variable_bytes(kind: Kind) -> u32
     }
 }
 
-/// Returns the number of bytes of the cell to which a dereferenced pointer refers, unless it is a
-/// struct.
+/// Returns the number of bytes of the cell to which a dereferenced pointer refers, unless it is a struct.
 fn span_at(place: &Dereference) -> Option<usize>
     ensures { result ≡ option_map bytes_of_kind (target_of_value (Value (type_of_place (view_dereference place.now)))) }
 {

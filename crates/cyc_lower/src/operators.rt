@@ -26,8 +26,7 @@ pub(crate) fn low_byte(operand: Operand, destination: usize) -> Instruction
     }
 }
 
-/// Returns the instruction of a unary operator. For a char that is used as an int, the word is
-/// unchanged.
+/// Returns the instruction of a unary operator. For a char that is used as an int, the word is unchanged.
 pub(crate) fn unary_instruction(
     operator: typed::UnaryOperator,
     destination: usize,
@@ -95,8 +94,7 @@ pub(crate) fn left_kind(operator: typed::PointerOperator) -> Kind
     }
 }
 
-/// Returns the operator on words that performs an operator on pointers: it compares the first words of two
-/// pointers, or changes an index.
+/// Returns the operator on words that performs an operator on pointers: it compares the first words of two pointers, or changes an index.
 pub(crate) fn pointer_operator(operator: typed::PointerOperator) -> BinaryOperator
     ensures { result ≡ pointer_operator operator }
 {
@@ -114,8 +112,7 @@ pub(crate) fn pointer_operator(operator: typed::PointerOperator) -> BinaryOperat
     }
 }
 
-/// Returns the comparison of a pointer's first word with 0 that holds if the comparison of the pointer with
-/// null fails.
+/// Returns the comparison of a pointer's first word with 0 that holds if the comparison of the pointer with null fails.
 fn null_failing(operator: typed::PointerOperator) -> Option<Comparison>
     ensures { result ≡ null_failing operator }
 {
@@ -135,8 +132,7 @@ fn null_failing(operator: typed::PointerOperator) -> Option<Comparison>
     }
 }
 
-/// Returns the comparison with 0 that holds if the comparison of a pointer with null fails, provided that the right
-/// operand is null.
+/// Returns the comparison with 0 that holds if the comparison of a pointer with null fails, provided that the right operand is null.
 fn null_compared(operator: typed::PointerOperator, right: &typed::Expr) -> Option<Comparison>
     ensures { result ≡ null_compared operator (view_expression right.now) }
 {
@@ -146,8 +142,7 @@ fn null_compared(operator: typed::PointerOperator, right: &typed::Expr) -> Optio
     }
 }
 
-/// Returns the comparison with 0 that holds if an operator of a chain compares with null and this
-/// comparison fails.
+/// Returns the comparison with 0 that holds if an operator of a chain compares with null and this comparison fails.
 pub(crate) fn null_operation(operation: &typed::Operation) -> Option<Comparison>
     ensures { result ≡ null_operation operation.now }
 {
@@ -162,8 +157,7 @@ pub(crate) fn null_operation(operation: &typed::Operation) -> Option<Comparison>
     }
 }
 
-/// Returns the comparison that holds if the comparison that an operator performs fails, or `None` if the
-/// operator is no comparison.
+/// Returns the comparison that holds if the comparison that an operator performs fails, or `None` if the operator is no comparison.
 pub(crate) fn failing_comparison(operator: typed::Operator) -> Option<Comparison>
     ensures { result ≡ failing_comparison operator }
 {
@@ -208,8 +202,7 @@ fn pointers_failing(operator: typed::PointerOperator) -> Option<Comparison>
     }
 }
 
-/// Returns the comparison that holds if an operator of a chain compares its two operands and this
-/// comparison fails.
+/// Returns the comparison that holds if an operator of a chain compares its two operands and this comparison fails.
 pub(crate) fn pair_operation(operation: &typed::Operation) -> Option<Comparison>
     ensures { result ≡ pair_operation operation.now }
 {
@@ -249,8 +242,7 @@ fn opposite(comparison: Comparison) -> Comparison
     }
 }
 
-/// Returns the instruction that moves a value with this number of words to slots. A constant operand always has
-/// one word.
+/// Returns the instruction that moves a value with this number of words to slots. A constant operand always has one word.
 pub(crate) fn move_of(words: usize, destination: usize, source: Operand) -> Instruction
     ensures { result ≡ move_of words destination source }
 {
@@ -267,8 +259,7 @@ pub(crate) fn move_of(words: usize, destination: usize, source: Operand) -> Inst
     }
 }
 
-/// Returns the instruction that turns an index into a number of bytes, for cells of 4, 1 or 12
-/// bytes.
+/// Returns the instruction that turns an index into a number of bytes, for cells of 4, 1 or 12 bytes.
 pub(crate) fn scale_of(bytes: usize, destination: usize, index: usize) -> Instruction
     ensures { result ≡ scale_of bytes destination index }
 {
@@ -416,8 +407,7 @@ pub(crate) fn jump_if_nonzero(condition: Operand, target: usize) -> Instruction
     }
 }
 
-/// Returns the jump over the right operand of `&&` or `||`, which is taken if the left operand's value in
-/// this slot decides the result.
+/// Returns the jump over the right operand of `&&` or `||`, which is taken if the left operand's value in this slot decides the result.
 pub(crate) fn test_jump(operator: typed::LogicalOperator, slot: usize, target: usize) -> Instruction
     ensures { result ≡ test_jump operator slot target }
 {
@@ -437,8 +427,7 @@ pub(crate) fn tag_operand(tag: usize) -> Operand
     }
 }
 
-/// Returns the jump over a catch clause, which is taken if the tag in a slot is not that of the
-/// clause.
+/// Returns the jump over a catch clause, which is taken if the tag in a slot is not that of the clause.
 pub(crate) fn other_jump(tag: usize, slot: usize, target: usize) -> Instruction
     ensures { result ≡ other_jump tag slot target }
 {

@@ -271,8 +271,7 @@ impl Emitter {
         Ok(reached_operand(span, first, free))
     }
 
-    /// Emits the conversion in place of a fat pointer to a thin one that may be null. For null, no cell address is
-    /// computed.
+    /// Emits the conversion in place of a fat pointer to a thin one that may be null. For null, no cell address is computed.
     fn thin_nullable(
         &mut self,
         starts: &Starts,

@@ -24,8 +24,7 @@ pub fn lower(alloc: Global, program: &Flowed) -> Result<Plain, Fault>
     requires small { program_weight (view_program program.now.tree) ≤ max_tokens }
     requires can_be { CanBeLowered (view_program program.now.tree) }
 
-    // The result of `lower` is a plain program with the behaviour of the source. A rejected program has too many
-    // functions.
+    // The result of `lower` is a plain program with the behaviour of the source. A rejected program has too many functions.
     ensures { Decides (IsAccepted (view_program program.now.tree)) IsLowered (HasTooMany (view_program program.now.tree))
         (HasTooMany (view_program program.now.tree)) result }
 {

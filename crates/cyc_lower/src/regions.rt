@@ -53,8 +53,7 @@ impl Emitter {
         self.name_local(starts, 1, number, Operand::Slot { number: following })
     }
 
-    /// Emits the closing of the newest lexical regions until only as many are open as the slot
-    /// `mark` says.
+    /// Emits the closing of the newest lexical regions until only as many are open as the slot `mark` says.
     pub(crate) fn close_lexical(&mut self, mark: usize) -> Result<(), AllocError>
         ensures { Appends result self.old self.new (closed_code mark) }
     {
@@ -81,8 +80,7 @@ impl Emitter {
         Ok(following + 1)
     }
 
-    /// Emits the closing of the lexical regions that were opened in a `try`, for an exception that reaches the
-    /// handler of the `try`.
+    /// Emits the closing of the lexical regions that were opened in a `try`, for an exception that reaches the handler of the `try`.
     pub(crate) fn restore_scopes(&mut self, starts: &Starts, free: usize) -> Result<(), AllocError>
         requires { free ≤ most_locals }
         ensures { Appends result self.old self.new (restored_code (view_starts starts.now) free) }

@@ -47,8 +47,7 @@ fn is_nothing(statement: &Stmt) -> bool
 }
 
 impl Emitter {
-    /// Emits the declaration of a local without an initial value. Only a char receives a value, since the word of a char must be
-    /// below 256.
+    /// Emits the declaration of a local without an initial value. Only a char receives a value, since the word of a char must be below 256.
     fn leave_blank(&mut self, kind: Kind, slot: usize) -> Result<(), AllocError>
         ensures { Appends result self.old self.new (blank_code kind slot) }
     {
@@ -257,8 +256,7 @@ impl Emitter {
         }
     }
 
-    /// Emits the items of a block. At the end of the block, each lexical region that the block opened is
-    /// closed, newest first.
+    /// Emits the items of a block. At the end of the block, each lexical region that the block opened is closed, newest first.
     #[cycle(statement)]
     pub(crate) fn lower_items(
         &mut self,

@@ -1,5 +1,4 @@
-//! Emits the code of swaps. Each side of a swap is a variable or a cell, and the address of a cell
-//! is in a slot.
+//! Emits the code of swaps. Each side of a swap is a variable or a cell, and the address of a cell is in a slot.
 ghost use Rattle.std.specs.Prelude.{◌≡◌, ◌+◌, ◌^◌, ◌<◌, ◌≤◌, length};
 ghost use Rattle.cyc_types.specs.typing.Expressions.{type_of_side};
 ghost use Rattle.cyc_types.specs.TypedTreeView.{view_side};
@@ -31,8 +30,7 @@ fn kind_of_side(side: &Side) -> Kind
 }
 
 impl Emitter {
-    /// Emits the loads of the words of a cell of a kind into slots; the cell's address is in a
-    /// slot.
+    /// Emits the loads of the words of a cell of a kind into slots; the cell's address is in a slot.
     fn load_words(&mut self, kind: Kind, address: usize, slot: usize) -> Result<(), AllocError>
         requires { slot + words_of_kind kind < 2 ^ 64 }
         ensures { Appends result self.old self.new (word_by_word (load_at kind address) (words_of_kind kind) 0 slot) }
@@ -116,8 +114,7 @@ impl Emitter {
         }
     }
 
-    /// Emits the move of the address of one side of a swap, if it is a cell, to a slot. A side that is a variable
-    /// needs no code.
+    /// Emits the move of the address of one side of a swap, if it is a cell, to a slot. A side that is a variable needs no code.
     fn lower_side(&mut self, starts: &Starts, side: &Side, free: usize) -> Result<(), AllocError>
         requires { free ≤ most_locals + length self.old.code.items }
         ensures { Appends result self.old self.new (side_code (view_starts starts.now) (view_side side.now) (length self.old.code.items) free) }
@@ -128,8 +125,7 @@ impl Emitter {
         }
     }
 
-    /// Emits the exchange of both sides of a swap: they are read, the left one first, and then
-    /// written.
+    /// Emits the exchange of both sides of a swap: they are read, the left one first, and then written.
     fn exchange(
         &mut self,
         starts: &Starts,

@@ -28,8 +28,7 @@ use Rattle.cyc_lower_proof.proofs.Examples.{nowhere, int, local, two, all, retur
 
 -- ---- trees
 
--- The expression `a` of type int converted to a char, which keeps the low byte; below it, the
--- conversion of a char to an int.
+-- The expression `a` of type int converted to a char, which keeps the low byte; below it, the conversion of a char to an int.
 abbrev low : Expression → Converted
 low a = Convert kinds.Int kinds.Char a
 
@@ -61,15 +60,13 @@ program structs locals body others =
 
 -- ---- code
 
--- An int becomes a char when its low byte is moved to the slot of the char; the slot of the int
--- keeps its word.
+-- An int becomes a char when its low byte is moved to the slot of the char; the slot of the int keeps its word.
 char_is_masked : function_code [] [] None (function [] (Int ∷ Char ∷ []) (all (Evaluate (Assign (Local nowhere 1) (low (local 0)) (Value Char)) ∷ []))) ≡
     instructions.Binary plain_binary.And 1 (Slot 0) (Constant 255)
     ∷ instructions.Finish 2 ∷ []
 char_is_masked = refl
 
--- An int is stored in a cell of type char through a temporary, which comes after the temporary of
--- the address.
+-- An int is stored in a cell of type char through a temporary, which comes after the temporary of the address.
 char_is_stored : function_code [] [] None (function [] (Int ∷ star ∷ []) (all (puts 1 (local 0) ∷ []))) ≡
     instructions.Branch comparisons.Equal (Slot 1) (Constant 0) 7 ∷ Move 3 (Slot 1)
     ∷ instructions.Binary plain_binary.And 4 (Slot 0) (Constant 255) ∷ instructions.StoreByte (Slot 3) 0 (Slot 4)

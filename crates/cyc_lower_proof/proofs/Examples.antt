@@ -1,5 +1,4 @@
--- This file has examples: small programs are lowered and run on the plain machine, and each result
--- is proved by computation.
+-- This file has examples: small programs are lowered and run on the plain machine, and each result is proved by computation.
 use Rattle.std.proofs.Common.{◌≡◌, ℕ, ◌+◌, List, [], ◌∷◌, pos, negsuc, refl, Some, None}
 use Rattle.cyc_words.specs.Word.{slt_of, div_of}
 use Rattle.cyc_words.specs.Ending.{Returned, Uncaught, Full}
@@ -221,8 +220,7 @@ source_factorials = refl
 source_is_limited : source_ends 300 (program (all (returns (call (Calls 1) (Number 50 ∷ [])) ∷ [])) (factorial ∷ [])) [] ≡ Ended Full
 source_is_limited = refl
 
--- The function body that reads the whole input, prints each byte plus one, and returns the number
--- of bytes.
+-- The function body that reads the whole input, prints each byte plus one, and returns the number of bytes.
 abbrev copying : Items
 copying =
     MoreItems (Declare 0 Int None)
@@ -252,8 +250,7 @@ stops_at_line_feed = refl
 abbrev thrower : Function
 thrower = function (Int ∷ []) [] (all (Throw 5 (Some (local 0)) ∷ []))
 
--- An exception thrown by a callee reaches the `catch` clause for its number, and a local receives
--- the int of the exception.
+-- An exception thrown by a callee reaches the `catch` clause for its number, and a local receives the int of the exception.
 abbrev catching : Program
 catching =
     program (all (
@@ -268,8 +265,7 @@ catches = refl
 source_catches : source_ends 80 catching [] ≡ Ended (Returned (pos 7))
 source_catches = refl
 
--- A loop whose body is a `try` runs two iterations and is then left; the next exception finds no open handler
--- of this `try`.
+-- A loop whose body is a `try` runs two iterations and is then left; the next exception finds no open handler of this `try`.
 abbrev leaving : Items
 leaving =
     MoreItems (Declare 0 Int (Some (int (Number 0))))
@@ -322,8 +318,7 @@ source_catches_null = refl
 abbrev code_of_body : Items → List Instruction
 code_of_body body = function_code [] [] None (function [] ints body)
 
--- The code of a loop tests the condition before and after the body; a jump to the end of the loop
--- comes before the body.
+-- The code of a loop tests the condition before and after the body; a jump to the end of the loop comes before the body.
 loop_code : code_of_body (all (While nowhere (local 0) Break ∷ returns (local 1) ∷ [])) ≡
     jump_if_nonzero (Slot 0) 2 ∷ Jump 4 ∷ Jump 1 ∷ jump_if_nonzero (Slot 0) 2
     ∷ instructions.Finish 1
@@ -338,8 +333,7 @@ alternatives_code : code_of_body (all (If (two (local 0) (ThenTest OrElse (two (
     ∷ instructions.Finish 2 ∷ []
 alternatives_code = refl
 
--- Each operand of `&&` in the condition of a branch has its own jump to the code after `else`,
--- which is taken if the operand fails.
+-- Each operand of `&&` in the condition of a branch has its own jump to the code after `else`, which is taken if the operand fails.
 parts_code : code_of_body (all (If (two (local 0) (ThenTest AndThen (two (local 1) (ThenCompute Less (Number 3) NoOperations)) NoOperations)) (returns (local 1)) (returns (local 0)) ∷ [])) ≡
     jump_if_zero (Slot 0) 4 ∷ instructions.Branch comparisons.GreaterOrEqual (Slot 1) (Constant 3) 4
     ∷ instructions.Finish 1
@@ -386,8 +380,7 @@ continued_code : code_of_body (all (While nowhere (two (local 0) (ThenCompute Le
     ∷ instructions.Finish 2 ∷ []
 continued_code = refl
 
--- The code of a branch that contains a division; the check of the divisor jumps to the last block
--- of the function if it fails.
+-- The code of a branch that contains a division; the check of the divisor jumps to the last block of the function if it fails.
 branch_code : code_of_body (all (If (local 0) (Evaluate (two (local 0) (ThenCompute Divide (local 1) NoOperations))) Empty ∷ [])) ≡
     jump_if_zero (Slot 0) 3
     ∷ jump_if_zero (Slot 1) 9 ∷ instructions.Binary plain_binary.Divide 3 (Slot 0) (Slot 1)
@@ -427,8 +420,7 @@ direct_code : code_of_body (all (Evaluate (sets 0 (two (local 0) (ThenCompute Ad
     ∷ instructions.Finish 2 ∷ []
 direct_code = refl
 
--- An operator chain that is assigned to a local and reads this local in its last operand keeps its
--- earlier values in a temporary.
+-- An operator chain that is assigned to a local and reads this local in its last operand keeps its earlier values in a temporary.
 chain_code : code_of_body (all (Evaluate (sets 0 (two (local 1) (ThenCompute Subtract (Number 3) (ThenCompute Divide (local 0) (ThenCompute Remainder (Number 7) NoOperations))))) ∷ [])) ≡
     instructions.Binary plain_binary.Subtract 3 (Slot 1) (Constant 3)
     ∷ jump_if_zero (Slot 0) 10 ∷ instructions.Binary plain_binary.Divide 3 (Slot 3) (Slot 0)
@@ -436,15 +428,13 @@ chain_code : code_of_body (all (Evaluate (sets 0 (two (local 1) (ThenCompute Sub
     ∷ instructions.Finish 2 ∷ blocks 2
 chain_code = refl
 
--- A local declared after a fat pointer has the slot after the three words of the fat
--- pointer; temporaries come after all locals.
+-- A local declared after a fat pointer has the slot after the three words of the fat pointer; temporaries come after all locals.
 wide_code : function_code [] [] None (function [] (Pointer Fat Int Heap ∷ Int ∷ []) (all (Evaluate (sets 1 (two (local 1) (ThenCompute Add (Number 1) NoOperations))) ∷ []))) ≡
     instructions.Binary plain_binary.Add 3 (Slot 3) (Constant 1)
     ∷ instructions.Finish 4 ∷ []
 wide_code = refl
 
--- A global fat pointer has three words, which are moved one by one; the next global begins after
--- these words.
+-- A global fat pointer has three words, which are moved one by one; the next global begins after these words.
 abbrev pub fat_global : GlobalVariable
 fat_global = record { name = 0; of_type = Pointer Fat Int Heap; value = Null }
 
@@ -466,8 +456,7 @@ wide_globals = refl
 
 -- ---- lexical regions
 
--- Each of five loop iterations opens a region, and the examples leave it by every kind of exit; the store has room
--- for two regions at once.
+-- Each of five loop iterations opens a region, and the examples leave it by every kind of exit; the store has room for two regions at once.
 abbrev with_handle : Items → List Function → Program
 with_handle body others = record {
   structs = [];
@@ -509,8 +498,7 @@ region_is_thrown_from = refl
 both_are_left : ends 260 (passes (While nowhere (Number 1) (in_region (Try (Block 5 (MoreItems (DeclareRegion 6 1) (all (Break ∷ [])))) (Default 7 NoItems) ∷ [])))) [] ≡ Ended (Returned (pos 5))
 both_are_left = refl
 
--- The program whose loop calls a function that returns out of its region or leaves the region by an
--- exception.
+-- The program whose loop calls a function that returns out of its region or leaves the region by an exception.
 abbrev calling_out : Statement → Program
 calling_out body = with_handle (MoreItems (Declare 0 Int (Some (int (Number 0)))) (all (
     While nowhere (two (local 0) (ThenCompute Less (Number 5) NoOperations)) (Block 1 (all (
@@ -528,8 +516,7 @@ source_throws_from_region : source_ends 600 (calling_out (in_region (Throw 5 Non
 unfolding slt_of
 source_throws_from_region = refl
 
--- The first temporary holds the region's mark, which is the number of lexical regions that were
--- open before.
+-- The first temporary holds the region's mark, which is the number of lexical regions that were open before.
 region_code : function_code [] [] (Some 4) (function [] (Int ∷ Handle Heap ∷ []) (all (in_region [] ∷ []))) ≡
     instructions.Ask (requests.OpenLexical 4) ∷ Move 3 (Slot 5)
     ∷ Move 1 (Slot 4)

@@ -1,5 +1,4 @@
--- The proofs have one folder for each topic; the header of each proof file states the contents of
--- the file.
+-- The proofs have one folder for each topic; the header of each proof file states the contents of the file.
 pub mod acceptance
 pub mod slots
 pub mod emission

@@ -1,5 +1,4 @@
--- This module proves the steps that evaluate address expressions and that read and write the cells
--- at these addresses.
+-- This module proves the steps that evaluate address expressions and that read and write the cells at these addresses.
 pub mod PlaceWords
 pub mod KindWords
 pub mod StoredWords

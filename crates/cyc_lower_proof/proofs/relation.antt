@@ -1,5 +1,4 @@
--- This module defines the relation between a source state and a plain state, and shows which steps
--- preserve the relation.
+-- This module defines the relation between a source state and a plain state, and shows which steps preserve the relation.
 pub mod places
 pub mod code
 pub mod contents

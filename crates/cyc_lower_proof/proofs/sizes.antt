@@ -1,5 +1,4 @@
--- This module proves the rest of the lowering's contract: the plain program is well-formed,
--- consists of 32-bit words, and is small.
+-- This module proves the rest of the lowering's contract: the plain program is well-formed, consists of 32-bit words, and is small.
 pub mod RangeLemmas
 pub mod ValueRoom
 pub mod ValueRanges

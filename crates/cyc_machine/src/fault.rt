@@ -6,7 +6,7 @@ ghost use Rattle.cyc_machine.specs.declared.fault.LoadFault.TheVariants.{Memory}
 use std::alloc::{AllocError, AllocFailed};
 use thiserror::Error;
 
-/// The reason why an image cannot be loaded.
+/// The reasons why an image cannot be loaded.
 #[derive(Clone, Copy, Debug, PartialEq, Eq, Error)]
 pub enum LoadFault {
     /// A non-empty segment is neither wholly in the text range nor wholly in the data range.

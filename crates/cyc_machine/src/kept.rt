@@ -70,8 +70,7 @@ pub fn set_global_word(kept: &mut Vec<u32>, number: usize, word: u32)
     kept[number] = word;
 }
 
-/// Extends the stored part of the data range up to the word with the given number, which is about to be
-/// accessed.
+/// Extends the stored part of the data range up to the word with the given number, which is about to be accessed.
 pub fn keep_global_word(kept: &mut Vec<u32>, number: usize)
     requires inside { number < DATA_WORDS }
     requires short { length kept.old.items ≤ DATA_WORDS }
@@ -115,8 +114,7 @@ pub fn set_stack_word(kept: &mut Vec<u32>, count: usize, number: usize, word: u3
     kept[next - wanted] = word;
 }
 
-/// Extends the stored part of a stack of `count` words down to the word with the given number, which is about to be
-/// accessed.
+/// Extends the stored part of a stack of `count` words down to the word with the given number, which is about to be accessed.
 pub fn keep_stack_word(kept: &mut Vec<u32>, count: usize, number: usize)
     requires inside { number < count }
     requires short { length kept.old.items ≤ count }

@@ -1,5 +1,4 @@
-//! A MIPS32 machine for user programs: it loads an image, and executes the image's instructions one at
-//! a time.
+//! A MIPS32 machine for user programs: it loads an image, and executes the image's instructions one at a time.
 #![tactic(auto)]
 
 mod access;

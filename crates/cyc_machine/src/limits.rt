@@ -6,8 +6,7 @@ ghost use Rattle.cyc_machine_model.specs.Bounds.{AreAllowed};
 use cyc_machine_model::constants::{MAX_CALLS, MAX_PAGES, MIN_CALLS, MIN_PAGES};
 use std::marker::Model;
 
-/// The limits of a run: the number of heap pages, from 3 to 65,536, and the number of
-/// simultaneously active calls, from 1 to 4,096.
+/// The limits of a run: the number of heap pages, from 3 to 65,536, and the number of simultaneously active calls, from 1 to 4,096.
 #[derive(Clone, Copy, Debug, PartialEq, Eq)]
 pub struct Limits {
     pages: u32,
@@ -48,8 +47,7 @@ impl Limits {
         self.pages
     }
 
-    /// Returns the maximum number of simultaneously active calls. The stack has 256 words for each
-    /// call.
+    /// Returns the maximum number of simultaneously active calls. The stack has 256 words for each call.
     pub fn calls(&self) -> u32
         ensures value { result ≡ self.now.calls }
         ensures allowed { AreAllowed self.now.pages self.now.calls }

@@ -80,8 +80,7 @@ action_of_tells s running =
       | false ↦ refl
     ]
 
--- If a step's event and state equal those of an action, the event determines the phase after the
--- step.
+-- If a step's event and state equal those of an action, the event determines the phase after the step.
 tells_both : (old : State) (event reported : Event) (new left : State) → left.phase ≡ phase_after reported → event ≡ reported → new ≡ left → new.phase ≡ phase_after event
 tells_both old event reported new left tells same_event same_state =
     ap (λ s. s.phase) same_state ∙ (tells ∙ ap phase_after (sym same_event))

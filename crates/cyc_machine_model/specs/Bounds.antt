@@ -2,8 +2,7 @@
 use Rattle.std.specs.Prelude.{ℕ, ◌≤◌}
 use Rattle.cyc_machine_model.specs.declared.constants.TheConstants.{MIN_PAGES, MAX_PAGES, MIN_CALLS, MAX_CALLS}
 
--- The limits of a run: the number of pages of the store, and the most calls that may be active at
--- once.
+-- The limits of a run: the number of pages of the store, and the most calls that may be active at once.
 pub record Bounds : Type 0 where
   pub pages : ℕ
   pub calls : ℕ

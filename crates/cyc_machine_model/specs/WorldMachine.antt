@@ -13,8 +13,7 @@ abbrev pub status_at : Option Ending → Status
 status_at (Some ending) = Ended ending
 status_at None = Failed
 
--- Returns the status of a machine in this phase. A machine that waits for a byte is running, since
--- it receives a byte at once.
+-- Returns the status of a machine in this phase. A machine that waits for a byte is running, since it receives a byte at once.
 abbrev pub status_in : Phase → Status
 status_in phases.Running = Running
 status_in phases.Waiting = Running
@@ -24,8 +23,7 @@ status_in (phases.Over end) = status_at (ending_of end)
 abbrev pub seen_of : World → Seen
 seen_of w = showing w.output w.input
 
--- The transition system of the machine in its world, where the place of a state is the address of
--- the next instruction.
+-- The transition system of the machine in its world, where the place of a state is the address of the next instruction.
 abbrev pub world_machine : Machine
 world_machine = record {
   State = World;

@@ -62,8 +62,7 @@ pub const OPEN_DYNAMIC: u32 = 7;
 /// The service that closes a dynamic region.
 pub const CLOSE_DYNAMIC: u32 = 8;
 
-/// The service that allocates a block of a requested number of words in a region and returns the block's
-/// address.
+/// The service that allocates a block of a requested number of words in a region and returns the block's address.
 pub const ALLOCATE: u32 = 9;
 
 /// The service that frees a block to which the program has a unique pointer.
@@ -72,8 +71,7 @@ pub const FREE: u32 = 10;
 /// The service that ends a run because the stack has no space for another call.
 pub const END_FULL: u32 = 11;
 
-/// The register that holds the number of the requested service, and later the first word of its
-/// result.
+/// The register that holds the number of the requested service, and later the first word of its result.
 pub const SERVICE: u8 = 2;
 
 /// The register that holds the second word of a service's result.
@@ -85,8 +83,7 @@ pub const ARGUMENT: u8 = 4;
 /// The register that holds the second argument of a service.
 pub const SECOND_ARGUMENT: u8 = 5;
 
-/// The register that holds the lowest used address of the stack. At the start of a run it holds the end of the
-/// stack.
+/// The register that holds the lowest used address of the stack. At the start of a run it holds the end of the stack.
 pub const STACK_POINTER: u8 = 29;
 
 /// The register in which the `jal` instruction leaves the return address.

@@ -30,11 +30,9 @@ pub enum Cause {
 pub enum End {
     /// The program returned from `main` with this value.
     Returned(i32),
-    /// An exception was not caught. The fields are the exception's number, and its value, or 0 if
-    /// it has none.
+    /// An exception was not caught. The fields are the exception's number, and its value, or 0 if it has none.
     Uncaught(u32, i32),
-    /// A request failed because the store had no free pages, or a call because the stack had no
-    /// space for it.
+    /// A request failed because the store had no free pages, or a call because the stack had no space for it.
     Full,
     /// The machine refused to execute an instruction.
     Trap(Cause),
@@ -51,8 +49,7 @@ pub enum Event {
     Puts(u8),
     /// The run has ended in this way.
     Ended(End),
-    /// The store lacks memory. The instruction was not executed, and the machine's state is
-    /// unchanged.
+    /// The store lacks memory. The instruction was not executed, and the machine's state is unchanged.
     NoMemory,
 }
 

@@ -39,8 +39,7 @@ pub fn events_tell_the_phase()
     ensures { (old new : State) (event : Event) → Step old event new → new.phase ≡ phase_after event }
 {}
 
-/// A read of a register yields the word last written to this register, except that register 0
-/// always reads 0.
+/// A read of a register yields the word last written to this register, except that register 0 always reads 0.
 pub fn registers_hold()
     ensures zero { (core : Core) → register core 0 ≡ 0 }
     ensures same { (core : Core) (number value : ℕ) → number ≢ 0 → number < length core.registers → register (with_register core number value) number ≡ value }

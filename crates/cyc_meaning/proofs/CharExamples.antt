@@ -81,8 +81,7 @@ low_bytes : end (program (
     ∷ [])) ≡ HasEnded (Returned (pos 261))
 low_bytes = refl
 
--- `char a = 200; char b = 100; return a + b;`: the chars are converted to ints before they are
--- added
+-- `char a = 200; char b = 100; return a + b;`: the chars are converted to ints before they are added
 sum_of_chars : end (program (define 0 Char (low (Number 200)) ∷ define 1 Char (low (Number 100)) ∷ return (sum (wide (char 0)) (wide (char 1))) ∷ [])) ≡ HasEnded (Returned (pos 300))
 sum_of_chars = refl
 
@@ -119,7 +118,7 @@ array_of_chars : long_printed (program (
     ∷ [])) ≡ 68 ∷ 90 ∷ 67 ∷ 65 ∷ []
 array_of_chars = refl
 
--- an array of 4,000 chars has 1,000 words, which is the largest size
+-- An array of 4,000 chars has 1,000 words, which is the greatest size that an array may have.
 most_chars : makes_array (InRegion 0) 0 kinds.Char (Number 0) (Word 4000) [] no_locals (first_world (program []) [])
     ≡ Running (Beginning (InRegion 0) 4000 0 kinds.Char (Number 0)) [] no_locals (first_world (program []) [])
 most_chars = refl

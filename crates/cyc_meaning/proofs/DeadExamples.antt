@@ -34,8 +34,7 @@ freed_twice_is_dead = refl
 freed_and_swapped : end (freed (declare 1 (Number 1) ∷ Execute (Swap (side 1 Int) (CellSide (target own (peek 0 own)))) ∷ [])) ≡ IsDead
 freed_and_swapped = refl
 
--- After `ufree(u)`, evaluating `u == u` is a dead access (one to freed memory), and `u == NULL` is
--- not.
+-- After `ufree(u)`, evaluating `u == u` is a dead access (one to freed memory), and `u == NULL` is not.
 freed_and_compared : end (freed (return (apply (peek 0 own) pointers.EqualThin (peek 0 own) Int) ∷ [])) ≡ IsDead
 freed_and_compared = refl
 
@@ -46,7 +45,7 @@ freed_and_compared_with_null = refl
 freed_and_compared_with_null_value : end (freed (define 1 star (null_as star) ∷ return (apply (peek 0 own) pointers.EqualThin (variable 1 star) Int) ∷ [])) ≡ HasEnded (Returned (pos 0))
 freed_and_compared_with_null_value = refl
 
--- taking the address of a freed cell is not an access
+-- Taking the address of a freed cell is not an access, so it is not dead.
 freed_and_located : end (freed (return (apply (typed.AddressOfCell (target own (peek 0 own)) at) pointers.ThinIsNull NullPointer Int) ∷ [])) ≡ HasEnded (Returned (pos 0))
 freed_and_located = refl
 
@@ -137,8 +136,7 @@ stale after = program (
     ∷ define 4 star (null_as star)
     ∷ after)
 
--- For a stale pointer p, `p == p`, `p == q` and `q != p` are dead accesses; `p == z` and `z != p`
--- are not, and the pointers differ.
+-- For a stale pointer p, `p == p`, `p == q` and `q != p` are dead accesses; `p == z` and `z != p` are not, and the pointers differ.
 stale_compared_with_itself : long_end (stale (return (apply (variable 1 star) pointers.EqualThin (variable 1 star) Int) ∷ [])) ≡ IsDead
 stale_compared_with_itself = refl
 
@@ -179,8 +177,7 @@ no_local = refl
 no_counter : end (program (return (Counter 0) ∷ [])) ≡ IsWrong
 no_counter = refl
 
--- A program is wrong if it returns a pointer as an int, or uses a pointer of another kind than its
--- tree states.
+-- A program is wrong if it returns a pointer as an int, or uses a pointer of another kind than its tree states.
 wrong_kind_returned : end (program (return (new OnHeap at (Number 1)) ∷ [])) ≡ IsWrong
 wrong_kind_returned = refl
 
@@ -190,8 +187,7 @@ wrong_kind_of_variable = refl
 wrong_kind_followed : end (program (define 0 at (convert at at (new OnHeap at (Number 1))) ∷ return (Load (typed.Target kinds.Fat (variable 0 at) Int)) ∷ [])) ≡ IsWrong
 wrong_kind_followed = refl
 
--- `&*p`, or a conversion of a fat pointer, is wrong if the target is an int but the tree states a
--- pointer.
+-- `&*p`, or a conversion of a fat pointer, is wrong if the target is an int but the tree states a pointer.
 wrong_kind_of_target : end (program (define 0 at (convert at at (new OnHeap at (Number 1))) ∷ execute (AddressOfCell (typed.Target kinds.NonNull (variable 0 at) star) at) ∷ [])) ≡ IsWrong
 wrong_kind_of_target = refl
 

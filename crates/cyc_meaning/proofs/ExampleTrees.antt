@@ -178,7 +178,7 @@ element a i = Element a i Int
 abbrev pub apply : Expression → PointerOperator → Expression → Ty → Expression
 apply a operator b t = Binary a (ThenPointer operator b NoOperations) t
 
--- `d = e`, an assignment of an int
+-- `d = e` assigns an int to the cell d.
 abbrev pub put : Dereference → Expression → Expression
 put d a = typed.Store d (int a) (Value Int)
 
@@ -188,7 +188,7 @@ set number t c = Assign (typed.Local here number) c (Value t)
 abbrev pub new : Placement → Ty → Expression → Expression
 new placement t a = New placement (Plain kinds.Int a) t
 
--- `{for i < n : e}`, with the counter of the outermost level
+-- `{for i < n : e}` as an initial value, with the counter of the outermost level
 abbrev pub array : Placement → Ty → Expression → Expression → Expression
 array placement t n a = New placement (Array here 0 n kinds.Int a) t
 
@@ -224,8 +224,7 @@ procedure parameters is = record (function parameters is) { result = None }
 abbrev pub call_void : ℕ → Converted → typed.Item
 call_void number c = execute (Call (callees.Function number) (MoreArguments c NoArguments) Void)
 
--- Returns the status of a program's limited run, with the given numbers of pages and calls, after up to
--- 400 steps.
+-- Returns the status of a program's limited run, with the given numbers of pages and calls, after up to 400 steps.
 abbrev pub end_within : (pages calls : ℕ) → Program → Status
 end_within pages calls p = status_of (limited_run p pages calls [] 400)
 

@@ -1,5 +1,4 @@
--- Examples of the meaning of source programs, each proved by computation. The expected results come from the
--- language's rules.
+-- Examples of the meaning of source programs, each proved by computation. The expected results come from the language's rules.
 use Rattle.std.proofs.Common.{◌≡◌, ℕ, List, [], ◌∷◌, Some, None, pos, negsuc, refl}
 use Rattle.cyc_words.specs.Word.{slt_of, sar_of, div_of, rem_of}
 use Rattle.cyc_words.specs.Ending.{Returned, Uncaught, Full}
@@ -370,8 +369,7 @@ local_of_a_pass = program (
     ∷ execute (assign 0 (two (local 0) operators.Add (Number 1))) ∷ []))
     ∷ return (Number 9) ∷ [])
 
--- A local declared in a loop body without an initial value holds no value yet in the second
--- iteration.
+-- A local declared in a loop body without an initial value holds no value yet in the second iteration.
 local_is_new_in_each_pass : long_end local_of_a_pass ≡ IsWrong
 unfolding slt_of
 local_is_new_in_each_pass = refl

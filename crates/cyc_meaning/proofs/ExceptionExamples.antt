@@ -99,8 +99,7 @@ abbrev digs : typed.Item
 digs = try_to (Evaluate (assign 0 (two (local 0) operators.Add (call 1 (Number 1 ∷ []))))) (Case 5 (Some 1) 2 (items (execute (assign 0 (two (local 0) operators.Add (local 1))) ∷ [])) NoClauses)
 
 -- int s = 0; the try statement above, twice; return s;
--- A throw ends the calls that it leaves: if three calls may be active, none stays active after the
--- throw.
+-- A throw ends the calls that it leaves, so a limit of three active calls suffices for calling and throwing twice.
 abbrev digs_twice : Program
 digs_twice = program_with (dig ∷ []) (declare 0 (Number 0) ∷ digs ∷ digs ∷ return (local 0) ∷ [])
 

@@ -1,5 +1,4 @@
--- Examples of needs (bounds on temporary words) and of frame counts, each proved by
--- computation; each comment shows the sum.
+-- Examples of needs (bounds on temporary words) and of frame counts, each proved by computation; each comment shows the sum.
 use Rattle.std.proofs.Common.{◌≡◌, ℕ, zero, suc, List, [], ◌∷◌, None, refl}
 use Rattle.cyc_types.specs.declared.region.Region.TheVariants.{Heap}
 use Rattle.cyc_types.specs.declared.typed.PointerOperator.TheVariants as pointers
@@ -16,8 +15,7 @@ use Rattle.cyc_meaning.proofs.ExampleTrees.{here, local, assign, procedure, at, 
 of_assignment : expression_need (assign 0 (Number 1)) ≡ 5
 of_assignment = refl
 
--- `*p` for a thin pointer needs one word for the pointer and one for the int; a cell that is only
--- read adds nothing.
+-- `*p` for a thin pointer needs one word for the pointer and one for the int; a cell that is only read adds nothing.
 of_read : expression_need (Load (target at (variable 0 at))) ≡ 2
 of_read = refl
 
@@ -25,8 +23,7 @@ of_read = refl
 of_element : expression_need (Load (element (variable 0 fat) (local 1))) ≡ 5
 of_element = refl
 
--- `p[i] = 1`: evaluating the assigned cell needs 3 words after its operands, 3 + 1 + 3, which is
--- more than 3 + 1 + 1
+-- `p[i] = 1`: evaluating the assigned cell needs 3 words after its operands, 3 + 1 + 3, which is more than 3 + 1 + 1
 of_element_assigned : expression_need (put (element (variable 0 fat) (local 1)) (Number 1)) ≡ 7
 of_element_assigned = refl
 
@@ -41,8 +38,7 @@ of_element_address = refl
 of_null_test : expression_need (apply (variable 0 fat) pointers.FatIsNull NullPointer Int) ≡ 5
 of_null_test = refl
 
--- `NULL == p[i]` for a cell with an int pointer needs one word for NULL, plus the need of
--- `p[i]`: 1 + 5
+-- `NULL == p[i]` for a cell with an int pointer needs one word for NULL, plus the need of `p[i]`: 1 + 5
 of_null_first : expression_need (apply NullPointer pointers.NullIs (Load (element (variable 0 fat) (local 1))) Int) ≡ 6
 of_null_first = refl
 
@@ -53,8 +49,7 @@ of_sum = refl
 of_count : expression_need (NumberOfElements (variable 0 fat)) ≡ 4
 of_count = refl
 
--- `q = p` with q fat and p thin needs 3 + 3 + 3 words; a converted operand counts the larger of its
--- two sizes.
+-- `q = p` with q fat and p thin needs 3 + 3 + 3 words; a converted operand counts the larger of its two sizes.
 of_converted : expression_need (set 0 fat (convert at fat (variable 1 at))) ≡ 9
 of_converted = refl
 
@@ -68,8 +63,7 @@ of_new_by_handle = refl
 of_new_unique : expression_need (new AsUnique own (Number 1)) ≡ 3
 of_new_unique = refl
 
--- `new {for i < n : i}` needs 4 words for the `for`, 1 for the element and 3 for the pointer, and one more after
--- a handle.
+-- `new {for i < n : i}` needs 4 words for the `for`, 1 for the element and 3 for the pointer, and one more after a handle.
 of_array : expression_need (array OnHeap fat (local 0) (Counter 0)) ≡ 8
 of_array = refl
 
@@ -87,8 +81,7 @@ of_char_as_int = refl
 of_free_key : expression_need (FreeKey (move 0 (Key Heap))) ≡ 1
 of_free_key = refl
 
--- `p[i] :=: x` needs the larger of 3 + 3 for its two sides and 3 + 1 + 3 for the left side with its
--- operands.
+-- `p[i] :=: x` needs the larger of 3 + 3 for its two sides and 3 + 1 + 3 for the left side with its operands.
 of_swap : statement_need (Swap (CellSide (element (variable 0 fat) (local 1))) (side 2 Int)) ≡ 7
 of_swap = refl
 
@@ -107,15 +100,13 @@ ints (suc n) = Int ∷ ints n
 of_ints : frame_count (record (procedure [] []) { locals = ints 232 }) ≡ 256
 of_ints = refl
 
--- The item `region<`a> h;` counts two words for its handle, and `region<`k> h = open(k);` counts
--- one: 24 + 1 + 1
+-- The item `region<`a> h;` counts two words for its handle, and `region<`k> h = open(k);` counts one: 24 + 1 + 1
 of_lexical : frame_count (record (procedure [] (DeclareRegion 1 0 ∷ [])) { locals = Handle Heap ∷ [] }) ≡ 26
 of_lexical = refl
 
 of_opened : frame_count (record (procedure [] (OpenRegion 1 1 here 0 ∷ [])) { locals = Handle Heap ∷ [] }) ≡ 25
 of_opened = refl
 
--- `try throw new A; catch { case &A: try ; catch { default: ; } }` contains two `try`, each
--- counting six words: 24 + 12
+-- `try throw new A; catch { case &A: try ; catch { default: ; } }` contains two `try`, each counting six words: 24 + 12
 of_tries : frame_count (procedure [] (try_to (Throw 5 None) (case 5 (try_to typed.Empty (typed.Default 2 typed.NoItems) ∷ []) NoClauses) ∷ [])) ≡ 36
 of_tries = refl

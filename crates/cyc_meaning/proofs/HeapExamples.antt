@@ -74,7 +74,7 @@ struct_fields : end (with_struct (program (
     ∷ []))) ≡ HasEnded (Returned (pos 7))
 struct_fields = refl
 
--- The tree states a struct, but `new 3` makes an object of another shape, so the program is wrong.
+-- The tree states a struct, but `new 4` makes an object of another shape, so the program is wrong.
 other_shape : end (with_struct (program (
     define 0 p (convert p p (new OnHeap p (Number 4)))
     ∷ return (Load x)
@@ -82,8 +82,7 @@ other_shape : end (with_struct (program (
 other_shape = refl
 
 -- struct P *p = NULL; p->x = putchar(65); return 0;
--- In an assignment to a field, the pointer to the struct is checked before the right side is
--- evaluated.
+-- In an assignment to a field, the pointer to the struct is checked before the right side is evaluated.
 abbrev p_star : Ty
 p_star = Pointer marks.Nullable (Struct 0 []) Heap
 
@@ -121,8 +120,7 @@ fields_of_all_sizes : long_end (record (program (
 fields_of_all_sizes = refl
 
 -- int *p = new 1; int *q = p; *p = *(p = new 5) + 1; return *q * 10 + *p;
--- Once the left side of an assignment is evaluated, the assignment writes to the cell found, even
--- if the pointer changes.
+-- Once the left side of an assignment is evaluated, the assignment writes to the cell found, even if the pointer changes.
 found_place_stays : long_end (program (
     define 0 star (convert at star (new OnHeap at (Number 1)))
     ∷ define 1 star (convert star star (variable 0 star))
@@ -184,8 +182,7 @@ past_the_end : long_end (program (
 past_the_end = refl
 
 -- int ?p = NULL; return p[putchar(65)];
--- In `p[i]`, both operands are evaluated before the checks; the null check comes before the bounds
--- check.
+-- In `p[i]`, both operands are evaluated before the checks; the null check comes before the bounds check.
 null_element : end (program (define 0 fat (null_as fat) ∷ return (Load (element (variable 0 fat) (print (Number 65)))) ∷ [])) ≡ HasEnded (Uncaught 1 (pos 0))
 null_element = refl
 
@@ -267,8 +264,7 @@ moved_null_prints : long_printed moved_null ≡ 65 ∷ []
 moved_null_prints = refl
 
 -- int ?p = new {for i < 3 : i + 4}; int *q = NULL; int ?r = (q = p + 1); return numelts(r) * 10 + r[0];
--- The value of an assignment is the stored value: a fat pointer stored as a thin one then has one
--- element.
+-- The value of an assignment is the stored value: a fat pointer stored as a thin one then has one element.
 thinned_and_fat_again : long_end (program (
     define 0 fat (convert fat fat (array OnHeap fat (Number 3) (two (Counter 0) operators.Add (Number 4))))
     ∷ define 1 star (null_as star)
@@ -306,7 +302,7 @@ arrays_of_arrays = refl
 array_of_negative_length : end (program (declare 0 (Unary unary.Negate (Number 1)) ∷ define 1 fat (convert fat fat (array OnHeap fat (local 0) (Number 1))) ∷ return (Number 0) ∷ [])) ≡ HasEnded (Uncaught 3 (pos 0))
 array_of_negative_length = refl
 
--- `new {for i < 1001 : 1};` is too long, and with 1000 elements the allocation begins
+-- `new {for i < 1001 : 1};` raises the exception for a too long array, and with 1000 elements the allocation begins.
 array_too_long : end (program (define 0 fat (convert fat fat (array OnHeap fat (Number 1001) (Number 1))) ∷ return (Number 0) ∷ [])) ≡ HasEnded (Uncaught 3 (pos 0))
 array_too_long = refl
 
@@ -317,7 +313,7 @@ array_of_too_many_words = refl
 array_of_enough_words : makes_array (InRegion 0) 0 kinds.Fat NullPointer (Word 333) [] no_locals (first_world (program []) []) ≡ Running (Beginning (InRegion 0) 333 0 kinds.Fat NullPointer) [] no_locals (first_world (program []) [])
 array_of_enough_words = refl
 
--- the number of words does not wrap: 1,431,655,766 fat pointers would have 2 words modulo 2 ^ 32
+-- The number of words of a new array does not wrap: 1,431,655,766 fat pointers would have 2 words modulo 2 ^ 32.
 array_that_would_wrap : makes_array (InRegion 0) 0 kinds.Fat NullPointer (Word 1431655766) [] no_locals (first_world (program []) []) ≡ Running (Throwing 3 0) [] no_locals (first_world (program []) [])
 array_that_would_wrap = refl
 

@@ -72,8 +72,7 @@ left_lexical program tag value region stack e w h rest (Found r) found = rest r
 left_lexical program tag value region stack e w h rest Closed found = absurd (subst IsFound found h.0.0)
 left_lexical program tag value region stack e w h rest Missing found = absurd (subst IsFound found h.0.0)
 
--- An exception that no `try` encloses pops all control-stack entries, one per step, and then the
--- run ends.
+-- An exception that no `try` encloses pops all control-stack entries, one per step, and then the run ends.
 unwinds_untried : (program : Program) (tag value : ℕ) (stack : List Entry) (e : Environment) (w : World) → IsNested stack e w → IsUntried stack → steps program (suc (length stack)) (Running (Throwing tag value) stack e w) ≡ Ended (Uncaught tag (signed value)) w.output w.input
 unwinds_untried program tag value [] e w h free = refl
 unwinds_untried program tag value (Needs a ∷ stack) e w h free = unwinds_untried program tag value stack e w h free

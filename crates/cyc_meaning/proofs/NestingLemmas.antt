@@ -1,5 +1,4 @@
--- The nesting of block regions and lexical regions under each change of the state: opening, closing, calling, returning
--- and allocating.
+-- The nesting of block regions and lexical regions under each change of the state: opening, closing, calling, returning and allocating.
 use Rattle.std.proofs.Common.{◌≡◌, ℕ, zero, suc, ◌≤◌, Bool, true, false, List, [], ◌∷◌, ◌++◌, set, length, Option, Some, None, refl, sym, ap, subst, ◌∙◌, inl, inr, arith, length-append}
 use Rattle.std.specs.Prelude.{◌≢◌, ◌==◌, ◌||◌, if◌then◌else◌, slice_get}
 use Rattle.std.specs.List.{list_any}
@@ -56,8 +55,7 @@ open_below regions number r (n ∷ ns) (less, below) (found, h) =
       open_below regions number r ns (all_below_more ns n number (omega (arith, less)) below) h,
     )
 
--- If an open region is replaced by another open one, every region that was found open is still
--- found open.
+-- If an open region is replaced by another open one, every region that was found open is still found open.
 set_found : (regions : List Region) (number n : ℕ) (r s : Region) → slice_get regions number ≡ Some r → (IsFound (found_region (Some r)) → IsFound (found_region (Some s)))
     → IsFound (found_region (slice_get regions n)) → IsFound (found_region (slice_get (set regions number s) n))
 set_found [] number n r s at keep found = absurd found
@@ -131,15 +129,13 @@ scopes_new regions r ns scope are number = elim (cases_eq (length regions) numbe
   | inr other ↦ after_others regions r number (λ e. other (sym e)) ∙ (are number ∙ sym (one_there number (length regions) ns other))
 ]
 
--- If a region is replaced by one that is not an open lexical region, then its number no longer
--- belongs to an open lexical region.
+-- If a region is replaced by one that is not an open lexical region, then its number no longer belongs to an open lexical region.
 set_none : (regions : List Region) (number : ℕ) (r : Region) → is_scope r.sort r.is_open ≡ false → is_open_scope (slice_get (set regions number r) number) ≡ false
 set_none [] number r none = refl
 set_none (q ∷ regions) zero r none = none
 set_none (q ∷ regions) (suc number) r none = set_none regions number r none
 
--- Closing a region keeps the invariant on the list of open lexical regions, both for a region of
--- the list and for any other.
+-- Closing a region keeps the invariant on the list of open lexical regions, both for a region of the list and for any other.
 scopes_less : (regions : List Region) (closes : ℕ) (r : Region) (ns : List ℕ) → is_scope r.sort r.is_open ≡ false → is_one closes ns ≡ false
     → ((number : ℕ) → closes ≢ number → is_open_scope (slice_get regions number) ≡ is_one number ns) → AreScopes (set regions closes r) ns
 scopes_less regions closes r ns none gone are number = elim (cases_eq closes number) [

@@ -50,8 +50,7 @@ lexical = refl
 abbrev in_a_block : typed.Item
 in_a_block = Execute (block (DeclareRegion 2 0 ∷ execute (new (by 0) at (Number 7)) ∷ []))
 
--- A block with a lexical region runs twice: the pages of a lexical region are freed at the end of
--- its block.
+-- A block with a lexical region runs twice: the pages of a lexical region are freed at the end of its block.
 regions_in_turn : end_within 2 1 (program (in_a_block ∷ in_a_block ∷ return (Number 0) ∷ [])) ≡ HasEnded (Returned (pos 0))
 regions_in_turn = refl
 
@@ -80,8 +79,7 @@ abbrev digs : typed.Item
 digs = try_to (Evaluate (assign 0 (two (local 0) operators.Add (call 1 (Number 0 ∷ []))))) (Case 5 (Some 1) 2 (items (execute (assign 0 (two (local 0) operators.Add (local 1))) ∷ [])) NoClauses)
 
 -- int s = 0; the try statement above, twice; return s;
--- A throw out of a call and three regions closes the three regions, so the heap's page and three
--- more suffice.
+-- A throw out of a call and three regions closes the three regions, so the heap's page and three more suffice.
 abbrev digs_twice : Program
 digs_twice = program_with (dig ∷ []) (declare 0 (Number 0) ∷ digs ∷ digs ∷ return (local 0) ∷ [])
 
@@ -124,12 +122,11 @@ opened_in_try_end = refl
 opened_in_try_printed : long_printed opened_in_try ≡ 65 ∷ []
 opened_in_try_printed = refl
 
--- a dynamic region has its page from `new_ukey` to `free_ukey`
+-- A dynamic region needs its page from `new_ukey` to `free_ukey`.
 key_needs_a_page : end_within 1 1 opened_in_try ≡ HasEnded Full
 key_needs_a_page = refl
 
--- A dynamic region stays open after the block that opened it, and is opened again in the next
--- block.
+-- A dynamic region stays open after the block that opened it, and is opened again in the next block.
 opened_twice : long_end (program (
     DeclareKey 1 0
     ∷ define 1 star (null_as star)
@@ -156,7 +153,7 @@ keys_in_turn = program (
     ∷ return (local 1)
     ∷ [])
 
--- the pages freed by `free_ukey` are available for the next region
+-- The pages that `free_ukey` frees are available for the next region.
 keys_in_turn_end : end_within 2 1 keys_in_turn ≡ HasEnded (Returned (pos 0))
 keys_in_turn_end = refl
 

@@ -126,8 +126,7 @@ limited-within pages calls old new within = ap (λ (b : Bool). if b then new els
 pub limited-full : (pages calls : ℕ) (old new : State) → is_within pages calls new ≡ false → limited pages calls old new ≡ Ended Full (output_of old) (input_of old)
 limited-full pages calls old new within = ap (λ (b : Bool). if b then new else Ended Full (output_of old) (input_of old)) within
 
--- If a property holds for the unlimited step and for the end by exceeded limits, then it holds for
--- the limited step.
+-- If a property holds for the unlimited step and for the end by exceeded limits, then it holds for the limited step.
 pub limited_cases : (P : State → Type 0) (pages calls : ℕ) (old new : State) → (is_within pages calls new ≡ true → P new) → (is_within pages calls new ≡ false → P (Ended Full (output_of old) (input_of old))) → P (limited pages calls old new)
 limited_cases P pages calls old new first second = go (is_within pages calls new) refl
   where
@@ -151,7 +150,7 @@ limited_over_stays program pages calls (suc n) s over =
 
 -- ---- runs
 
--- running m + n steps is running m steps and then n steps
+-- A run of m + n steps is a run of m steps followed by a run of n steps.
 pub steps-add : (program : Program) (m n : ℕ) (s : State) → steps program (m + n) s ≡ steps program n (steps program m s)
 steps-add program zero n s = let e : 0 + n ≡ n = omega arith in ap (λ k. steps program k s) e
 steps-add program (suc m) n s =
@@ -235,8 +234,7 @@ limited_until_full program pages calls zero s other = refl
 limited_until_full program pages calls (suc n) s other =
     limited_choice program pages calls n s other (limited_until_full program pages calls n (step program s))
 
--- Every outcome of the limited run, except the end for exceeded limits, is also an outcome of the
--- unlimited run.
+-- Every outcome of the limited run, except the end for exceeded limits, is also an outcome of the unlimited run.
 pub limited_comes_to : (program : Program) (pages calls n : ℕ) (s : State) (status : Status) → status ≢ HasEnded Full → status_of (limited_steps program pages calls n s) ≡ status → status_of (steps program n s) ≡ status
 limited_comes_to program pages calls n s status other is =
     let same : limited_steps program pages calls n s ≡ steps program n s = limited_until_full program pages calls n s (λ full. other (sym is ∙ full)) in

@@ -112,8 +112,7 @@ swapped_after_a_free : long_end (program_with (function (own ∷ at_own ∷ []) 
     ∷ [])) ≡ HasEnded (Returned (pos 2))
 swapped_after_a_free = refl
 
--- `*n :=: p[putchar(65)]` for a null pointer n: the left side is checked before the right side is
--- evaluated
+-- `*n :=: p[putchar(65)]` for a null pointer n: the left side is checked before the right side is evaluated
 swap_checks_left_first : printed (program (
     define 0 star (null_as star)
     ∷ define 1 fat (null_as fat)
@@ -139,8 +138,7 @@ aliased = refl
 
 -- ---- demand
 
--- The world with one more unique block of 512 words, and the world with the first such block freed
--- again.
+-- The world with one more unique block of 512 words, and the world with the first such block freed again.
 abbrev more : World → World
 more w = made_unique w (blanks 512 kinds.Int)
 
@@ -164,8 +162,7 @@ one_block_takes_a_page = refl
 three_blocks : pages (more (more (more none))) ≡ 3
 three_blocks = refl
 
--- Three blocks that are allocated and freed one after the other need one page; a page that was once
--- needed is kept.
+-- Three blocks that are allocated and freed one after the other need one page; a page that was once needed is kept.
 three_in_turn : pages (more (less 1 (more (less 0 (more none))))) ≡ 2
 three_in_turn = refl
 

@@ -97,8 +97,7 @@ page_is_full = refl
 page_is_passed : region_pages (1000 ∷ 25 ∷ []) ≡ 2
 page_is_passed = refl
 
--- A block that does not fit into a page begins the next page, and no later block goes back to an
--- earlier page.
+-- A block that does not fit into a page begins the next page, and no later block goes back to an earlier page.
 blocks_are_in_order : region_pages (600 ∷ 600 ∷ 400 ∷ 30 ∷ []) ≡ 3
 blocks_are_in_order = refl
 
@@ -142,8 +141,7 @@ block_of_two_cells = refl
 block_of_five_chars : block_size (blanks 5 kinds.Char) ≡ 2
 block_of_five_chars = refl
 
--- A cell of one word begins at a byte offset that is a multiple of 4, and the cell after it begins
--- at its end.
+-- A cell of one word begins at a byte offset that is a multiple of 4, and the cell after it begins at its end.
 rounded_up : begins kinds.Int 5 ≡ 8
 rounded_up = refl
 

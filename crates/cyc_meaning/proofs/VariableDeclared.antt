@@ -180,8 +180,7 @@ module _ (globals number : ℕ) (kind : Kind) (content : Option Value) (stack : 
     | inr newest ↦ inr (0, number, (new, refl, then_here number e.locals x w.objects e.home owns ∙ ap (λ (o : ℕ). Some o) (sym newest.0)))
   ]
 
-  -- After a declaration, the object of a local of any active call is the new one or was its object
-  -- before.
+  -- After a declaration, the object of a local of any active call is the new one or was its object before.
   split : (call other object : ℕ) → IsLocal (new ∷ waiting stack) call other object → ((call ≡ 0) × (other ≡ number) × (object ≡ length w.objects)) ⊎ IsLocal (e.locals ∷ waiting stack) call other object
   split zero other object is = elim (then_local number e.locals x w.objects e.home owns other object (local_here new (waiting stack) other object is)) [
     | inl newest ↦ inl (refl, newest.0, newest.1)

@@ -31,8 +31,7 @@ lives_newest (y ∷ objects) x (suc object) region lives = elim (lives_newest ob
   | inr new ↦ inr (ap suc new.0, new.1)
 ]
 
--- Replacing an object by another one with the same owner does not change the region in which any
--- object lives.
+-- Replacing an object by another one with the same owner does not change the region in which any object lives.
 pub lives_same : (objects : List Object) (number object : ℕ) (x y : Object) → slice_get objects number ≡ Some x → region_of y.owner ≡ region_of x.owner → region_in (slice_get (set objects number y) object) ≡ region_in (slice_get objects object)
 lives_same [] number object x y there same = refl
 lives_same (z ∷ objects) zero zero x y there same = same ∙ sym (ap region_in there)
@@ -67,8 +66,7 @@ set_region_there [] number r s there = absurd (let e : None ≡ Some r = there i
 set_region_there (q ∷ regions) zero r s there = refl
 set_region_there (q ∷ regions) (suc number) r s there = set_region_there regions number r s there
 
--- If a region is replaced, and a closed region only by a closed one, then every closed region stays
--- closed.
+-- If a region is replaced, and a closed region only by a closed one, then every closed region stays closed.
 pub shut_set : (regions : List Region) (number region : ℕ) (r s : Region) → slice_get regions number ≡ Some r → (found_region (Some r) ≡ Closed → found_region (Some s) ≡ Closed) → IsShut regions region → IsShut (set regions number s) region
 shut_set [] number region r s there keep shut = shut
 shut_set (q ∷ regions) zero zero r s there keep shut = keep (sym (ap found_region there) ∙ shut)
@@ -78,8 +76,7 @@ shut_set (q ∷ regions) (suc number) (suc region) r s there keep shut = shut_se
 
 -- ---- changes of the world
 
--- Says that after a change objects stay in their regions, closed regions stay closed, and no
--- further variable is live.
+-- Says that after a change objects stay in their regions, closed regions stay closed, and no further variable is live.
 pub record Passes (objects : List Object) (regions : List Region) (more : List Object) (others : List Region) : Type 0 where
   pub lives : (object region : ℕ) → LivesIn objects object region → LivesIn more object region
   pub shut : (region : ℕ) → IsShut regions region → IsShut others region

@@ -1,4 +1,4 @@
--- Variables of blocks have names in every state of a run: the steps of calls and statements.
+-- Variables of blocks have names in every state of a run: the steps that call functions and execute statements.
 use Rattle.std.proofs.Common.{◌≡◌, ℕ, suc, List, [], ◌∷◌, length, reverse, Option, Some, None, refl, arith}
 use Rattle.std.specs.Prelude.{◌≤◌, ◌+◌, ◌==◌, slice_get}
 use Rattle.cyc_types.specs.declared.typed.Kind.TheVariants as kinds
@@ -189,8 +189,7 @@ named_proceeding (Main ∷ stack) e w = Fails
 
 -- ---- unwinding
 
--- Popping a continuation that waited for a value keeps the condition on the locals that are still
--- to be declared.
+-- Popping a continuation that waited for a value keeps the condition on the locals that are still to be declared.
 without_awaiting : (a : Awaiting) (stack : List Entry) (locals : Locals) (objects : List Object) → DeclareLater (Needs a ∷ stack) locals objects → DeclareLater stack locals objects
 without_awaiting (Initialise number kind items) stack locals objects h = h.1
 without_awaiting (OpenBy number lent items) stack locals objects h = h.1

@@ -23,8 +23,7 @@ writes_from object offset (v ∷ values) = record { place = Thin object offset; 
 abbrev pub blanks_of : List Operand → List Cell
 blanks_of values = map (λ (v : Operand). blank v.kind) values
 
--- Allocates an object with one cell for each of the given values. The pointer to the new object is
--- never null.
+-- Allocates an object with one cell for each of the given values. The pointer to the new object is never null.
 abbrev pub filled : Access World → (object : ℕ) → List Operand → List Entry → Environment → World → State
 filled (Found new) object values stack e w =
     Running (Writing (writes_from object 0 values) (Some (record { kind = kinds.NonNull; value = Thin object 0 }))) stack e new
@@ -46,7 +45,7 @@ makes_fields owner before (MoreArguments (Convert from to a) fields) stack e w =
 
 -- ---- arrays
 
--- the largest number of words of an array
+-- The maximal number of words of an array.
 abbrev pub most_words : ℕ
 most_words = 1000
 
@@ -93,8 +92,7 @@ makes owner (Plain kind a) stack e w = Running (Evaluating a) (Needs (MakePlain 
 makes owner (Fields fields) stack e w = makes_fields owner [] fields stack e w
 makes owner (Array place level count kind element) stack e w = Running (Evaluating count) (Needs (MakeArray owner level kind element) ∷ stack) e w
 
--- Allocates a new object: `new` in the heap, `rnew` in the region of a handle (evaluated first) or as a unique
--- object.
+-- Allocates a new object: `new` in the heap, `rnew` in the region of a handle (evaluated first) or as a unique object.
 abbrev pub allocates : Placement → Initial → List Entry → Environment → World → State
 allocates OnHeap initial stack e w = makes (InRegion heap_number) initial stack e w
 allocates AsUnique initial stack e w = makes (Unique true) initial stack e w

@@ -22,8 +22,7 @@ operand_words Void = 1
 operand_words Null = 1
 operand_words (Value t) = words_of t
 
--- Returns the words of a converted operand: the larger of its sizes before and after the
--- conversion.
+-- Returns the words of a converted operand: the larger of its sizes before and after the conversion.
 abbrev pub converted_words : Converted → ℕ
 converted_words (Convert from to a) = max (words_of_kind from) (words_of_kind to)
 
@@ -81,8 +80,7 @@ abbrev mutual
       max (dereference_need d place_words) (max (place_words + converted_words c + result_words t) (place_words + converted_need c))
   expression_need (New w i t) = max (handle_need w) (initial_value_need i (handle_words w) (words_of t))
 
-  -- Returns the need of evaluating a pointer's target (`*e`, `e->f` or `e[i]`), where the target
-  -- itself takes `own` words.
+  -- Returns the need of evaluating a pointer's target (`*e`, `e->f` or `e[i]`), where the target itself takes `own` words.
   pub dereference_need : Dereference → (own : ℕ) → ℕ
   dereference_need (Target k a t) own = max (operand_words (type_of a) + own) (expression_need a)
   dereference_need (Member k a s f t) own = max (operand_words (type_of a) + own) (expression_need a)
@@ -94,8 +92,7 @@ abbrev mutual
   handle_need AsUnique = 1
   handle_need (ByHandle a) = expression_need a
 
-  -- Returns the need of an initial value after a handle of `handle` words; the pointer to the object has
-  -- `own` words.
+  -- Returns the need of an initial value after a handle of `handle` words; the pointer to the object has `own` words.
   pub initial_value_need : Initial → (handle own : ℕ) → ℕ
   initial_value_need (Plain k a) handle own = max (handle + words_of_kind k + own) (handle + expression_need a)
   initial_value_need (Fields cs) handle own = max (handle + argument_words cs + own) (arguments_need cs handle)
@@ -111,8 +108,7 @@ abbrev mutual
   arguments_need NoArguments before = 0
   arguments_need (MoreArguments c cs) before = max (before + converted_need c) (arguments_need cs (before + converted_words c))
 
-  -- Returns the need of a chain's operations, if the left operand of the first operation has `left`
-  -- words.
+  -- Returns the need of a chain's operations, if the left operand of the first operation has `left` words.
   pub operations_need : Operations → Ty → (left : ℕ) → ℕ
   operations_need NoOperations t left = 0
   operations_need (ThenCompute o a os) t left =
@@ -192,7 +188,6 @@ words_of_all (t ∷ ts) = words_of t + words_of_all ts
 abbrev pub kept_words : ℕ
 kept_words = 24
 
--- Returns the frame count of a function. Counters of `for` initializers are not variables, and
--- count no words.
+-- Returns the frame count of a function. Counters of `for` initializers are not variables, and count no words.
 abbrev pub frame_count : Function → ℕ
 frame_count h = kept_words + words_of_all h.parameters + words_of_all h.locals + kept_by_items h.body + items_need h.body

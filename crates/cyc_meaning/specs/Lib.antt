@@ -1,4 +1,4 @@
--- the meaning of programs
+-- Definitions of the meaning of programs.
 pub mod Values
 pub mod Operators
 pub mod Pointers

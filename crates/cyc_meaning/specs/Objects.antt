@@ -53,8 +53,7 @@ abbrev pub live_in : (class : ℕ) → List Object → ℕ
 live_in class [] = 0
 live_in class (x ∷ objects) = if is_live_in class x.owner x.cells then suc (live_in class objects) else live_in class objects
 
--- Returns the pages of all size classes if `live` blocks of one class are live; the pages of a
--- class never decrease.
+-- Returns the pages of all size classes if `live` blocks of one class are live; the pages of a class never decrease.
 abbrev pub raised : (classes : List ℕ) → (class live : ℕ) → List ℕ
 raised classes class live = set classes class (max (get_or classes class 0) (pages_for class live))
 

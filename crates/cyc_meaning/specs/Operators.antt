@@ -1,5 +1,5 @@
 -- The operators on values: those of C on a machine of 32 bits (ISO C's operators, which Cyclone keeps). Sums wrap, shifts count modulo 32,
--- and division by 0 raises an exception; these choices are this project's own.
+-- and division by 0 raises an exception; wrapping, counting and raising are this project's own choice.
 use Rattle.std.specs.Prelude.{ℕ, ◌%◌, ◌==◌, Bool, true, false, not, if◌then◌else◌, int_le, bit_and, bit_or, bit_xor, Option, Some, None}
 use Rattle.std.specs.Int.{w32, bit_not}
 use Rattle.cyc_words.specs.Word.{signed, add_of, sub_of, mul_of, shl_of, sar_of, slt_of, div_of, rem_of}
@@ -64,8 +64,7 @@ has_no_result operator b = false
 
 -- ---- values
 
--- Returns true if a condition with this value fails: the value is 0 or the null pointer. An out-of-bounds pointer
--- is not null.
+-- Returns true if a condition with this value fails: the value is 0 or the null pointer. An out-of-bounds pointer is not null.
 abbrev pub is_zero : Value → Option Bool
 is_zero (Int a) = Some (a == 0)
 is_zero Null = Some true
@@ -106,8 +105,7 @@ abbrev pub truth_of : Option Bool → Result
 truth_of (Some fails) = Gives (Int (truth (not fails)))
 truth_of None = Misfits
 
--- Returns true if the left operand of `&&` or `||` decides the result: a zero operand decides `&&`, and any
--- other operand decides `||`.
+-- Returns true if the left operand of `&&` or `||` decides the result: a zero operand decides `&&`, and any other operand decides `||`.
 abbrev pub decides : LogicalOperator → (fails : Bool) → Bool
 decides logical.AndThen fails = fails
 decides logical.OrElse fails = not fails

@@ -1,5 +1,4 @@
--- The parts of which steps are composed: outcomes, and reads, writes and allocations with their checks. The semantics checks shapes at
--- run time: a
+-- The parts of which steps are composed: outcomes, and reads, writes and allocations with their checks. Shapes are checked at run time: a
 -- cell that is read or written has the kind that the tree states, and so has the stored value. If no case applies, the outcome is `Wrong`;
 -- if a step accesses a closed region or a freed object, the outcome is `Dead`. (Grossman et al. 2002 prove that a closed region is not
 -- accessed. The form of outcomes and the checks of shapes are this project's own choice.)

@@ -18,14 +18,12 @@ arrives (At object offset) stack e w = Running (GivenPlace (Thin object offset))
 arrives (Stops tag) stack e w = Running (Throwing tag 0) stack e w
 arrives Nowhere stack e w = wrong w
 
--- Evaluates `*e`: an access through null raises an exception, and so does an access through an
--- out-of-bounds fat pointer.
+-- Evaluates `*e`: an access through null raises an exception, and so does an access through an out-of-bounds fat pointer.
 abbrev pub follows : (pointer : Kind) → (target : Option Kind) → Operand → List Entry → Environment → World → State
 follows pointer target operand stack e w =
     if is_kind operand.kind pointer && leads_to w target (followed operand.value) then arrives (followed operand.value) stack e w else wrong w
 
--- Returns the cell of `e->f`, the field with the given number, if the object has the kinds of the
--- struct's fields.
+-- Returns the cell of `e->f`, the field with the given number, if the object has the kinds of the struct's fields.
 abbrev pub field_of : Option Object → (object offset : ℕ) → (fields : List Kind) → (field : ℕ) → Reach
 field_of None object offset fields field = Nowhere
 field_of (Some x) object offset fields field = if offset == 0 && are_kinds (kinds_of x.cells) fields then At object field else Nowhere
@@ -38,8 +36,7 @@ abbrev pub follows_member : (pointer : Kind) → (fields : List Kind) → (field
 follows_member pointer fields field operand stack e w =
     if is_kind operand.kind pointer then arrives (member_of w (followed operand.value) fields field) stack e w else wrong w
 
--- Evaluates `e[i]` as an access to `*(e + i)`. The operands are evaluated, then the index is added, then the access
--- is checked.
+-- Evaluates `e[i]` as an access to `*(e + i)`. The operands are evaluated, then the index is added, then the access is checked.
 abbrev pub indexes : (peek : Option ℕ) → (target : Option Kind) → (index : Expression) → Operand → List Entry → Environment → World → State
 indexes peek target index base stack e w =
     if is_kind base.kind kinds.Fat then Running (Evaluating index) (Needs (Advance peek target base) ∷ stack) e w else wrong w

@@ -38,8 +38,7 @@ abbrev pub opens_dynamic : (number : ℕ) → Items → List Entry → Environme
 opens_dynamic number items stack e w =
     Running (Naming number (record { kind = kinds.Key; value = Key (length w.regions) }) items) stack e (opened_as Dynamic w)
 
--- `open` reads the key of an open region and declares a local as the handle of the region. The key is lent until the end of the
--- block.
+-- `open` reads the key of an open region and declares a local as the handle of the region. The key is lent until the end of the block.
 abbrev pub opens_by_key : (number key : ℕ) → Items → List Entry → Environment → World → State
 opens_by_key number key items stack e w = loaded_from kinds.Key (e.locals key) (Needs (OpenBy number key items) ∷ stack) e w
 
@@ -77,14 +76,13 @@ aliased number lent items operand stack e w = Running (Naming number operand ite
 
 -- ---- freeing unique objects
 
--- Applies `ufree` to an object in a region. The object is not unique, so the state is wrong. If the region is closed, the access
--- is dead.
+-- Applies `ufree` to an object in a region. The object is not unique, so the state is wrong. If the region is closed, the access is dead.
 abbrev pub frees_in_region : Access Region → World → State
 frees_in_region (Found r) w = wrong w
 frees_in_region Closed w = dead w
 frees_in_region Missing w = wrong w
 
--- `ufree` frees a whole unique object, whatever the index of a fat pointer to it. `ufree` of null does nothing.
+-- `ufree` frees a whole unique object, no matter what index a fat pointer to the object has. `ufree` of null does nothing.
 abbrev pub frees_owned : Owner → (number : ℕ) → Object → List Entry → Environment → World → State
 frees_owned (InRegion region) number x stack e w = frees_in_region (region_at w region) w
 frees_owned (Unique true) number x stack e w = Running Proceeding stack e (freed w number x)

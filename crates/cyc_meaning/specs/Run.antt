@@ -1,5 +1,4 @@
--- Runs of a source program, with and without limits. The way in which an exceeded limit ends a run is this project's
--- own choice.
+-- Runs of a source program, with and without limits. The way in which an exceeded limit ends a run is this project's own choice.
 use Rattle.std.specs.Prelude.{ℕ, zero, suc, Bool, ◌&&◌, nat_le, if◌then◌else◌, List, [], ◌∷◌, slice_get}
 use Rattle.cyc_words.specs.Ending.{Full}
 use Rattle.cyc_types.specs.TypedTrees.{Program}

@@ -5,24 +5,23 @@ use Rattle.cyc_words.specs.declared.fault.Code.TheVariants.{TooManyFunctions}
 use Rattle.cyc_words.specs.declared.fault.Fault.{Fault}
 use Rattle.cyc_types.specs.TypedTrees.{Function, Program}
 
--- the largest number of functions of a program
+-- The maximal number of functions of a program.
 abbrev pub max_functions : ℕ
 max_functions = 4096
 
--- the largest number of words of a function's frame
+-- The maximal number of words of a function's frame.
 abbrev pub max_frame_words : ℕ
 max_frame_words = 256
 
--- the largest number of words of text in an image for each token of the program
+-- The maximal number of words of text in an image for each token of the program.
 abbrev pub size_per_weight : ℕ
 size_per_weight = 100
 
--- the number of words at the start of an image's text
+-- The maximal number of words of the start code of an image's text.
 abbrev pub max_start_words : ℕ
 max_start_words = 7
 
--- Says that the program has more functions than permitted, and that the fault is at the name of the
--- first excess function.
+-- Says that the program has more functions than permitted, and that the fault is at the name of the first excess function.
 abbrev pub HasTooMany : Program → Fault → Type 0
 HasTooMany p f = (h : Function) × (slice_get p.functions max_functions ≡ Some h)
     × (f ≡ record { code = TooManyFunctions; line = h.place.line; column = h.place.column })

@@ -8,8 +8,7 @@ use Rattle.cyc_meaning.specs.State.{State, output_of, input_of, status_of}
 use Rattle.cyc_meaning.specs.State as meaning
 use Rattle.cyc_meaning.specs.Run.{limited_step}
 
--- Returns the status of a source run for the machine. A dead access and a state in which no case
--- applies are not ways for a program to end.
+-- Returns the status of a source run for the machine. A dead access and a state in which no case applies are not ways for a program to end.
 abbrev pub status_in : meaning.Status → Status
 status_in meaning.GoesOn = Running
 status_in (meaning.HasEnded ending) = Ended ending
@@ -20,8 +19,7 @@ status_in meaning.IsWrong = Failed
 abbrev pub seen_of : State → Seen
 seen_of s = showing (output_of s) (input_of s)
 
--- The machine of a source program with limits. The source machine has no code, so all its states have one code
--- position.
+-- The machine of a source program with limits. The source machine has no code, so all its states have one code position.
 abbrev pub source_machine : Program → (pages calls : ℕ) → Machine
 source_machine source pages calls = record {
   State = State;

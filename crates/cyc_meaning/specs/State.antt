@@ -16,8 +16,7 @@ use Rattle.cyc_words.specs.Demand.{demand_of}
 
 -- ---- regions and objects
 
--- The sort of a region: the heap, the region of the globals, the region of the variables of a block or call, or a declared
--- region.
+-- The sort of a region: the heap, the region of the globals, the region of the variables of a block or call, or a declared region.
 pub data Sort : Type 0 where
   Heap : Sort
   Globals : Sort
@@ -31,8 +30,7 @@ pub record Region : Type 0 where
   -- The sizes of the blocks allocated in the region, in words and in order. The variables of a region are not blocks.
   pub blocks : List ℕ
 
--- The owner of an object: the region whose end frees the object, or the program's unique pointer to
--- the object.
+-- The owner of an object: the region whose end frees the object, or the program's unique pointer to the object.
 pub data Owner : Type 0 where
   InRegion : (region : ℕ) → Owner
   Unique : (live : Bool) → Owner
@@ -41,19 +39,17 @@ pub record Object : Type 0 where
   pub owner : Owner
   pub cells : List Cell
 
--- The part of a state that all calls share. Regions and objects are numbered by their positions in the world's
--- lists.
+-- The part of a state that all calls share. Regions and objects are numbered by their positions in the world's lists.
 pub record World : Type 0 where
   pub regions : List Region
   pub objects : List Object
-  -- For each size class of unique blocks, the pages needed for the largest number of blocks that
-  -- were live at once so far.
+  -- For each size class of unique blocks, the pages needed for the largest number of blocks that were live at once so far.
   pub classes : List ℕ
   -- The output so far and the unread input.
   pub output : List ℕ
   pub input : List ℕ
 
--- the numbers of the regions that exist from the start
+-- The numbers of the regions that exist from the start of a run.
 abbrev pub heap_number : ℕ
 heap_number = 0
 
@@ -62,8 +58,7 @@ globals_number = 1
 
 -- ---- results of an access
 
--- The result of an access: the accessed thing; or that it was closed or freed; or that it is
--- missing because it was never created.
+-- The result of an access: the accessed thing; or that it was closed or freed; or that it is missing because it was never created.
 pub data Access (X : Type 0) : Type 0 where
   Found : X → Access X
   Closed : Access X
@@ -120,8 +115,7 @@ opened w = opened_as Stack w
 abbrev pub closed : World → ℕ → Region → World
 closed w number r = record w { regions = set w.regions number (record r { is_open = false }) }
 
--- Returns the object of a variable: it has one cell and belongs to the region of the variable's
--- block.
+-- Returns the object of a variable: it has one cell and belongs to the region of the variable's block.
 abbrev pub variable : (region : ℕ) → Kind → Option Value → Object
 variable region kind content = record { owner = InRegion region; cells = record { kind = kind; content = content } ∷ [] }
 
@@ -166,29 +160,24 @@ with_counter e level index = record e {
 -- Continuations that wait for a value, with the operands computed before. If `peek` is a local, then a cell or an operand was reached by
 -- peeking at that local. The local must not change while the awaited part is evaluated.
 pub data Awaiting : Type 0 where
-  -- Converts the awaited value from the kind `from` to the kind `to`; a pointer must point to
-  -- `target`.
+  -- Converts the awaited value from the kind `from` to the kind `to`; a pointer must point to `target`.
   ConvertTo : (from to : Kind) → (target : Option Kind) → Awaiting
   Operate : UnaryOperator → Awaiting
   -- The remaining operators of a chain, which wait for the value of the chain's part before them.
   Chain : Operations → Awaiting
-  -- applies an operator to the left operand and the awaited right operand
+  -- Applies an operator to the left operand and the awaited right operand.
   Apply : Operator → (left : Operand) → Awaiting
   ApplyPointer : (peek : Option ℕ) → PointerOperator → (left : Operand) → Awaiting
   -- Waits for the right operand of `&&` or `||`, if the left one did not decide.
   Decide : Awaiting
-  -- Stores the awaited value in a variable, given as a thin pointer, or in a cell found by
-  -- evaluating a pointer.
+  -- Stores the awaited value in a variable, given as a thin pointer, or in a cell found by evaluating a pointer.
   Store : (place : Value) → Awaiting
   StoreCell : (peek : Option ℕ) → (place : Value) → Awaiting
-  -- Waits for an argument of a call, with the arguments before it (newest first) and those after
-  -- it.
+  -- Waits for an argument of a call, with the arguments before it (newest first) and those after it.
   Pass : Callee → (before : List Operand) → Arguments → Awaiting
-  -- Waits for the pointer of `*e`, which has the given kind, with its target: a cell of a kind, or
-  -- a struct.
+  -- Waits for the pointer of `*e`, which has the given kind, with its target: a cell of a kind, or a struct.
   Follow : (pointer : Kind) → (target : Option Kind) → Awaiting
-  -- Waits for the pointer of `e->f`, with the kinds of the struct's fields and the number of the
-  -- field.
+  -- Waits for the pointer of `e->f`, with the kinds of the struct's fields and the number of the field.
   FollowMember : (pointer : Kind) → (fields : List Kind) → (field : ℕ) → Awaiting
   -- Waits for the fat pointer of `e[i]`, and then for the index.
   Index : (peek : Option ℕ) → (target : Option Kind) → (index : Expression) → Awaiting
@@ -202,8 +191,7 @@ pub data Awaiting : Type 0 where
   -- Waits for an object that `rnew` allocates in a region. The region's handle is kept while the initial value is evaluated; then the
   -- object's pointer is passed on.
   BesideHandle : (region : ℕ) → Awaiting
-  -- Waits for the value of the only cell of a new object of the given kind, which will be allocated
-  -- for the given owner.
+  -- Waits for the value of the only cell of a new object of the given kind, which will be allocated for the given owner.
   MakePlain : Owner → Kind → Awaiting
   -- Waits for a field of a new struct, with the fields before it (newest first) and those after it.
   MakeFields : Owner → (before : List Operand) → Arguments → Awaiting
@@ -247,8 +235,7 @@ pub data Entry : Type 0 where
   Join : Entry
   -- the loop whose body is being executed
   Loop : Expression → Statement → Entry
-  -- Ends a region of variables. After the end of the region, `home` is again the region of the
-  -- variables.
+  -- Ends a region of variables. After the end of the region, `home` is again the region of the variables.
   CloseRegion : (region home : ℕ) → Entry
   -- Ends a lexical region.
   CloseLexical : (region : ℕ) → Entry
@@ -266,13 +253,12 @@ pub record Write : Type 0 where
   pub place : Value
   pub operand : Operand
 
--- The focus: the next action.
+-- The focus of a state: the next action of the run.
 pub data Focus : Type 0 where
   Evaluating : Expression → Focus
   -- Evaluates an expression for a cell that a pointer points to.
   Locating : Dereference → Focus
-  -- Passes a value to the newest stack entry; `GivenPlace` passes the location of a cell, as a thin
-  -- pointer.
+  -- Passes a value to the newest stack entry; `GivenPlace` passes the location of a cell, as a thin pointer.
   Given : Operand → Focus
   GivenPlace : (place : Value) → Focus
   Executing : Statement → Focus
@@ -280,8 +266,7 @@ pub data Focus : Type 0 where
   Proceeding : Focus
   -- All arguments of a call are evaluated, newest first, and the call follows.
   Calling : Callee → (arguments : List Operand) → Focus
-  -- Opens the region of a call, and then declares its parameters from the given number on; the arguments are in
-  -- order.
+  -- Opens the region of a call, and then declares its parameters from the given number on; the arguments are in order.
   Entering : Function → (arguments : List Operand) → Focus
   Binding : (number : ℕ) → List Ty → (arguments : List Operand) → (body : Items) → Focus
   -- Declares a local with the given initial content, and continues with the rest of its block.
@@ -310,11 +295,9 @@ pub data Focus : Type 0 where
 pub data State : Type 0 where
   Running : Focus → (stack : List Entry) → Environment → World → State
   Ended : Ending → (output input : List ℕ) → State
-  -- A dead access happened: an access to a closed region, to an object in a closed region, or to a
-  -- freed object.
+  -- A dead access happened: an access to a closed region, to an object in a closed region, or to a freed object.
   Dead : (output input : List ℕ) → State
-  -- No case of the semantics applies, for instance because a cell holds nothing yet or a value has
-  -- the wrong shape.
+  -- No case of the semantics applies, for instance because a cell holds nothing yet or a value has the wrong shape.
   Wrong : (output input : List ℕ) → State
 
 abbrev pub output_of : State → List ℕ
@@ -344,8 +327,7 @@ status_of (Wrong output input) = IsWrong
 
 -- ---- demand and call depth
 
--- Returns true for the regions that need pages of the store: the heap, and the open ones among the regions that a
--- program declares.
+-- Returns true for the regions that need pages of the store: the heap, and the open ones among the regions that a program declares.
 abbrev pub has_pages : Sort → (flag : Bool) → Bool
 has_pages Heap flag = true
 has_pages Globals flag = false
@@ -364,8 +346,7 @@ demand (Ended ending output input) = 0
 demand (Dead output input) = 0
 demand (Wrong output input) = 0
 
--- Returns the number of active calls, including that of `main`; calls of `putchar` and `getchar` are
--- not counted.
+-- Returns the number of active calls, including that of `main`; calls of `putchar` and `getchar` are not counted.
 abbrev pub calls_in : List Entry → ℕ
 calls_in [] = 0
 calls_in (Caller e ∷ stack) = suc (calls_in stack)
@@ -391,8 +372,7 @@ global_object g = variable globals_number (kind_of g.of_type) (Some (constant_va
 abbrev pub first_regions : List Region
 first_regions = new_region Heap ∷ new_region Globals ∷ []
 
--- At the start no size class of unique blocks has pages; the classes are those of 1, 2, 4 and so on up
--- to 1,024 words.
+-- At the start no size class of unique blocks has pages; the classes are those of 1, 2, 4 and so on up to 1,024 words.
 abbrev pub first_classes : List ℕ
 first_classes = 0 ∷ 0 ∷ 0 ∷ 0 ∷ 0 ∷ 0 ∷ 0 ∷ 0 ∷ 0 ∷ 0 ∷ 0 ∷ []
 

@@ -35,8 +35,7 @@ pub use Rattle.cyc_meaning.specs.Parts.{dead, wrong, ends, gives, computed, targ
 
 -- ---- calls
 
--- Calls a function, which must have as many parameters as the call has arguments; the arguments are
--- in order.
+-- Calls a function, which must have as many parameters as the call has arguments; the arguments are in order.
 abbrev pub called : Option Function → (arguments : List Operand) → List Entry → World → State
 called (Some h) arguments stack w =
     if length arguments == length h.parameters then Running (Entering h arguments) stack no_locals w else wrong w
@@ -101,8 +100,7 @@ abbrev pub counts : Option ℕ → List Entry → Environment → World → Stat
 counts (Some index) stack e w = gives kinds.Int (Int index) stack e w
 counts None stack e w = wrong w
 
--- Evaluates an expression. In this semantics a moved local also keeps its value, since the
--- semantics does not track moves.
+-- Evaluates an expression. In this semantics a moved local also keeps its value, since the semantics does not track moves.
 abbrev pub step_evaluating : Expression → List Entry → Environment → World → State
 step_evaluating (Number n) stack e w = gives kinds.Int (Int n) stack e w
 step_evaluating NullPointer stack e w = gives kinds.Nullable Null stack e w
@@ -253,8 +251,7 @@ step_executing (Swap left right) stack e w = swaps left right stack e w
 step_executing (Throw tag value) stack e w = throws tag value stack e w
 step_executing (Try s handler) stack e w = tries s handler stack e w
 
--- Declares a local after evaluating its initial value. A local without an initial value holds
--- nothing yet.
+-- Declares a local after evaluating its initial value. A local without an initial value holds nothing yet.
 abbrev pub declares : (number : ℕ) → Ty → Option Converted → Items → List Entry → Environment → World → State
 declares number t None items stack e w =
     declared (region_at w e.home) Proceeding number (kind_of t) None (Rest items ∷ stack) e w
@@ -270,8 +267,7 @@ continues_with (MoreItems (OpenRegion region number p key) items) stack e w = op
 continues_with (MoreItems (DeclareAlias region number t p source) items) stack e w = aliases number (kind_of t) source items stack e w
 continues_with (MoreItems (DeclareKey region number) items) stack e w = opens_dynamic number items stack e w
 
--- Continues with the newest stack entry. The end of a function's body without a `return` acts like
--- a return without a value.
+-- Continues with the newest stack entry. The end of a function's body without a `return` acts like a return without a value.
 abbrev pub step_proceeding : List Entry → Environment → World → State
 step_proceeding [] e w = wrong w
 step_proceeding (Needs a ∷ stack) e w = wrong w

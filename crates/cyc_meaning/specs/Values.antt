@@ -10,8 +10,7 @@ use Rattle.cyc_types.specs.Types.{Ty}
 use Rattle.cyc_types.specs.Types as types
 
 pub data Value : Type 0 where
-  -- An int or a char is a word of 32 bits, read as a signed number in two's complement. The word of
-  -- a char is below 256.
+  -- An int or a char is a word of 32 bits, read as a signed number in two's complement. The word of a char is below 256.
   Int : (word : ℕ) → Value
   -- The null pointer, of any kind of pointer.
   Null : Value
@@ -37,8 +36,7 @@ kind_of_mark marks.Nullable = kinds.Nullable
 kind_of_mark marks.NonNull = kinds.NonNull
 kind_of_mark marks.Fat = kinds.Fat
 
--- Returns the kind of a cell of the given type. No cell has a struct type: a struct is a block of
--- cells.
+-- Returns the kind of a cell of the given type. No cell has a struct type: a struct is a block of cells.
 abbrev pub kind_of : Ty → Kind
 kind_of types.Int = kinds.Int
 kind_of types.Char = kinds.Char

@@ -1,4 +1,4 @@
-//! Laws of the definitions in `specs/`. Each function of this file does nothing, and its contract states one law, which is proved with the
+//! Laws of the definitions in `specs/`. Each function in this file does nothing, and its contract states one law, which is proved with the
 //! crate. The lemmas that other proofs cite are in `proofs/`.
 
 ghost use Rattle.std.specs.Prelude.{◌≡◌, ◌≢◌, ℕ, suc, ◌+◌, ◌<◌, ◌≤◌, List, ◌∷◌, ◌++◌, length, Some, true, false, drop};
@@ -26,14 +26,14 @@ pub fn run_is_a_function()
     ensures next { (program : Program) (input : List ℕ) (count : ℕ) → run program input (suc count) ≡ step program (run program input count) }
 {}
 
-/// A run that has ended, is dead or is wrong stays as it is, with limits and without.
+/// A run that has ended, is dead or is wrong stays as it is; this holds for runs with limits and for runs without.
 pub fn over_stays()
     ensures run { (program : Program) (count : ℕ) (s : State) → status_of s ≢ GoesOn → steps program count s ≡ s }
     ensures limited { (program : Program) (pages calls count : ℕ) (s : State) → status_of s ≢ GoesOn
         → limited_steps program pages calls count s ≡ s }
 {}
 
-/// Printed bytes stay printed, and input is read from its front, with limits and without.
+/// Printed bytes stay printed, and input is read from its front, in runs with limits and in runs without.
 pub fn output_grows()
     ensures output { (program : Program) (count : ℕ) (s : State) → IsPrefix (output_of s) (output_of (steps program count s)) }
     ensures input { (program : Program) (count : ℕ) (s : State)
@@ -44,7 +44,7 @@ pub fn output_grows()
         → (read : List ℕ) × (input_of s ≡ read ++ input_of (limited_steps program pages calls count s)) }
 {}
 
-/// Only `putchar` prints, one byte; and only `getchar` reads, one byte if any is left.
+/// Only `putchar` prints, and it prints one byte; only `getchar` reads, and it reads one byte if any is left.
 pub fn only_services_are_seen()
     ensures prints { (program : Program) (focus : Focus) (stack : List Entry) (e : Environment) (w : World)
         → output_of (step program (state.Running focus stack e w)) ≡ w.output ++ printed_by focus }
@@ -59,8 +59,8 @@ pub fn one_change_at_most()
         → ChangesIn w (printed_by focus) (read_by focus) (step program (state.Running focus stack e w)) }
 {}
 
-/// The depth is the number of active calls. The depth is one at the start. A call adds one, the end of a call subtracts one, and no other
-/// step changes it.
+/// The depth is the number of active calls. At the start the depth is one. A call adds one, the end of a call subtracts one, and no other
+/// step changes the depth.
 pub fn calls_are_counted()
     ensures starts { (program : Program) (input : List ℕ) → status_of (start program input) ≡ GoesOn → depth (start program input) ≡ 1 }
     ensures steps { (program : Program) (focus : Focus) (stack : List Entry) (e : Environment) (w : World)
@@ -68,9 +68,9 @@ pub fn calls_are_counted()
         → depth (step program (state.Running focus stack e w)) ≡ calls_after focus stack }
 {}
 
-/// The limited run equals the run as long as all states are within the limits. At the first step that exceeds a limit it ends with `Full`,
-/// with output and input as before that step. Every outcome of a limited run other than `Full` is an outcome of the run without limits.
-/// Without limits no run is full.
+/// The limited run equals the unlimited run as long as all states are within the limits. At the first step that exceeds a limit, the
+/// limited run ends with `Full`, with output and input as before that step. Every outcome of a limited run other than `Full` is an outcome
+/// of the run without limits. A run without limits never ends with `Full`.
 pub fn limited_run_agrees()
     ensures within { (program : Program) (pages calls count : ℕ) (input : List ℕ)
         → ((n : ℕ) → n ≤ count → is_within pages calls (run program input n) ≡ true)
@@ -96,9 +96,9 @@ pub fn numbers_stay()
         → StaysIn w (steps program count (state.Running focus stack e w)) }
 {}
 
-/// Regions of blocks and lexical regions nest. The regions still to be closed are open, and each was opened before the next. Variables are
-/// allocated in the region of the innermost block, and no other lexical region is open. A step can be dead only if it accesses a cell, an
-/// object or a region by a value.
+/// Regions of blocks and lexical regions nest. The regions still to be closed are open, and each was opened before the one nested in it.
+/// Variables are allocated in the region of the innermost block, and no other lexical region is open. A step can be dead only if it
+/// accesses a cell, an object or a region by a value.
 pub fn regions_nest()
     ensures nest { (program : Program) (input : List ℕ) (count : ℕ) → Nests (run program input count) }
     ensures dies { (program : Program) (input : List ℕ) (count : ℕ) (focus : Focus) (stack : List Entry) (e : Environment) (w : World)
@@ -106,9 +106,8 @@ pub fn regions_nest()
         → is_access focus stack ≡ true }
 {}
 
-/// In a well-typed program, each live variable is a global or a local of an active call, if only variables were allocated in its region. No
-/// two locals of active calls are one object, and no local is a global. If a local is declared again, its former object is in a block that
-/// was left.
+/// In a well-typed program, each live object in a region of variables is a global or a local of an active call. No two locals of active
+/// calls are one object, and no local is a global. If a local is declared again, its former object is in a block that was left.
 pub fn variables_have_names()
     ensures named { (program : Program) (input : List ℕ) (count : ℕ) (focus : Focus) (stack : List Entry) (e : Environment) (w : World)
         → IsWellTypedProgram program
@@ -126,15 +125,16 @@ pub fn variables_have_names()
         → IsShut w.regions region }
 {}
 
-/// An exception that no `try` encloses pops all entries, one a step, and then ends the run; nothing is printed or read meanwhile.
+/// An exception that no `try` encloses pops all control-stack entries, one per step, and then ends the run; nothing is printed or
+/// read meanwhile.
 pub fn uncaught_ends()
     ensures { (program : Program) (input : List ℕ) (count tag value : ℕ) (stack : List Entry) (e : Environment) (w : World)
         → run program input count ≡ state.Running (Throwing tag value) stack e w → IsUntried stack
         → run program input (count + suc (length stack)) ≡ state.Ended (Uncaught tag (signed value)) w.output w.input }
 {}
 
-/// The effect of each kind of step on the demand. Only opening, closing and allocating change it, by the pages of one region or of the
-/// classes of unique blocks.
+/// The effect of each kind of step on the demand for pages. Only opening, closing and allocating change the demand, by the pages of
+/// one region or of the size classes of unique blocks.
 pub fn demand_is_counted()
     ensures { (w new : World) (printed : List ℕ) (count : ℕ) (change : Changes w printed count new) → DemandChanges change }
 {}

@@ -1,5 +1,4 @@
--- This file is about cells of live objects: their bytes can be read and represent their contents, and a
--- cell can be written.
+-- This file is about cells of live objects: their bytes can be read and represent their contents, and a cell can be written.
 use Rattle.std.proofs.Common.{◌≡◌, ℕ, zero, suc, ◌+◌, ◌*◌, ◌/◌, ◌%◌, ◌<◌, ◌≤◌, max, Bool, true, false, List, [], ◌∷◌, length, set, Option, None, Some, is_some, refl, sym, ap, subst, ◌∙◌, inl, inr, arith, length-set}
 use Rattle.std.specs.Prelude.{◌==◌, ◌≢◌, ◌⊎◌, if◌then◌else◌, ◌&&◌, slice_get}
 use Rattle.std.proofs.lemmas.Bool.{cases_Bool, cases_lt, cond-false}
@@ -103,8 +102,7 @@ module _ (t : Tables) where
       subst (λ (z : Cell). IsContent t z.kind z.content m (a + begins d.kind at)) (same_from_some found) are.0
   cell-among (d ∷ cells) m a at (suc k) c are found = cell-among cells m a (following d.kind at) k c are.1 found
 
-  -- If only the bytes of one cell change, then the cell contains another value, and the other cells
-  -- are unchanged.
+  -- If only the bytes of one cell change, then the cell contains another value, and the other cells are unchanged.
   pub cells-set : (cells : List Cell) (m n : Memory) (a at k : ℕ) (c : Cell) (v : Value) → a % 4 ≡ 0 → AreWords m → AreWords n → AreCells t cells m a at
       → slice_get cells k ≡ Some c → Holds t c.kind v n (a + before_from at k (kinds_of cells))
       → ((x : ℕ) → a + at ≤ x → x < a + bytes_from at (kinds_of cells) → IsBeside c.kind (a + before_from at k (kinds_of cells)) x → byte_at n x ≡ byte_at m x)

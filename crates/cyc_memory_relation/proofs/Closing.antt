@@ -222,7 +222,6 @@ closed-at_once {t} {w} {s} mark c sound related none allowed = record {
           (after.regions.apart h a (b.address + 4 * j) b there inside);
     }
 
--- The store accepts a request to close regions if at most as many stay open as are open lexical
--- regions.
+-- The store accepts a request to close regions if at most as many stay open as are open lexical regions.
 pub refusal-close_to : (s : StoreState) (mark : ℕ) → mark ≤ lexical_count s.regions → refusal s (CloseTo mark) ≡ None
 refusal-close_to s mark bound = cond-true (nat_le mark (lexical_count s.regions)) None (Some BadMark) (le-leb mark (lexical_count s.regions) bound)

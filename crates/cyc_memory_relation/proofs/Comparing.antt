@@ -1,5 +1,4 @@
--- This file is about comparing pointers: two words are equal exactly if the pointers are equal, provided
--- that both objects are live.
+-- This file is about comparing pointers: two words are equal exactly if the pointers are equal, provided that both objects are live.
 use Rattle.std.proofs.Common.{◌≡◌, ℕ, ◌+◌, ◌*◌, ◌<◌, ◌≤◌, Bool, true, false, length, Some, refl, sym, ap, subst, ◌∙◌, inl, inr, arith}
 use Rattle.std.specs.Prelude.{◌==◌, ◌&&◌, ◌⊎◌, if◌then◌else◌, slice_get}
 use Rattle.std.proofs.lemmas.Bool.{cases_eq, cases_Bool, cond-true, cond-false, and_from, eq-eqb, ne_eqb}
@@ -97,8 +96,7 @@ module _ {t : Tables} {w : World} {s : StoreState} (related : Related t w s) whe
   not-both-ranges (low, high) (inl below) = omega (arith, low, below)
   not-both-ranges (low, high) (inr above) = omega (arith, high, above)
 
-  -- If two pointers to live objects or variables have equal addresses, then they point to the same
-  -- cell.
+  -- If two pointers to live objects or variables have equal addresses, then they point to the same cell.
   pub one_live_cell : AreApart t w → {o i k q p : ℕ} {x y : Object} → Lives o x → Lives i y → Points t o k p → Points t i q p → (o ≡ i) × (k ≡ q)
   one_live_cell apart (inl (h, alive)) (inl (g, beside)) first second = one_cell alive beside first second
   one_live_cell apart (inl (h, alive)) (inr variable) first second = absurd (not-both-ranges (pointer-inside alive first) (pointer-outside variable second))

@@ -125,8 +125,7 @@ points-to number row = record {
   at = refl;
 }
 
--- The pointer to the freed object and the pointer to the new object at the same address are the same
--- word.
+-- The pointer to the freed object and the pointer to the new object at the same address are the same word.
 stale-pointer : Is both kinds.NonNull (Thin 0 0) (λ k. STORE_BASE) 0
 stale-pointer = points-to 0 refl
 
@@ -167,8 +166,7 @@ stale-handle = refl
 live-handle : Is two_handles kinds.Handle (Handle 2) (λ k. 3) 0
 live-handle = refl
 
--- Objects of the closed region lie in no region of the store, and objects of the new region lie in
--- the new region.
+-- Objects of the closed region lie in no region of the store, and objects of the new region lie in the new region.
 stale-lies_nowhere : lies_in two_handles.handles (opened_as Lexical region_gone).regions (InRegion 1) ≡ None
 stale-lies_nowhere = refl
 
@@ -187,8 +185,7 @@ after_fat = refl
 bytes_of_three : bytes_of_kinds (kinds.Int ∷ kinds.Fat ∷ kinds.Int ∷ []) ≡ 20
 bytes_of_three = refl
 
--- In an object of chars, an int and a fat pointer, a char is at the next byte, and a word at the next
--- multiple of 4.
+-- In an object of chars, an int and a fat pointer, a char is at the next byte, and a word at the next multiple of 4.
 last_char : before 3 (kinds.Char ∷ kinds.Int ∷ kinds.Char ∷ kinds.Char ∷ []) ≡ 9
 last_char = refl
 
@@ -235,8 +232,7 @@ not-following points =
 
 -- ---- a variable whose address is taken
 
--- The world in which the region of a block is open; below it, an int variable of this region has
--- the address of its slot.
+-- The world in which the region of a block is open; below it, an int variable of this region has the address of its slot.
 abbrev in_block : World
 in_block = opened_as Stack empty
 

@@ -1,5 +1,4 @@
--- This file is about the offsets of an object's cells: they increase, the cells are disjoint, and
--- they are within the object's bytes.
+-- This file is about the offsets of an object's cells: they increase, the cells are disjoint, and they are within the object's bytes.
 use Rattle.std.proofs.Common.{◌≡◌, ℕ, zero, suc, ◌+◌, ◌*◌, ◌%◌, ◌<◌, ◌≤◌, max, List, [], ◌∷◌, ◌++◌, length, Some, None, refl, sym, ap, subst, ◌∙◌, inl, inr, arith, add-zero}
 use Rattle.std.specs.Prelude.{slice_get}
 use Rattle.std.proofs.lemmas.Bool.{cases_lt}
@@ -130,8 +129,7 @@ one-place ks k l first second same =
       ]
     ]
 
--- The next cell begins at the first offset after this cell that is aligned for the next cell's
--- kind.
+-- The next cell begins at the first offset after this cell that is aligned for the next cell's kind.
 pub before-next : (at k : ℕ) (ks : List Kind) (a b : Kind) → slice_get ks k ≡ Some a → slice_get ks (suc k) ≡ Some b
     → before_from at (suc k) ks ≡ begins b (before_from at k ks + bytes_of_kind a)
 before-next at k [] a b first second = absurd (let e : None ≡ Some a = first in cc)

@@ -171,8 +171,7 @@ module _ (t : Tables) where
     thin_null : kind ≡ kinds.Nullable → word ≡ 0 → ThinIs kind word Null
     thin_cell : (object offset : ℕ) → Points t object offset word → ThinIs kind word (Thin object offset)
 
-  -- The word of a thin null pointer is 0, and the word of any other thin pointer is the address of
-  -- its cell.
+  -- The word of a thin null pointer is 0, and the word of any other thin pointer is the address of its cell.
   pub thin-is : (kind : Kind) (v : Value) (m : ℕ → ℕ) (p : ℕ) → is_thin kind ≡ true → Is t kind v m p → ThinIs kind (m p) v
   thin-is kinds.Nullable Null m p thin is = thin_null refl is
   thin-is kinds.Nullable (Thin o k) m p thin is = thin_cell o k is
@@ -201,8 +200,7 @@ module _ (t : Tables) where
   to_fat kind u v n w q (thin_cell o k p) e same many last =
       subst (λ x. Is t kinds.Fat x n q) (same_value e) (subst (IsPartOf t o k 1) (sym same) (part-of-cell p), many ∙ when_other w 0 0 1 (not-null p), last)
 
-  -- Converting a thin pointer to a fat pointer yields a part of one cell (of none for null) and the
-  -- index 0.
+  -- Converting a thin pointer to a fat pointer yields a part of one cell (of none for null) and the index 0.
   pub thin-to_fat : (from : Kind) (v u : Value) (m n : ℕ → ℕ) (p q : ℕ) → is_thin from ≡ true → Is t from v m p → conversion kinds.Fat v ≡ Gives u
       → n q ≡ m p → n (q + 1) ≡ (if m p == 0 then 0 else 1) → n (q + 2) ≡ 0 → Is t kinds.Fat u n q
   thin-to_fat from v u m n p q thin is e same many last = to_fat from u v n (m p) q (thin-is from v m p thin is) e same many last
@@ -229,8 +227,7 @@ module _ (t : Tables) where
   move_fat change v u n w count index q (fat_part o start part) e same many at =
       subst (λ x. Is t kinds.Fat x n q) (same_value e) (subst (IsPartOf t o start count) (sym same) part, many, at)
 
-  -- Arithmetic on a fat pointer changes only the index; the index of a null pointer may become any
-  -- word.
+  -- Arithmetic on a fat pointer changes only the index; the index of a null pointer may become any word.
   pub fat-moved : (change : ℕ → ℕ) (v u : Value) (m n : ℕ → ℕ) (p q : ℕ) → Is t kinds.Fat v m p → moved change v ≡ Gives u
       → n q ≡ m p → n (q + 1) ≡ m (p + 1) → n (q + 2) ≡ change (m (p + 2)) → Is t kinds.Fat u n q
   fat-moved change v u m n p q is e same many at =

@@ -227,8 +227,7 @@ module _ (hs : List (Option ℕ)) where
         ]
   ]
 
-  -- If a region changes and stays an open region of the store or stops being one, then objects of
-  -- other regions lie where they lay.
+  -- If a region changes and stays an open region of the store or stops being one, then objects of other regions lie where they lay.
   pub lies-set : (rs : List Region) (n h : ℕ) (q r : Region) (owner : Owner) → slice_get rs n ≡ Some r → (has_home q ≡ true → has_home r ≡ true)
       → lies_in hs (set rs n q) owner ≡ Some h → lies_in hs rs owner ≡ Some h
   lies-set rs n h q r (InRegion i) there only lies =

@@ -68,7 +68,6 @@ ends-newest number stack e w (found, (less, below), home, are) =
 
 -- ---- the number of open lexical regions
 
--- Each region of a store has at least one page, so a store has at most as many lexical regions as
--- pages.
+-- Each region of a store has at least one page, so a store has at most as many lexical regions as pages.
 pub lexicals-within : (s : StoreState) → IsSound s → lexical_count s.regions ≤ s.pages
 lexicals-within s sound = omega (arith, lexical-few s.regions, regions-few s.regions s.classes, sound.demand)

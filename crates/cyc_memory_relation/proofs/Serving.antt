@@ -134,8 +134,7 @@ module _ {t u : Tables} {s r : StoreState} (grows : Grows t u) (stay : WordsStay
           (stay.words h st.address (record { address = st.address; size = room h (block_size cells) }) st.found there ((x - st.address) / 4)
           (omega (arith, least, less, enough))))
 
--- If each object that is live afterwards was live before, and its block is still found, then the objects keep their
--- addresses.
+-- If each object that is live afterwards was live before, and its block is still found, then the objects keep their addresses.
 module _ {t u : Tables} {w v : World} {s r : StoreState} (related : Related t w s) (grows : Grows t u) (stay : WordsStay s r)
     (before : (o h : ℕ) (x : Object) → Alive u v o h x → Alive t w o h x)
     (stays : (o h a : ℕ) (ks : List Kind) (x : Object) (b : Block) → Alive u v o h x → slice_get t.rows o ≡ Some (Placed a ks)

@@ -1,5 +1,4 @@
--- This file is about variables and their regions: declarations, assignments, opening and closing leave
--- the store unchanged.
+-- This file is about variables and their regions: declarations, assignments, opening and closing leave the store unchanged.
 use Rattle.std.proofs.Common.{◌≡◌, ℕ, ◌+◌, ◌<◌, Bool, true, false, List, [], ◌∷◌, ◌++◌, length, set, Option, None, Some, refl, sym, ap, subst, ◌∙◌, inl, inr, arith, length-set}
 use Rattle.std.specs.Prelude.{slice_get}
 use Rattle.std.proofs.lemmas.List.{length_push}

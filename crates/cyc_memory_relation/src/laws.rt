@@ -54,8 +54,7 @@ pub fn pointers_convert()
         → Points t object (start + index) (word + index * bytes_of_kind part.kind) }
 {}
 
-/// An int is converted to a char by its low byte; a char converted to a char stays as it is; the word of a char is
-/// its int value.
+/// An int is converted to a char by its low byte; a char converted to a char stays as it is; the word of a char is its int value.
 pub fn chars_convert()
     ensures low { (t : Tables) (v u : Value) (words others : ℕ → ℕ) (place other : ℕ) → Is t kinds.Int v words place → conversion kinds.Char v ≡ Gives u
         → others other ≡ words place % 256 → Is t kinds.Char u others other }
@@ -88,8 +87,7 @@ pub fn pointers_compute()
         → null_test negated v ≡ Gives (Int (truth (if words place == 0 then not negated else negated))) }
 {}
 
-/// Thin pointers that the source compares are equal exactly if their words are equal, provided that no two variables share a
-/// word.
+/// Thin pointers that the source compares are equal exactly if their words are equal, provided that no two variables share a word.
 pub fn pointers_compare()
     ensures { (t : Tables) (w : World) (s : StoreState) (from to : Kind) (u v : Value) (words others : ℕ → ℕ) (place other : ℕ) (equal : Bool)
         → Related t w s → AreApart t w → is_thin from ≡ true → is_thin to ≡ true → Is t from u words place → Is t to v others other
@@ -157,8 +155,7 @@ pub fn refusals_go_by_demand()
         → refusal s OpenDynamic ≡ full_at (nat_lt s.pages (pages_of (opened_as Dynamic w))) }
 {}
 
-/// Declaring and assigning variables, and opening and closing their regions, does not change the
-/// store.
+/// Declaring and assigning variables, and opening and closing their regions, does not change the store.
 pub fn variables_leave_the_store()
     ensures declared { (t : Tables) (w : World) (s : StoreState) (number : ℕ) (r : Region) (kind : Kind) (content : Option Value) (row : Row) → Related t w s
         → slice_get w.regions number ≡ Some r → slice_get t.handles number ≡ Some None

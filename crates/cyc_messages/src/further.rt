@@ -1,5 +1,4 @@
-//! Finds the faults of names, types, regions and flow that remain in a text once its first fault is
-//! repaired.
+//! Finds the faults of names, types, regions and flow that remain in a text once its first fault is repaired.
 //!
 //! The body of a function with a fault is replaced by one that throws an exception, which any function may have, and the remaining program
 //! is checked. Each reported fault is a fault of the program, and no fault in one body follows from a fault in another. A body that passed
@@ -7,8 +6,7 @@
 //! bodies share the signatures, so after a fault in a signature no further fault is reported, except that a missing or invalid `main` is
 //! replaced.
 //!
-//! If a text has no tokens or no syntax tree, `cyc_rendering` reports the faults after the first
-//! one.
+//! If a text has no tokens or no syntax tree, `cyc_rendering` reports the faults after the first one.
 
 use crate::reported::explained;
 use cyc_check::check;
@@ -236,8 +234,7 @@ impl Mended {
     }
 }
 
-/// Reports the faults of names, types and regions in a syntax tree, one body after another, and then its flow
-/// faults.
+/// Reports the faults of names, types and regions in a syntax tree, one body after another, and then its flow faults.
 fn tell_types(
     alloc: Global,
     text: &[u8],

@@ -1,5 +1,4 @@
-//! The messages on the faults of a rejected text, and the warnings about a text, as lines or as
-//! JSON objects.
+//! The messages on the faults of a rejected text, and the warnings about a text, as lines or as JSON objects.
 #![tactic(auto)]
 
 pub use cyc_rendering::{Message, Refusal, Warnings, line_of_refusal, line_of_warning};

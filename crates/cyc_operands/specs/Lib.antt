@@ -1,3 +1,3 @@
--- Contracts between this crate's functions, and statements of its proofs. No public contract of the product depends on these internal
--- definitions.
+-- Contracts between the functions of the crate `cyc_operands`, and statements of its proofs. No public contract of the product
+-- depends on these internal definitions.
 pub mod inside

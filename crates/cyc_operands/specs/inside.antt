@@ -1,2 +1,2 @@
--- operands and new objects, as the rules see them
+-- Operands and new objects of the code, in the form that the typing rules use.
 pub mod Operands

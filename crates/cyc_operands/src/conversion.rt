@@ -1,4 +1,4 @@
-//! Conversion of one type to another, with its demands on regions that outlive others.
+//! Conversion of one type to another, which may require that one region outlives another.
 ghost use Rattle.std.specs.Prelude.{◌≡◌, IfOk};
 ghost use Rattle.cyc_syntax.specs.inside.TreeView.{place_of_span};
 ghost use Rattle.cyc_types.specs.declared.region.Region.TheVariants.{Heap};
@@ -19,7 +19,7 @@ use cyc_types::{Region, Ty, typed};
 use cyc_words::{Code, Span};
 use std::alloc::{AllocError, Global};
 
-/// Returns true if the type is that of ints or of chars, which are converted to each other.
+/// Returns true if the type is that of ints or of chars, which can be converted to each other.
 pub fn is_number(wanted: &Ty) -> bool
     ensures int { result ≡ is_convertible types.Int (view_ty wanted.now) }
     ensures char { result ≡ is_convertible types.Char (view_ty wanted.now) }
@@ -36,7 +36,7 @@ fn is_heap_handle(wanted: &Ty) -> bool
     }
 }
 
-/// Returns true if a value may be converted to a type, apart from null and from the regions of outermost marks.
+/// Returns true if a value may be converted to a type, disregarding null and the regions of outermost pointers.
 fn is_alike(value: Given<'_>, wanted: &Ty) -> bool
     ensures { result ≡ is_alike (view_given value.entry) (view_ty wanted.now) }
 {
@@ -58,7 +58,7 @@ fn is_null_allowed(value: Given<'_>, wanted: &Ty) -> bool
     }
 }
 
-/// Returns true if the region of a pointer outlives the wanted one.
+/// Returns true if the region of a pointer outlives the region of the wanted type.
 fn is_type_outlived(scope: &Scope<'_>, of_type: &Ty, wanted: &Ty) -> bool
     ensures { result ≡ is_outlived scope.now.regions (Value (view_ty of_type.now)) (view_ty wanted.now) }
 {
@@ -83,7 +83,7 @@ fn is_outlived(scope: &Scope<'_>, value: Given<'_>, wanted: &Ty) -> bool
     }
 }
 
-/// Settles that the value at this place can be converted to a type.
+/// Checks that the value of the expression at a source position can be converted to a type.
 pub fn convert(so_far: &mut Settled, scope: &Scope<'_>, value: Given<'_>, wanted: &Ty, span: Span)
     ensures { so_far.new.known ≡ settled so_far.old.known (conversion scope.now.regions (view_given value.entry) (view_ty wanted.now) (place_of_span span)) }
 {
@@ -92,7 +92,7 @@ pub fn convert(so_far: &mut Settled, scope: &Scope<'_>, value: Given<'_>, wanted
     so_far.demand(Code::NotOutlived, span, is_outlived(scope, value, wanted));
 }
 
-/// Returns a value with its conversion to a type.
+/// Returns a value together with its conversion to a type.
 pub fn converted(value: Box<typed::Expr>, wanted: &Ty) -> Converted
     ensures { view_converted result ≡ converted (view_boxed value) (view_ty wanted.now) }
 {
@@ -104,7 +104,7 @@ pub fn converted(value: Box<typed::Expr>, wanted: &Ty) -> Converted
     }
 }
 
-/// Returns the expression as an int; a char is used by its value.
+/// Returns an expression as an int; a char is converted to the int with its value.
 #[inline(never)]
 pub fn as_int(alloc: Global, value: Box<typed::Expr>) -> Result<Box<typed::Expr>, AllocError>
     ensures { IfOk result (λ b. view_boxed b ≡ rules.as_int (view_boxed value)) }

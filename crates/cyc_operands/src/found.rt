@@ -1,4 +1,4 @@
-//! The places in memory that expressions denote.
+//! The memory locations that expressions denote: variables and cells.
 ghost use Rattle.std.specs.Prelude.{◌≡◌};
 ghost use Rattle.cyc_types.specs.TypeView.{view_ty};
 ghost use Rattle.cyc_types.specs.TypedTreeView.{view_side};
@@ -8,14 +8,14 @@ use crate::given::type_of_place;
 use cyc_types::typed::Side;
 use cyc_types::{Region, Ty};
 
-/// A place, and the region that contains it.
+/// A memory location that an expression denotes, and the region that contains it.
 #[derive(Drop)]
 pub struct Found {
     pub side: Side,
     pub region: Region,
 }
 
-/// Returns the type of the content of a place.
+/// Returns the type of the content of a memory location, such as a side of a swap.
 pub fn type_of_side(side: &Side) -> &Ty
     ensures { view_ty result.now ≡ type_of_side (view_side side.now) }
 {

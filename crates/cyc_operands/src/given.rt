@@ -1,4 +1,4 @@
-//! The part of a typed operand that the rules use: the type of its value.
+//! The part of a typed operand that the typing rules use: the type of its value.
 ghost use Rattle.std.specs.Prelude.{◌≡◌, IfOk};
 ghost use Rattle.cyc_types.specs.Types.{Value};
 ghost use Rattle.cyc_types.specs.TypeView.{view_ty, view_value_type};
@@ -17,22 +17,22 @@ use cyc_types::typed::{Kind, UnaryOperator, ValueType};
 use cyc_types::{Region, Ty, typed};
 use std::alloc::AllocError;
 
-/// The type of an expression.
+/// The type of the value of an expression, as the typing rules use it.
 #[derive(Clone, Copy)]
 pub enum Given<'a> {
-    /// There is no value.
+    /// The expression has no value.
     Void,
-    /// The null pointer, which has every nullable pointer type.
+    /// The value is the null pointer, which has every nullable pointer type.
     Null,
     Int,
     Char,
-    /// The handle of the heap.
+    /// The value is the handle of the heap.
     HeapHandle,
-    /// A value with the type of its node.
+    /// The expression has a value, whose type its tree node states.
     Value(&'a Ty),
 }
 
-/// Returns the type of the content of a place that a pointer leads to.
+/// Returns the type of the content of a memory location that a pointer points to.
 pub fn type_of_place(place: &typed::Dereference) -> &Ty
     ensures { view_ty result.now ≡ type_of_place (view_dereference place.now) }
 {
@@ -44,7 +44,7 @@ pub fn type_of_place(place: &typed::Dereference) -> &Ty
 }
 
 impl<'a> Given<'a> {
-    /// Returns the type of a typed expression, by its form.
+    /// Returns the type of a typed expression's value, determined by the form of the expression.
     pub fn by(value: &'a typed::Expr) -> Given<'a>
         ensures { view_given result ≡ type_of (view_expression value.now) }
     {
@@ -93,14 +93,14 @@ impl<'a> Given<'a> {
         }
     }
 
-    /// Returns true if there is no value, as for the call of a function without a result.
+    /// Returns true if the expression has no value, like a call of a function without a result.
     pub fn is_void(self) -> bool
         ensures { result ≡ is_void (view_given self.entry) }
     {
         matches!(self, Given::Void)
     }
 
-    /// Returns true if there is a value of some type.
+    /// Returns true if the expression has a value of some type.
     pub fn is_value(self) -> bool
         ensures { result ≡ is_value is_any (view_given self.entry) }
     {
@@ -143,7 +143,7 @@ impl<'a> Given<'a> {
         }
     }
 
-    /// Returns true if the value has a pointer type, which `NULL` alone does not have.
+    /// Returns true if the value has a pointer type; the expression `NULL` by itself does not have one.
     pub fn is_pointer(self) -> bool
         ensures { result ≡ is_value is_pointer (view_given self.entry) }
     {
@@ -153,7 +153,7 @@ impl<'a> Given<'a> {
         }
     }
 
-    /// Returns true if the value is a thin pointer to a struct.
+    /// Returns true if the value is a thin pointer to a struct, so that `->` may access its fields.
     pub fn has_members(self) -> bool
         ensures { result ≡ is_value has_members (view_given self.entry) }
     {
@@ -226,7 +226,7 @@ impl<'a> Given<'a> {
         }
     }
 
-    /// Returns the type of the value; without a value, the type of ints.
+    /// Returns the type of the value; if the expression has no value, returns the type of ints.
     pub fn of_type(self) -> Result<Ty, AllocError>
         ensures { IfOk result (λ t. view_ty t ≡ value_of (view_given self.entry)) }
     {
@@ -252,7 +252,7 @@ impl<'a> Given<'a> {
         }
     }
 
-    /// Returns the kind of the pointer, if the value is one.
+    /// Returns the kind of a pointer value, which states for example if the pointer is fat.
     pub fn pointer_kind(self) -> Kind
         ensures { result ≡ kind_of (value_of (view_given self.entry)) }
     {
@@ -264,7 +264,7 @@ impl<'a> Given<'a> {
         }
     }
 
-    /// Returns the kind of a cell with the value.
+    /// Returns the kind of a memory cell that can hold the value.
     pub fn kind(self) -> Kind
         ensures { result ≡ kind_of_value (view_given self.entry) }
     {

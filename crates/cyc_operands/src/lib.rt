@@ -1,4 +1,4 @@
-//! Operands: the type of a typed expression, the demands on it, its conversion, and boxes for its node.
+//! Operands: the type of a typed expression, the typing rules' requirements on it, its conversion, and boxes for its tree node.
 #![tactic(auto)]
 
 pub use conversion::{as_int, convert, converted, is_number};

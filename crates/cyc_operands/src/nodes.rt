@@ -1,4 +1,4 @@
-//! Nodes in boxes. The walk passes boxes, so its frames are small for nodes of any size.
+//! Puts tree nodes into boxes. The checker passes boxes between functions, so its stack frames are small for nodes of any size.
 ghost use Rattle.std.specs.Prelude.{Ok};
 ghost use Rattle.cyc_types.specs.TypedTrees as nodes;
 ghost use Rattle.cyc_types.specs.TypedTreeView.{view_expression};
@@ -9,7 +9,7 @@ use cyc_scope::Stop;
 use cyc_types::typed;
 use std::alloc::Global;
 
-/// Returns a typed expression in a box of its own.
+/// Returns a typed expression in a box.
 #[inline(always)]
 pub fn boxed(alloc: Global, expression: typed::Expr) -> Result<Box<typed::Expr>, Stop>
     ensures { Gives view_boxed result (Ok (view_expression expression)) }
@@ -17,7 +17,7 @@ pub fn boxed(alloc: Global, expression: typed::Expr) -> Result<Box<typed::Expr>,
     Ok(Box::new(alloc, expression)?)
 }
 
-/// Returns the node of a constant.
+/// Returns the tree node of an integer constant, in a box.
 #[inline(never)]
 pub fn number(alloc: Global, value: u32) -> Result<Box<typed::Expr>, Stop>
     ensures { Gives view_boxed result (Ok (nodes.Number value)) }
@@ -25,7 +25,7 @@ pub fn number(alloc: Global, value: u32) -> Result<Box<typed::Expr>, Stop>
     boxed(alloc, typed::Expr::Number { value })
 }
 
-/// Returns the node of `NULL`.
+/// Returns the tree node of `NULL`, in a box.
 #[inline(never)]
 pub fn null_pointer(alloc: Global) -> Result<Box<typed::Expr>, Stop>
     ensures { Gives view_boxed result (Ok nodes.NullPointer) }
@@ -33,7 +33,7 @@ pub fn null_pointer(alloc: Global) -> Result<Box<typed::Expr>, Stop>
     boxed(alloc, typed::Expr::NullPointer)
 }
 
-/// Returns the node of `heap_region`.
+/// Returns the tree node of `heap_region`, in a box.
 #[inline(never)]
 pub fn heap_region(alloc: Global) -> Result<Box<typed::Expr>, Stop>
     ensures { Gives view_boxed result (Ok nodes.HeapRegion) }

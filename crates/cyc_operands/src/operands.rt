@@ -1,4 +1,4 @@
-//! The places of operands in the text, and the demands on operands.
+//! The source positions of operands, and the typing rules' requirements on operands.
 ghost use Rattle.std.specs.Prelude.{◌≡◌, [], ◌∷◌, None, Option};
 ghost use Rattle.cyc_syntax.specs.inside.TreeView.{place_of_span, view_expression};
 ghost use Rattle.cyc_syntax.specs.Trees.{place_of};
@@ -14,7 +14,7 @@ use cyc_syntax::{BinaryOperator, Expr};
 use cyc_types::typed;
 use cyc_words::{Code, Span};
 
-/// Returns the place of the first token of an expression.
+/// Returns the source position of the first token of an expression.
 pub fn span_of(expression: &Expr) -> Span
     ensures { place_of_span result ≡ place_of (view_expression expression.now) }
 {
@@ -40,7 +40,7 @@ pub fn span_of(expression: &Expr) -> Span
     }
 }
 
-/// Returns the place of the first token of an expression, ignoring brackets.
+/// Returns the source position of the first token of an expression, ignoring parentheses.
 pub fn span_inside(expression: &Expr) -> Span
     ensures { place_of_span result ≡ place_inside (view_expression expression.now) }
 {
@@ -50,7 +50,7 @@ pub fn span_inside(expression: &Expr) -> Span
     }
 }
 
-/// Returns the local that an operand peeks at.
+/// Returns the local variable that an operand only looks at without moving its value, if any.
 pub fn peeked_local(value: &typed::Expr) -> Option<usize>
     ensures { result ≡ peeked_local (typed_view.view_expression value.now) }
 {
@@ -60,7 +60,7 @@ pub fn peeked_local(value: &typed::Expr) -> Option<usize>
     }
 }
 
-/// Returns true if an operator only peeks at its operands.
+/// Returns true if an operator only looks at its operands, so that it does not move their values.
 pub fn is_looking(operator: BinaryOperator) -> bool
     ensures { result ≡ is_looking operator }
 {
@@ -91,7 +91,7 @@ pub fn test_wanted(value: Given<'_>, span: Span) -> Result<(), Stop>
     settled.end()
 }
 
-/// Checks that there is a value.
+/// Checks that an expression has a value.
 pub fn value_wanted(value: Given<'_>, span: Span) -> Result<(), Stop>
     ensures { Ends result (settled None (value_wanted (view_given value.entry) (place_of_span span) ∷ [])) }
 {

@@ -1,4 +1,4 @@
-//! Tests on types for the conditions of rules, and the parts of types that satisfy them.
+//! Tests of types that the typing rules use as conditions, and functions that return parts of types.
 ghost use Rattle.std.specs.Prelude.{◌≡◌, IfOk};
 ghost use Rattle.cyc_types.specs.Types.{region_eq, Value};
 ghost use Rattle.cyc_types.specs.TypeView.{view_ty};
@@ -11,7 +11,7 @@ use cyc_types::typed::Kind;
 use cyc_types::{Region, Ty};
 use std::alloc::AllocError;
 
-/// Returns true if the two regions are equal.
+/// Returns true if two regions are equal.
 pub fn same_region(a: Region, b: Region) -> bool
     ensures { result ≡ region_eq a b }
 {
@@ -29,7 +29,7 @@ pub fn same_type(a: &Ty, b: &Ty) -> bool
     a.equals(b)
 }
 
-/// Returns true if the mark is that of thin pointers.
+/// Returns true if a pointer kind is that of thin pointers.
 pub fn is_thin_mark(kind: PointerKind) -> bool
     ensures { result ≡ is_thin_mark kind }
 {
@@ -52,7 +52,7 @@ pub(crate) fn is_char_type(of_type: &Ty) -> bool
     matches!(of_type, Ty::Char)
 }
 
-/// Returns true if the type is a pointer type with any mark.
+/// Returns true if the type is a pointer type, with any kind of pointer.
 pub fn is_pointer(of_type: &Ty) -> bool
     ensures { result ≡ is_pointer (view_ty of_type.now) }
 {
@@ -96,7 +96,7 @@ pub fn is_struct(of_type: &Ty) -> bool
     matches!(of_type, Ty::Struct { .. })
 }
 
-/// Returns true if a variable of this type is empty after its value is used.
+/// Returns true if a variable of the given type is empty after its value is used, because the value is moved.
 pub fn is_moved(of_type: &Ty) -> bool
     ensures { result ≡ is_moved (view_ty of_type.now) }
 {
@@ -136,7 +136,7 @@ pub(crate) fn is_movable(of_type: &Ty) -> bool
     is_fat(of_type) && !is_unique(of_type)
 }
 
-/// Returns true if a value of the first type may be converted to the second, apart from the regions of outermost marks.
+/// Returns true if a value of the first type may be converted to the second, disregarding the regions of outermost pointers.
 pub(crate) fn is_convertible(of_type: &Ty, wanted: &Ty) -> bool
     ensures { result ≡ is_convertible (view_ty of_type.now) (view_ty wanted.now) }
 {
@@ -215,7 +215,7 @@ fn kind_of_mark(kind: PointerKind) -> Kind
     }
 }
 
-/// Returns the kind of a cell of this type. No cell has a struct type.
+/// Returns the kind of a memory cell of the given type. No cell has a struct type.
 pub fn kind_of(of_type: &Ty) -> Kind
     ensures { result ≡ kind_of (view_ty of_type.now) }
 {

@@ -1,5 +1,5 @@
--- A pool and its spots represent a table. The representation is kept when a page is taken and when all pages are renumbered; the lemmas
--- concern functions of the page.
+-- A pool of pages, together with the data kept beside it, represents a page table. The representation is kept when a page is taken and
+-- when all pages are renumbered; the lemmas concern functions of the page.
 use Rattle.std.proofs.Common.{◌≡◌, ℕ, ◌<◌, true, false, List, [], ◌∷◌, length, refl, sym, ap, subst, ◌∙◌, inl, inr}
 use Rattle.std.specs.Prelude.{◌==◌, if◌then◌else◌}
 use Rattle.std.specs.List.{AllByRecursion}
@@ -19,7 +19,7 @@ use Rattle.cyc_pagestore.specs.inside.Live.{reach_by}
 use Rattle.cyc_pagestore.specs.inside.Table.{IsRoot, Backing, reach_of, IsRegion, Backs}
 use Rattle.cyc_pagestore.proofs.Rows.{removed-out, removed-in, removed-apart, fronted-apart, relinked-other, relinked-row, relinked-chain}
 
--- A function with the value at one argument replaced.
+-- Returns a function whose value at one argument is replaced.
 abbrev pub with_at : {A : Type 0} → (ℕ → A) → (at : ℕ) → A → ℕ → A
 with_at f at v = λ (other : ℕ). if other == at then v else f other
 
@@ -42,7 +42,7 @@ rest-no_root r is (inr (inr dynamic)) = clash (sym is ∙ dynamic) where
 
 -- ---- an unchanged region
 
--- One row has the same links as another.
+-- Says that one row of a page table has the same links as another.
 pub record LinksAs (new old : Row) : Type 0 where
   pub next : new.next ≡ old.next
   pub newest : new.newest ≡ old.newest

@@ -1,4 +1,4 @@
--- A new table has the heap in its first page, and a new store is built on it.
+-- A new page table has the heap in its first page, and a new store is built on the table.
 use Rattle.std.proofs.Common.{◌≡◌, ℕ, ◌+◌, ◌-◌, ◌*◌, ◌/◌, ◌%◌, ◌<◌, ◌≤◌, Bool, true, false, List, [], ◌∷◌, ◌++◌, length, set, replicate, Some, None, refl, sym, ap, subst, ◌∙◌, inl, arith}
 use Rattle.std.specs.Prelude.{◌==◌, ◌&&◌, nat_le, if◌then◌else◌, slice_index, slice_index_or}
 use Rattle.std.specs.Global.{Vec}
@@ -46,7 +46,7 @@ module _ (n : ℕ) (least : 1 ≤ n) (few : n ≤ 65536) where
   abbrev l : Links
   l = after no_links (Made n)
 
-  -- The pool after its first page is taken.
+  -- The state of the pool after its first page is taken.
   abbrev pub started : PoolState
   started = record p { free = set p.free 0 false; chains = set p.chains 0 (0 ∷ []) }
 
@@ -78,7 +78,7 @@ module _ (n : ℕ) (least : 1 ≤ n) (few : n ≤ 65536) where
 
 -- ---- the store
 
--- A table in memory gives the same results as a new table over a pool.
+-- A page table in memory gives the same results as a new table over a pool.
 module _ (lexicals : Vec ℕ) (n : ℕ) (few : n ≤ 65536) where
   abbrev blank : TableState
   blank = blank_table n
@@ -156,7 +156,7 @@ module _ (lexicals : Vec ℕ) (n : ℕ) (few : n ≤ 65536) where
     };
   }
 
-  -- All words of a new pool's pages read as 0.
+  -- In a new pool, all words of the pages read as 0.
   pub blank-words : AreWords (memory_of blank.words)
   blank-words address = found ((address % 4 == 0) && nat_le STORE_BASE address) ((address - STORE_BASE) / 4)
     where

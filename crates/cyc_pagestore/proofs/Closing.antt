@@ -1,4 +1,4 @@
--- A pool and its spots still represent a table after all pages of a region are freed.
+-- A pool and the data kept beside it still represent a page table after all pages of a region are freed.
 use Rattle.std.proofs.Common.{◌≡◌, ℕ, zero, suc, ◌+◌, ◌<◌, Bool, true, false, List, [], ◌∷◌, length, length-set, refl, sym, ap, subst, ◌∙◌, inl, inr, arith, get_or-set_same, get_or-set_other}
 use Rattle.std.specs.Prelude.{◌⊎◌, set}
 use Rattle.std.specs.List.{AllByRecursion}
@@ -20,7 +20,7 @@ use Rattle.cyc_pagestore.proofs.Growing.{root-member}
 
 -- ---- a chain of rows is freed
 
--- The elements are those that the links lead to.
+-- If a list is a chain of the links from a first page on, then following the links yields the list.
 pub chain-is : (rows : List Row) (first count : ℕ) (xs : List ℕ) → IsChain (λ (p : ℕ). (row_at rows p).next) first xs → count ≡ length xs → chain_from rows first count ≡ xs
 chain-is rows first zero [] linked is = refl
 chain-is rows first (suc count) [] linked is = absurd (let e : suc count ≡ 0 = is in cc)
@@ -141,7 +141,7 @@ module _ (b : Backing) (next : ℕ) (rows : List Row) (first : ℕ) (order : Lis
       let second : (p ≡ root → ⊥) = λ e. other (ap b.owner e ∙ own.owner) in
       reach-same b.serial b.owner b.fill closed.serial closed.owner closed.fill p refl (at-other b.serial root s p second) (at-other b.serial root s (b.owner p) other) (at-other b.fill root 0 p second)
 
-  -- No word of the region outside the chain is live.
+  -- A page that a region owned, but that is outside the region's chain, has no live words.
   outside-none : (p : ℕ) → p < b.pages → (IsOneOf region.chain p → ⊥) → b.owner p ≡ root → reach_of b p ≡ 0
   outside-none p below never owner = elim (is.held p below) [
     | inl none ↦ none

@@ -1,4 +1,4 @@
--- The pages in use are counted correctly by each call.
+-- Each call of the store counts the pages in use correctly.
 use Rattle.std.proofs.Common.{◌≡◌, ℕ, suc, ◌+◌, ◌-◌, ◌<◌, ◌≤◌, List, [], ◌∷◌, ◌++◌, length, length-append, length-set, set, replicate, None, Some, refl, sym, ap, subst, ◌∙◌, inl, inr, arith}
 use Rattle.std.specs.Prelude.{slice_index}
 use Rattle.std.proofs.lemmas.Bool.{cases_eq}
@@ -26,7 +26,7 @@ use Rattle.cyc_pagestore.specs.inside.Usage.{Counts, IsUsage}
 use Rattle.cyc_pagestore.proofs.Taking.{stored-few}
 use Rattle.cyc_pagestore.proofs.Storing.{root-inside}
 
--- No earlier region has the same handle as the last one.
+-- If the handles of regions are distinct, then no earlier region has the handle of the last one.
 fresh-last : (rs : List Home) (r : Home) → AreDistinct handle_of (rs ++ r ∷ []) → lookup handle_of rs r.handle ≡ None
 fresh-last [] r distinct = refl
 fresh-last (q ∷ rs) r distinct =
@@ -36,7 +36,7 @@ fresh-last (q ∷ rs) r distinct =
       | inr other ↦ lookup-there handle_of q rs r.handle other ∙ rest
     ]
 
--- The counts of a new store are right.
+-- In a new store, the counts of pages in use are right.
 pub usage-new : (n m : ℕ) → m ≡ n → 1 ≤ n → (c : Blocks) → c ≡ no_blocks → IsUsage (record { regions = set (replicate n 0) 0 1; pages = 1 }) m c
 usage-new n m is some c noted = subst (λ (b : Blocks). IsUsage (record { regions = set (replicate n 0) 0 1; pages = 1 }) m b) (sym noted) (record {
   all = length-set (replicate n 0) 0 1 ∙ (length-replicate n 0 ∙ sym is);
@@ -49,7 +49,7 @@ usage-new n m is some c noted = subst (λ (b : Blocks). IsUsage (record { region
   ];
 })
 
--- The tables of a store, with its counts.
+-- The tables of a store, together with its counts of pages in use.
 module _ (x : TableState) (lexicals : List ℕ) (classes : List ClassSlots) (b : Blocks) (s : IsStored x lexicals classes b) (counts : Counts) (u : IsUsage counts x.most b) where
   abbrev held : StoreState
   held = store_of s.table.most s.table.words.items b
@@ -57,7 +57,7 @@ module _ (x : TableState) (lexicals : List ℕ) (classes : List ClassSlots) (b :
   pub taken-there : (m : TableState) (page : ℕ) → Takes x m page → page < length counts.regions
   taken-there m page takes = subst (λ n. page < n) (s.whole ∙ sym u.all) (one-all (λ q. q < length x.rows) takes.order page takes.within takes.inside)
 
-  -- The counts stay right if the regions and the pages of the classes are unchanged.
+  -- The counts of pages in use stay right if the regions and the pages of the size classes are unchanged.
   pub usage-same : (most : ℕ) → most ≡ x.most → (c : Blocks) → c.regions ≡ b.regions → c.classes ≡ b.classes → IsUsage counts most c
   usage-same most is c regions cells = record {
     all = u.all ∙ sym is;
@@ -136,7 +136,7 @@ module _ (x : TableState) (lexicals : List ℕ) (classes : List ClassSlots) (b :
     chain : HasChain s.kept.layout.pages r
     chain = s.kept.laid.paged.chains h r named
 
-    -- The pages of the region are among those in use.
+    -- The pages of a region that is closed were counted among the pages in use.
     closed-demand : counts.pages ≡ demand (plain_store (record b { regions = without handle_of b.regions h })) + slice_index counts.regions root
     closed-demand =
         let paged = s.kept.laid.paged in
@@ -172,7 +172,7 @@ module _ (x : TableState) (lexicals : List ℕ) (classes : List ClassSlots) (b :
         ∙ (ap (λ p. (row_at s.table.rows.items p).filled) (newest-is s.table lexicals classes b s.kept root r named) ∙ filled-is s.table lexicals classes b s.kept root r named)
 
     module _ (made : Block) (c : Blocks) (noted : c ≡ blocks_of (made_in (plain_store b) h made)) where
-      -- The region of the handle after the allocation is the one with the new block.
+      -- After an allocation, the region of the handle is the old region with the new block.
       found-here : (q : Home) → lookup handle_of c.regions h ≡ Some q → q ≡ with_block made r
       found-here q found = same_from_some (sym found ∙ (ap (λ (d : Blocks). lookup handle_of d.regions h) noted ∙ lookup-changed_same handle_of (with_block made) (λ z. refl) b.regions h r named))
 

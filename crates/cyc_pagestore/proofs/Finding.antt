@@ -28,11 +28,11 @@ use Rattle.cyc_pagestore.proofs.Taking.{same-size}
 use Rattle.cyc_pagestore.proofs.Storing.{rows-all, row-read, stored-held, live-marked}
 use Rattle.cyc_pagestore.proofs.Cutting.{words-all}
 
--- A valid handle has a region.
+-- If a handle is valid in one of two equal stores, then the other store has a region for the handle.
 pub region-of : (v w : Stored) (h : ℕ) → v ≡ w → is_some (lookup handle_of w.blocks.regions h) ≡ true → (r : Home) × (lookup handle_of v.blocks.regions h ≡ Some r)
 region-of v w h same some = some_there (lookup handle_of v.blocks.regions h) (subst (λ (u : Stored). is_some (lookup handle_of u.blocks.regions h) ≡ true) (sym same) some)
 
--- A page with slots is not a further page of a region.
+-- A page with slots is not a later page of a region.
 rest-apart : (sort : Option Sort) (class : ℕ) → role_of sort (Some UNIQUE) class ≡ role.Rest → ⊥
 rest-apart None class e = cc
 rest-apart (Some Heap) class e = cc
@@ -50,7 +50,7 @@ module _ (x : TableState) (lexicals : List ℕ) (classes : List ClassSlots) (b :
   past-rows : (page : ℕ) → x.most ≤ page → length t.rows.items ≤ page
   past-rows page past = subst (λ n. n ≤ page) (sym (rows-all x lexicals classes b s)) past
 
-  -- The blocks of the store are within pages, in ascending order.
+  -- The blocks of the store lie within pages, in ascending order.
   pub stored-ordered : IsOrdered (store_of x.most x.words b)
   stored-ordered = subst IsOrdered (stored-held x lexicals classes b s) (record { few = s.kept.tied.most; layout = s.kept.layout; laid = s.kept.laid })
 
@@ -123,7 +123,7 @@ module _ (x : TableState) (lexicals : List ℕ) (classes : List ClassSlots) (b :
   words-past address which = subst (λ (d : StoreState). word_at d address ≡ None) (stored-held x lexicals classes b s)
       (load-none t lexicals classes b s.kept address (1024 * x.most) (sym (ap length s.reads.words ∙ words-all x lexicals classes b s)) which)
 
-  -- A page that is not in use contains no word of a live block.
+  -- If a page is not in use, then it contains no word of a live block.
   idle-dead : (word : ℕ) → word < length x.words → (row_of x (word / 1024)).role ≡ role.Rest → (row_of x (word / 1024)).filled ≡ 0
       → false ≡ is_some (holder (homes (store_of x.most x.words b)) (STORE_BASE + 4 * word))
   idle-dead word inside rest none = live-marked x lexicals classes b s word inside false (omega (arith, none)) (sym unmarked)
@@ -140,7 +140,7 @@ module _ (x : TableState) (lexicals : List ℕ) (classes : List ClassSlots) (b :
           (subst (λ n. slice_index_or t.live.items n false ≡ false) {x = 1024 * (word / 1024) + word % 1024} {y = word} (omega arith)
           (s.kept.tied.unmarked (word / 1024) (word % 1024) no-block (mod-lt word (lit< tt))))
 
-  -- If no page from a word on is in use, no later address belongs to a live block.
+  -- If no page from some word on is in use, then no address from that word on belongs to a live block.
   pub words-unmade : (made address : ℕ) → IsIdlePast x made → (address < STORE_BASE) ⊎ (address % 4 ≢ 0) ⊎ (STORE_BASE + 4 * made ≤ address)
       → word_at (store_of x.most x.words b) address ≡ None
   words-unmade made address idle which = elim which [

@@ -1,4 +1,4 @@
--- The first page of a pool is taken; pages that the pool returns before are freed again.
+-- Taking the first page of a pool: pages that the pool returns before the first one are freed again.
 use Rattle.std.proofs.Common.{◌≡◌, ℕ, zero, suc, ◌<◌, Bool, true, false, List, [], ◌∷◌, length, length-set, set, sym, ap, subst, ◌∙◌, inl, inr, arith, get_or-set_same, get_or-set_other}
 use Rattle.std.specs.Prelude.{slice_index_or}
 use Rattle.std.proofs.lemmas.Bool.{cases_eq}
@@ -7,7 +7,7 @@ use Rattle.cyc_rawpages.specs.inside.Lists.{chain_at, freed}
 use Rattle.cyc_rawpages.specs.inside.Pool.{PoolState, IsFree}
 use Rattle.cyc_pagestore.specs.inside.Table.{AreAlone}
 
--- The number of true elements.
+-- Returns the number of true elements of a list.
 abbrev pub true_count : List Bool → ℕ
 true_count [] = 0
 true_count (true ∷ xs) = suc (true_count xs)
@@ -20,7 +20,7 @@ count-less (false ∷ xs) zero e = cc
 count-less (true ∷ xs) (suc i) e = let less = count-less xs i e in omega (arith, less)
 count-less (false ∷ xs) (suc i) e = count-less xs i e
 
--- Taking a free page other than the first one.
+-- The effect of taking a free page other than the first one.
 module _ (p : PoolState) (is : AreAlone p) (page : ℕ) (there : page < p.pages) (free : IsFree p.free page) (other : page ≡ 0 → ⊥) where
   abbrev pub taken : PoolState
   taken = record p { free = set p.free page false; chains = set p.chains page (page ∷ []) }

@@ -1,4 +1,4 @@
--- A taken page that belongs to no region yet is split into slots, or a region begins in it.
+-- A taken page that belongs to no region yet may be split into slots, or a region may begin in it.
 use Rattle.std.proofs.Common.{◌≡◌, ℕ, ◌+◌, ◌<◌, false, List, [], ◌∷◌, refl, sym, ap, subst, ◌∙◌, inl, inr, arith}
 use Rattle.std.proofs.lemmas.Bool.{cases_eq}
 use Rattle.cyc_words.proofs.Booleans.{never_true_and_false}
@@ -15,7 +15,7 @@ use Rattle.cyc_pagestore.proofs.Backing.{with_at, at-same, at-other, rest-no_roo
 
 -- ---- writes to a page that no region contains
 
--- A taken page that belongs to no region: its words are not live, and no page that it owns has live words.
+-- A taken page that belongs to no region has no live words, and owns no page with live words.
 module _ (b : Backing) (next : ℕ) (row : ℕ → Row) (first : ℕ) (order : List ℕ) (is : Backs b next row first order) (page : ℕ) (there : page < b.pages)
     (rest : b.role page ≡ Rest) (taken : b.free page ≡ false) (alone : b.chain page ≡ page ∷ []) where
   pub away-order : IsOneOf order page → ⊥
@@ -36,7 +36,7 @@ module _ (b : Backing) (next : ℕ) (row : ℕ → Row) (first : ℕ) (order : L
       (all-from (λ p. (with_at row page new p).next ≡ (row p).next) order
       (λ p which. ap (λ (r : Row). r.next) (at-other row page new p (λ e. away-order (subst (IsOneOf order) e which))))) is.linked
 
-  -- No region contains the page, since it is the head of its own chain.
+  -- No region contains the taken page, since the page is the head of its own chain.
   pub member-away : (r : ℕ) (old : IsRegion b row r) → (r ≡ page → ⊥) → (p : ℕ) → IsOneOf old.chain p → p ≡ page → ⊥
   member-away r old away p which e =
       let empty : b.chain page ≡ [] = ap b.chain (sym e) ∙ (old.members p which).inner (λ same. away (sym same ∙ e)) in

@@ -1,4 +1,4 @@
--- The newest page of a region is filled further, and a page is added to the region.
+-- The newest page of a region may be filled further, and a page may be added to the region.
 use Rattle.std.proofs.Common.{◌≡◌, ◌≢◌, ℕ, suc, ◌+◌, ◌<◌, false, List, [], ◌∷◌, ◌++◌, length, refl, sym, ap, subst, ◌∙◌, inl, inr, arith}
 use Rattle.std.specs.Prelude.{◌⊎◌}
 use Rattle.std.proofs.lemmas.Bool.{cases_eq}
@@ -68,7 +68,7 @@ module _ (b : Backing) (next : ℕ) (row : ℕ → Row) (first : ℕ) (order : L
     filled-new : reach_of filled newest ≡ v
     filled-new = reach-by_serial b.serial b.owner filled.fill newest (newest-member.serial ∙ ap b.serial (sym newest-member.owner)) ∙ at-same b.fill newest v newest refl
 
-    -- The row of that page is unchanged except for its fill mark.
+    -- Filling the newest page leaves its row unchanged except for the fill mark.
     part : {A : Type 0} (of : Row → A) → of new_row ≡ of (row newest) → (p : ℕ) → of (with_at row newest new_row p) ≡ of (row p)
     part of e p = elim (cases_eq p newest) [
       | inl same ↦ ap of (at-same row newest new_row p same) ∙ e ∙ ap (λ q. of (row q)) (sym same)

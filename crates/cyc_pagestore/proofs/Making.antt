@@ -1,5 +1,5 @@
--- The allocation of a block in a region keeps the invariant of a store on a page table over a pool. The result satisfies the store
--- relation.
+-- The allocation of a block in a region keeps the invariant of a store on a page table over a pool. The result of the allocation
+-- satisfies the store relation.
 use Rattle.std.proofs.Common.{◌≡◌, ℕ, ◌+◌, ◌*◌, ◌<◌, ◌≤◌, List, ◌∷◌, length, length-set, set, Some, sym, ap, subst, ◌∙◌}
 use Rattle.std.specs.Prelude.{slice_index_or}
 use Rattle.std.proofs.lemmas.List.{get_or_default}
@@ -106,7 +106,7 @@ module _ (x : TableState) (lexicals : List ℕ) (classes : List ClassSlots) (b :
         abbrev front : List ℕ
         front = page ∷ removed adds.takes.order page
 
-        -- The row of the region after its free pages are relinked.
+        -- The row of the region's first page after the free pages are relinked.
         abbrev its : Row
         its = row_at (relinked x.rows front) root
 

@@ -1,4 +1,4 @@
--- A pool and its spots represent a table through each of the table's calls, as lists.
+-- In terms of lists, a pool and the data kept beside it represent a page table before and after each call of the table.
 use Rattle.std.proofs.Common.{◌≡◌, ℕ, ◌+◌, ◌*◌, ◌-◌, ◌^◌, ◌<◌, Bool, true, false, List, [], ◌∷◌, ◌++◌, length, set, length-set, refl, sym, ap, subst, ◌∙◌, inl, inr, arith, get_or-set_same, get_or-set_other}
 use Rattle.std.specs.Prelude.{◌⊎◌, slice_index, slice_index_or}
 use Rattle.std.proofs.lemmas.Bool.{cases_eq}
@@ -23,7 +23,7 @@ use Rattle.cyc_pagestore.proofs.Fresh.{root-away, cut-backs, begun-backs}
 use Rattle.cyc_pagestore.proofs.Growing.{added-backs, filled-backs, newest-member}
 use Rattle.cyc_pagestore.proofs.Closing.{gives, closed-backs}
 
--- Replacing a row in the list replaces it in the function from page numbers to rows.
+-- Replacing a row in the list of rows also replaces it in the function from page numbers to rows.
 rows-set : (rows : List Row) (page : ℕ) (r : Row) → page < length rows → ◌≡◌ {A = ℕ → Row} (λ p. row_at (set rows page r) p) (with_at (λ (p : ℕ). row_at rows p) page r)
 rows-set rows page r there = read-set rows page r (free_row NONE) there
 
@@ -34,7 +34,7 @@ spots-set of spots page x there = fun_ext (λ q. elim (cases_eq q page) [
   | inr other ↦ ap of (get_or-set_other spots page q x no_spot other) ∙ sym (at-other (λ n. of (spot_at spots n)) page (of x) q other)
 ])
 
--- The filled words of pages after one fill mark is written.
+-- Writing one fill mark changes the number of filled words of one page.
 fill-set : (fills : List ℕ) (page mark filled : ℕ) → page < length fills → mark - 1024 * page ≡ filled
     → ◌≡◌ {A = ℕ → ℕ} (λ q. filled_by (set fills page mark) q) (with_at (λ (q : ℕ). filled_by fills q) page filled)
 fill-set fills page mark filled there is = fun_ext (λ q. elim (cases_eq q page) [
@@ -42,7 +42,7 @@ fill-set fills page mark filled there is = fun_ext (λ q. elim (cases_eq q page)
   | inr other ↦ ap (λ n. n - 1024 * q) (get_or-set_other fills page q mark 0 other) ∙ sym (at-other (λ (n : ℕ). filled_by fills n) page filled q other)
 ])
 
--- Writing the present value changes nothing.
+-- Writing the value that a function already has at an argument changes nothing.
 with_itself_at : {A : Type 0} (f : ℕ → A) (at : ℕ) → f ≡ with_at f at (f at)
 with_itself_at f at = fun_ext (λ q. elim (cases_eq q at) [
   | inl same ↦ ap f same ∙ sym (at-same f at (f at) q same)
@@ -93,7 +93,7 @@ module _ (p : PoolState) (pages : ℕ) (spots : List Spot) (next : ℕ) (l : Lin
   pub serials_one : AreOne p
   serials_one = is.backs.one
 
-  -- If no page is free, none is linked.
+  -- If no page is free, then the list of free pages is empty.
   pub none-first : ((page : ℕ) → IsFree p.free page → ⊥) → l.free ≡ NONE
   none-first never = at l.order is.backs.linked is.backs.free
     where
@@ -174,7 +174,7 @@ module _ (p : PoolState) (pages : ℕ) (spots : List Spot) (next : ℕ) (l : Lin
 
   -- ---- a taken page
   module _ (page : ℕ) (there : page < p.pages) (rest : (spot_at spots page).role ≡ Rest) (taken : slice_index_or p.free page false ≡ false) (alone : chain_at p.chains page ≡ page ∷ []) where
-    -- A region begins in the page.
+    -- If a region begins in a page, the pool still represents the page table.
     module _ (role : Role) (is_root : IsRoot role) (few : next < 2 ^ 64 - 1) where
       abbrev p-begun : PoolState
       p-begun = record p { owners = set p.owners page page; fills = set p.fills page 0; serials = set p.serials page next }
@@ -221,7 +221,7 @@ module _ (p : PoolState) (pages : ℕ) (spots : List Spot) (next : ℕ) (l : Lin
           begun = subst (λ (u : Backing × (ℕ → Row)). Backs u.0 (next + 1) u.1 l.free l.order) (λ j. (sym begun-backing j, sym (rows-set l.rows page (first_of role page) (in_rows page there)) j))
               (begun-backs b next (λ (q : ℕ). row_at l.rows q) l.free l.order is.backs page there rest taken alone (first_of role page) role refl refl refl refl refl is_root next is.backs.newer)
 
-    -- The page is split into slots.
+    -- If a page is split into slots, the pool still represents the page table.
     module _ (class : ℕ) where
       abbrev p-cut : PoolState
       p-cut = record p { fills = set p.fills page 0 }
@@ -256,7 +256,7 @@ module _ (p : PoolState) (pages : ℕ) (spots : List Spot) (next : ℕ) (l : Lin
           no-root (inr (inl e)) = cc
           no-root (inr (inr e)) = cc
 
-    -- The page is added to a region.
+    -- If a page is added to a region, the pool still represents the page table.
     module _ (root : ℕ) (below : root < p.pages) (is_root : IsRoot (spot_at spots root).role) (words : ℕ) where
       abbrev p-added : PoolState
       p-added = record p {
@@ -331,7 +331,7 @@ module _ (p : PoolState) (pages : ℕ) (spots : List Spot) (next : ℕ) (l : Lin
     pub root-head : IsHead p.chains root
     root-head = let region = is.backs.root root there is_root in (region.rest, region.head)
 
-    -- The fill mark of its newest page is set.
+    -- If the fill mark of a region's newest page is set, the pool still represents the page table.
     module _ (v : ℕ) where
       abbrev p-filled : PoolState
       p-filled = record p { fills = set p.fills newest (1024 * newest + v) }
@@ -355,7 +355,7 @@ module _ (p : PoolState) (pages : ℕ) (spots : List Spot) (next : ℕ) (l : Lin
             (filled-backs b next (λ (q : ℕ). row_at l.rows q) l.free l.order is.backs root there is_root v);
       }
 
-    -- The region is closed.
+    -- If a region is closed, the pool still represents the page table.
     module _ (few : next < 2 ^ 64 - 1) where
       abbrev p-closed : PoolState
       p-closed = record p {

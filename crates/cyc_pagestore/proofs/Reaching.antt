@@ -1,4 +1,4 @@
--- The live words of a page, by serials, after a field of one page is written.
+-- The live words of a page depend on serial numbers; the lemmas describe them after a field of one page is written.
 use Rattle.std.proofs.Common.{◌≡◌, ℕ, ap, ◌∙◌, inl, inr}
 use Rattle.std.specs.Prelude.{◌==◌, if◌then◌else◌}
 use Rattle.std.proofs.lemmas.Bool.{cases_eq, cond-true, cond-false, eq-eqb, ne_eqb}
@@ -16,7 +16,7 @@ reach-empty serial owner fill page none = elim (cases_eq (serial page) (serial (
   | inr ne ↦ reach-stale serial owner fill page ne
 ]
 
--- The live words are unchanged if the fill mark, the owner, and the serials of the page and of its owner are.
+-- A page has the same live words if its fill mark, its owner, its serial and its owner's serial are unchanged.
 pub reach-same : (serial owner fill serial' owner' fill' : ℕ → ℕ) (page : ℕ) → owner' page ≡ owner page → serial' page ≡ serial page → serial' (owner page) ≡ serial (owner page) → fill' page ≡ fill page
     → reach_by serial' owner' fill' page ≡ reach_by serial owner fill page
 reach-same serial owner fill serial' owner' fill' page o s t f = λ j. if s j == (ap serial' o ∙ t) j then f j else 0

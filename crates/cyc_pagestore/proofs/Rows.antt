@@ -1,4 +1,4 @@
--- Lists of pages, and rows that are linked along them.
+-- Facts about lists of pages, and about table rows that are linked along them.
 use Rattle.std.proofs.Common.{◌≡◌, ◌≢◌, ℕ, ◌<◌, List, [], ◌∷◌, length, length-set, refl, sym, ap, subst, ◌∙◌, inl, inr, get_or-set_same, get_or-set_other}
 use Rattle.std.specs.Prelude.{◌⊎◌}
 use Rattle.std.specs.List.{AllByRecursion}
@@ -61,7 +61,7 @@ removed-apart (x ∷ xs) page apart = elim (cases_eq x page) [
       (all-from (λ y. x ≢ y) (removed xs page) (λ y inside. one-all (λ z. x ≢ z) xs y apart.0 (removed-out xs page y inside).0), removed-apart xs page apart.1)
 ]
 
--- The list with one page moved to its front.
+-- If the pages of a list are distinct, they stay distinct when one page is moved to the front of the list.
 pub fronted-apart : (xs : List ℕ) (page : ℕ) → IsDistinct xs → IsDistinct (page ∷ removed xs page)
 fronted-apart xs page apart = (all-from (λ y. page ≢ y) (removed xs page) (λ y inside e. (removed-out xs page y inside).1 (sym e)), removed-apart xs page apart)
 
@@ -108,7 +108,7 @@ module _ (rows : List Row) where
   later-is : (x : ℕ) (xs : List ℕ) (p : ℕ) → (p ≡ x → ⊥) → row_at (relinked rows (x ∷ xs)) p ≡ row_at (relinked rows xs) p
   later-is x xs p other = get_or-set_other (relinked rows xs) x p (record (row_at rows x) { next = head_or_none xs }) (free_row NONE) other
 
-  -- Only the link of a row is replaced.
+  -- Relinking the rows of a page list replaces only the link of each row.
   pub relinked-row : (xs : List ℕ) (p : ℕ) → AllByRecursion (λ x. x < length rows) xs → (next : ℕ) × (row_at (relinked rows xs) p ≡ record (row_at rows p) { next = next })
   relinked-row [] p within = ((row_at rows p).next, refl)
   relinked-row (x ∷ xs) p within = elim (cases_eq p x) [

@@ -30,7 +30,7 @@ given_rows-length : (rows : List Row) (page count free : ℕ) → length (given_
 given_rows-length rows page zero free = refl
 given_rows-length rows page (suc count) free = given_rows-length (set rows page (free_row free)) (row_at rows page).next count page ∙ length-set rows page (free_row free)
 
--- The role of a region's first page.
+-- For every sort of region, the role of the region's first page is the heap's, a lexical region's or a dynamic region's.
 sort-root : (sort : Sort) → IsRoot (role_of_sort sort)
 sort-root Heap = inl refl
 sort-root Lexical = inr (inl refl)
@@ -58,7 +58,7 @@ module _ (x : TableState) (lexicals : List ℕ) (classes : List ClassSlots) (b :
   pub rows-all : length t.rows.items ≡ x.most
   rows-all = ap length s.reads.rows ∙ s.whole
 
-  -- Reading the row of an existing page does not use the default.
+  -- Reading the row of an existing page does not use the default value.
   pub row-read : (page : ℕ) → page < x.most → row_of x page ≡ slice_index_or t.rows.items page (row_of x page)
   row-read page there =
       get_or_default x.rows page (free_row NONE) (row_of x page) (subst (λ n. page < n) (sym s.whole) there)
@@ -143,7 +143,7 @@ module _ (x : TableState) (lexicals : List ℕ) (classes : List ClassSlots) (b :
         (lexical-serves (before y page role.Lexical opens) lexicals classes b (v-kept x lexicals classes b s page opens.middle opens.takes) (taken y page role.Lexical opens) page
         (draws x lexicals classes b s page opens.middle opens.takes) (room x lexicals classes b s page opens.middle opens.takes) c noted mark counted)
 
-    -- Each lexical region has a page, so there is room for one more in the list.
+    -- Each open lexical region has a page, so the list of lexical regions has capacity for one more.
     pub lexical-room : length lexicals < x.most
     lexical-room =
         let now = lexical-stored (lexicals ++ handle_of_page page ∷ []) refl in

@@ -19,14 +19,14 @@ impl Model for Roster {
 }
 
 impl Roster {
-    /// Returns the table's rows for no pages.
+    /// Returns the rows of a table without pages.
     pub(crate) fn new() -> Roster
         ensures { result.links ≡ no_links }
     {
         Roster {}
     }
 
-    /// Returns the rows after a step.
+    /// Returns the rows of the table after a step, for contracts only.
     pub(crate) fn with(_before: &Roster, _step: &Step) -> Roster
         ensures { result.links ≡ after _before.now.links _step.now }
     {

@@ -1,4 +1,4 @@
-//! A store on a pool of pages.
+//! A page store on a pool of pages.
 
 ghost use Rattle.std.specs.Prelude.{◌≡◌, ◌≢◌, ◌+◌, ◌*◌, ◌%◌, ◌^◌, ◌<◌, ◌≤◌, ◌⊎◌, IfErr, IfOk, IsTrue, MatchOption, OnErr, OnOk, true, false, None};
 ghost use Rattle.std.specs.Prelude.{Some, Err, length, is_some};
@@ -44,8 +44,8 @@ impl Model for PageStore {
     ghost invariant = { λ s. IsPagedStore s.table s.lexicals s.classes s.ledger.blocks s.usage };
 }
 
-/// Returns the number of the word at an address, if it is among the store's first `count` words. One comparison tests all conditions on the
-/// address: a misaligned address, or one below the store, makes the computed number too large.
+/// Returns the number of the word at an address, if the word is among the store's first `count` words. One comparison tests all conditions
+/// on the address: a misaligned address, or one below the store, makes the computed number too large.
 #[inline(always)]
 fn number_below(count: usize, address: u32) -> Option<u32>
     requires { count ≤ 0x400_0000 }
@@ -61,7 +61,7 @@ fn number_below(count: usize, address: u32) -> Option<u32>
     }
 }
 
-/// Returns the first free slot of a class, and the remaining free slots.
+/// Returns the first free slot of a size class, and the remaining free slots.
 #[inline]
 fn next_slot(slots: ClassSlots, table: &PoolTable, class: u32) -> (u32, ClassSlots)
     requires class { class ≤ 10 }
@@ -86,7 +86,8 @@ fn next_slot(slots: ClassSlots, table: &PoolTable, class: u32) -> (u32, ClassSlo
     }
 }
 
-/// Returns the class of a block of `words` words, with few tests if the block is large: then the most marks have to be written too.
+/// Returns the size class of a block of `words` words. It needs few tests if the block is large, because then the most marks have
+/// to be written too.
 #[inline]
 fn slot_class(words: u32) -> u32
     requires { words ≤ 1024 }
@@ -126,7 +127,7 @@ impl PageStore {
         })
     }
 
-    /// Law: the blocks lie in pages, so there is an address for each call within demand, by [`choices_exist`].
+    /// States the law that the blocks lie in pages. By [`choices_exist`], each call within the demand then has an address to return.
     ///
     /// [`choices_exist`]: cyc_store::runs::choices_exist
     pub fn lies_in_pages(&self)
@@ -135,14 +136,14 @@ impl PageStore {
         let _table = &self.table;
     }
 
-    /// Returns the number of pages in use: as many as the blocks require.
+    /// Returns the number of pages in use, which is the number that the blocks require.
     pub fn pages_in_use(&self) -> u32
         ensures { result ≡ demand (held_of self.now) }
     {
         self.usage.pages()
     }
 
-    /// Advances the next serial to the last one but one, as if very many regions had been opened and closed, which a test cannot do. The
+    /// Advances the next serial to the second-last one, as if very many regions had been opened and closed, which a test cannot do. The
     /// contents of the store and the results of its calls are unchanged.
     pub fn come_to_last_serial(&mut self)
         ensures { self.new ≡ self.old }
@@ -150,7 +151,7 @@ impl PageStore {
         self.table.come_to_last_serial();
     }
 
-    /// Returns true if a word belongs to a live block.
+    /// Returns true if the word with the given number belongs to a live block.
     #[inline(always)]
     fn is_live(&self, word: u32) -> bool
         requires { word < length self.now.words }
@@ -162,7 +163,8 @@ impl PageStore {
         self.table.is_marked(word)
     }
 
-    /// Returns the number of the word with this address, if it belongs to a live block. A word that was never written does not.
+    /// Returns the number of the word with the given address, if the word belongs to a live block. A word that was never
+    /// written belongs to no live block.
     #[inline(always)]
     fn word_of(&self, address: u32) -> Option<u32>
         ensures { MatchOption result (word_at (held_of self.now) address ≡ None)
@@ -174,7 +176,7 @@ impl PageStore {
         if self.is_live(word) { Some(word) } else { None }
     }
 
-    /// Returns the first page of the open region with this handle.
+    /// Returns the first page of the open region with the given handle.
     fn root_of(&self, handle: u32) -> Option<u32>
         ensures { MatchOption result (lookup handle_of self.now.blocks.regions handle ≡ None)
             (λ root. (handle ≡ 2 * root + 1) × (is_some (lookup handle_of self.now.blocks.regions handle) ≡ true)) }
@@ -213,7 +215,7 @@ impl PageStore {
         self.ledger = Ledger::with(&self.ledger, &Change::Closed(handle));
     }
 
-    /// Allocates a block of `words` words in the region with this first page.
+    /// Allocates a block of `words` words in the region whose first page is `root`.
     fn alloc_in(&mut self, root: u32, words: u32) -> Result<u32, No>
         requires named { is_some (lookup handle_of self.old.blocks.regions (2 * root + 1)) ≡ true }
         requires least { 1 ≤ words }
@@ -237,7 +239,7 @@ impl PageStore {
         Ok(address)
     }
 
-    /// Splits a free page into slots of the class.
+    /// Splits a free page into slots of the given size class.
     fn stock(&mut self, class: u32) -> Result<(), No>
         requires class { class ≤ 10 }
         requires none { ¬ HasSlot (held_of self.old) class }
@@ -259,7 +261,7 @@ impl PageStore {
         Ok(())
     }
 
-    /// Allocates a unique block in a slot of the class, and returns its address.
+    /// Allocates a unique block in a slot of the given size class, and returns the block's address.
     fn fill(&mut self, class: u32) -> u32
         requires class { class ≤ 10 }
         requires some { HasSlot (held_of self.old) class }
@@ -288,7 +290,7 @@ impl PageStore {
         Ok(self.fill(class))
     }
 
-    /// Returns the first word and the class of the live unique block that begins at this address.
+    /// Returns the first word and the size class of the live unique block that begins at the given address.
     fn slot_of(&self, address: u32) -> Option<(u32, u32)>
         ensures { MatchOption result (lookup address_of self.now.blocks.unique address ≡ None)
             (λ slot. (address ≡ STORE_BASE + 4 * slot.0) × (lookup address_of self.now.blocks.unique address
@@ -315,7 +317,7 @@ impl PageStore {
         }
     }
 
-    /// Frees the live unique block of this class that begins at this word.
+    /// Frees the live unique block of size class `class` that begins at the word `word`.
     fn empty(&mut self, word: u32, class: u32)
         requires { lookup address_of self.old.blocks.unique (STORE_BASE + 4 * word) ≡ Some (record { address = STORE_BASE + 4 * word; size = 2 ^ class }) }
         ensures { Serves (held_of self.old) (Free (STORE_BASE + 4 * word)) Done (held_of self.new) }

@@ -1,4 +1,4 @@
-//! The serials of pages: each opening and each closing of a region assigns a new one to the region's first page.
+//! The serials of pages: each opening and each closing of a region assigns a new serial to the region's first page.
 
 ghost use Rattle.std.specs.Prelude.{◌≡◌, ◌≤◌, ◌<◌, ◌*◌, ◌/◌, ◌%◌, ℕ, nat_lt};
 ghost use Rattle.cyc_rawpages.specs.inside.Pool.{PoolState};
@@ -7,7 +7,8 @@ ghost use Rattle.cyc_pagestore.specs.inside.Live.{IsWhole, AreNewer, AreOne, Rea
 use cyc_rawpages::{PageNo, Pool};
 use cyc_store::PAGE_WORDS;
 
-/// Returns the number of a page's words that are live by its fill mark: all before it if the page has the serial of its owner, else none.
+/// Returns the number of a page's words that are live by its fill mark: all filled words if the page has the serial of its owner, else
+/// none.
 #[inline]
 pub(crate) fn reach(pool: &Pool, page: u32) -> u32
     requires whole { IsWhole pool.now }
@@ -30,7 +31,7 @@ pub(crate) fn reach(pool: &Pool, page: u32) -> u32
     }
 }
 
-/// Returns true if a word is live by the fill mark of its page.
+/// Returns true if a word is live by the fill mark of its page, which counts the words up to the last filled one.
 #[inline]
 pub(crate) fn is_within(pool: &Pool, word: u32) -> bool
     requires whole { IsWhole pool.now }
@@ -49,7 +50,7 @@ pub(crate) fn is_within(pool: &Pool, word: u32) -> bool
     pool.serial(page) == pool.serial(owner)
 }
 
-/// Renumbers all pages: each receives the number of its owner plus one as its serial, and a page without live words becomes empty.
+/// Renumbers all pages: each page gets the number of its owner plus one as its serial, and a page without live words becomes empty.
 fn renumber(pool: &mut Pool, pages: u32)
     requires whole { IsWhole pool.old }
     requires pages { pages ≡ pool.old.pages }
@@ -66,7 +67,7 @@ fn renumber(pool: &mut Pool, pages: u32)
     }
 }
 
-/// Returns a serial above those of all pages and below the last one.
+/// Returns a serial above those of all pages and below the last possible serial.
 pub(crate) fn next_serial(pool: &mut Pool, pages: u32, next: u64) -> u64
     requires whole { IsWhole pool.old }
     requires pages { pages ≡ pool.old.pages }

@@ -1,22 +1,22 @@
-//! The effect of a call on the rows of a page table.
+//! The effect of a call of a page table on the table's rows.
 
 use cyc_store::Role;
 
-/// A change of the rows of a page table.
+/// A change of the rows of a page table, for contracts only.
 #[derive(Clone, Copy)]
 pub enum Step {
-    /// All pages were created, each as a free page.
+    /// All pages were created as free pages.
     Made(u32),
-    /// A free page, with this number, was allocated.
+    /// The free page with the given number was allocated.
     Taken(u32),
-    /// A region with this role begins in this page.
+    /// A region with the given role begins in the given page.
     Began(u32, Role),
-    /// A page was added to the region with this first page, with this many words filled.
+    /// A page was added to a region, given by its first page, and the given number of the page's words was filled.
     Added(u32, u32, u32),
-    /// A page was filled up to this word.
+    /// A page was filled up to the given word.
     Filled(u32, u32),
-    /// A page was split into slots of this class.
+    /// A page was split into slots of the given size class.
     Cut(u32, u32),
-    /// All pages of the region with this first page were freed.
+    /// All pages of the region with the given first page were freed.
     Closed(u32),
 }

@@ -13,11 +13,11 @@ use cyc_store::{NONE, PAGE_WORDS, Role};
 use std::alloc::{AllocError, Global};
 use std::marker::Model;
 
-/// The data kept for a page beside the pool.
+/// The data that the table keeps for a page beside the pool.
 #[derive(Clone, Copy)]
 pub(crate) struct Spot {
     role: Role,
-    /// For a region's first page, the region's newest page.
+    /// For the first page of a region, the region's newest page.
     newest: u32,
 }
 
@@ -27,7 +27,7 @@ pub(crate) struct PoolTable {
     pool: Pool,
     pages: u32,
     spots: Vec<Spot>,
-    /// A number above the serial of each page.
+    /// A serial above the serials of all pages.
     next: u64,
     roster: Roster,
 }
@@ -42,7 +42,7 @@ impl Model for PoolTable {
     ghost invariant = { λ t. IsBacked t.pool t.pages t.spots.items t.next t.roster.links };
 }
 
-/// Takes page 0, which is free. The pool promises no order, so pages that it returns before are freed again.
+/// Takes page 0, which is free, from the pool. The pool promises no order, so pages that it returns before page 0 are freed again.
 fn take_first(pool: &mut Pool)
     requires first { IsFree pool.old.free 0 }
     requires alone { AreAlone pool.old }
@@ -59,7 +59,7 @@ fn take_first(pool: &mut Pool)
 }
 
 impl PoolTable {
-    /// Returns a table of pages, in the first of which the heap is open.
+    /// Returns a table of pages; the heap is open in the first page.
     pub(crate) fn new(alloc: Global, pages: u32) -> Result<PoolTable, AllocError>
         requires least { 1 ≤ pages }
         requires most { pages ≤ 65536 }
@@ -100,7 +100,7 @@ impl PoolTable {
         self.pool.made()
     }
 
-    /// Returns a word, by its number counted across all pages.
+    /// Returns the word with the given number, counted across all pages.
     #[inline]
     pub(crate) fn word(&self, word: u32) -> u32
         requires { word < 1024 * self.now.most }
@@ -160,7 +160,7 @@ impl PoolTable {
         }
     }
 
-    /// Sets or clears the marks of words of one page, a whole word of the pool at a time.
+    /// Sets or clears the marks of words of one page, one whole word of the pool at a time.
     fn mark_whole(&mut self, first: u32, count: u32, mark: bool)
         requires there { first + count ≤ 1024 * self.old.most }
         requires least { 1 ≤ count }
@@ -178,7 +178,7 @@ impl PoolTable {
         );
     }
 
-    /// Sets or clears marks as [`PoolTable::mark`] does, for any range.
+    /// Sets or clears marks as [`PoolTable::mark`] does, for any range of words.
     fn mark_parts(&mut self, first: u32, count: u32, mark: bool)
         requires { first + count ≤ 1024 * self.old.most }
         ensures { Marks self.old self.new first count mark }
@@ -217,7 +217,7 @@ impl PoolTable {
         is_within(&self.pool, word)
     }
 
-    /// Returns the role of a page.
+    /// Returns the role of a page, for example the first page of a lexical region.
     pub(crate) fn role(&self, page: u32) -> Role
         requires { page < self.now.most }
         ensures { result ≡ (row_of self.now page).role }
@@ -225,7 +225,7 @@ impl PoolTable {
         self.spots[page as usize].role
     }
 
-    /// Returns the newest page of the region with this first page.
+    /// Returns the newest page of the region whose first page is `root`.
     pub(crate) fn newest(&self, root: u32) -> u32
         requires { root < self.now.most }
         ensures { result ≡ (row_of self.now root).newest }
@@ -233,7 +233,7 @@ impl PoolTable {
         self.spots[root as usize].newest
     }
 
-    /// Returns the number of pages.
+    /// Returns the number of pages of the table.
     #[inline]
     pub(crate) fn most(&self) -> u32
         ensures { result ≡ self.now.most }
@@ -263,7 +263,7 @@ impl PoolTable {
         Some(page.number)
     }
 
-    /// Takes a free page and adds it to the region with this first page, with `words` words filled.
+    /// Takes a free page and adds it to the region whose first page is `root`, with `words` words filled.
     pub(crate) fn add(&mut self, root: u32, words: u32) -> Option<u32>
         requires there { root < self.old.most }
         requires root { IsRoot (row_of self.old root).role }
@@ -289,7 +289,7 @@ impl PoolTable {
         Some(page.number)
     }
 
-    /// Takes a free page and splits it into slots of the class.
+    /// Takes a free page and splits it into slots of the given size class.
     pub(crate) fn cut(&mut self, class: u32) -> Option<u32>
         ensures { MatchOption result (IsFull self.old × (self.new ≡ self.old)) (λ page. Cuts self.old self.new page class) }
     {
@@ -306,7 +306,7 @@ impl PoolTable {
         Some(page.number)
     }
 
-    /// Sets the fill mark of the newest page of the region with this first page.
+    /// Sets the fill mark of the newest page of the region whose first page is `root`.
     pub(crate) fn fill(&mut self, root: u32, filled: u32)
         requires there { root < self.old.most }
         requires root { IsRoot (row_of self.old root).role }
@@ -319,7 +319,7 @@ impl PoolTable {
         self.roster = Roster::with(&self.roster, &Step::Filled(page, filled));
     }
 
-    /// Frees all pages of the region with this first page, in constant time.
+    /// Frees all pages of the region whose first page is `root`, in constant time.
     pub(crate) fn close(&mut self, root: u32)
         requires there { root < self.old.most }
         requires root { IsRoot (row_of self.old root).role }
@@ -338,7 +338,7 @@ impl PoolTable {
         self.roster = Roster::with(&self.roster, &Step::Closed(root));
     }
 
-    /// Advances the next serial to the last one but one, as if very many regions had been opened and closed.
+    /// Advances the next serial to the second-last one, as if very many regions had been opened and closed.
     #[tactic(auto, using(crate::proofs::Calls::later_backed))]
     pub(crate) fn come_to_last_serial(&mut self)
         ensures { self.new ≡ self.old }

@@ -1,15 +1,15 @@
-//! The number of pages of a store in use.
+//! Counts the pages of a store that are in use.
 
 ghost use Rattle.std.specs.Prelude.{◌≡◌, ◌+◌, ◌-◌, ◌<◌, ◌≤◌, IfOk, length, replicate, set, slice_index};
 
 use std::alloc::{AllocError, Global};
 use std::marker::Model;
 
-/// The number of pages in use, and for each region its number of pages. Closing a region accesses only one of its pages, although it frees
-/// all of them.
+/// The number of pages in use, and for each region its number of pages. Closing a region accesses only one of its pages, although all of
+/// its pages are freed.
 #[derive(Drop)]
 pub(crate) struct Usage {
-    /// For each page, the number of pages of the region that begins there.
+    /// For each page, the number of pages of the region that begins in that page.
     regions: Vec<u32>,
     /// The number of pages in use: those of regions, and those split into slots.
     pages: u32,
@@ -41,7 +41,7 @@ impl Usage {
         self.pages
     }
 
-    /// Notes that a region was opened in this page.
+    /// Notes in the counts that a region was opened in the given page.
     pub(crate) fn note_opened(&mut self, page: u32)
         requires there { page < length self.old.regions }
         requires few { self.old.pages < 65536 }
@@ -51,7 +51,7 @@ impl Usage {
         self.pages += 1;
     }
 
-    /// Notes that a page was added to the region with this first page.
+    /// Notes in the counts that a page was added to the region whose first page is `root`.
     pub(crate) fn note_added(&mut self, root: u32)
         requires there { root < length self.old.regions }
         requires few { self.old.pages < 65536 }
@@ -62,7 +62,7 @@ impl Usage {
         self.pages += 1;
     }
 
-    /// Notes that a page was split into slots.
+    /// Notes in the counts that a page was split into slots.
     pub(crate) fn note_cut(&mut self)
         requires { self.old.pages < 65536 }
         ensures { self.new ≡ record self.old { pages = self.old.pages + 1 } }
@@ -70,7 +70,7 @@ impl Usage {
         self.pages += 1;
     }
 
-    /// Notes that the region with this first page was closed.
+    /// Notes in the counts that the region whose first page is `root` was closed.
     pub(crate) fn note_closed(&mut self, root: u32)
         requires there { root < length self.old.regions }
         requires some { slice_index self.old.regions root ≤ self.old.pages }

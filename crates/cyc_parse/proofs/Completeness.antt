@@ -1,5 +1,4 @@
--- COMPLETENESS: if symbols have a parse tree, the parser returns that tree, or it rejects them for the first limit that
--- the tree breaks.
+-- COMPLETENESS: if symbols have a parse tree, the parser returns that tree, or it rejects them for the first limit that the tree breaks.
 use Rattle.std.proofs.Common.{◌≡◌, ℕ, zero, suc, ◌≤◌, List, [], ◌∷◌, ◌++◌, length, Some, None, Ok, refl, sym, ap, subst, ◌∙◌, arith, length-append}
 use Rattle.cyc_syntax.specs.Symbols.{Symbol}
 use Rattle.cyc_syntax.specs.Trees.{Declaration, StructType, Exceptions, Global, Function, WrittenType, BaseType, Int, Char, Struct, Handle, Key}

@@ -1,5 +1,4 @@
--- For every declaration and program, the parser returns it when it reads its yield (the symbols
--- that spell it).
+-- For every declaration and program, the parser returns it when it reads its yield (the symbols that spell it).
 use Rattle.std.proofs.Common.{◌≡◌, ℕ, zero, suc, ◌≤◌, Bool, true, false, List, [], ◌∷◌, ◌++◌, Option, Some, None, is_some, refl, sym, ap, ◌∙◌, arith, append_assoc, zero-le, ◌⊎◌, inl, inr}
 use Rattle.std.specs.List.{AllByRecursion}
 use Rattle.cyc_syntax.specs.declared.tokens.Keyword.TheVariants as words
@@ -135,8 +134,7 @@ module _ (room d : ℕ) (fits : Fits (suc (suc room)) d) where
       (sign_reads (suc room) (suc d) signs.RightBrace _ (omega arith) (λ p. pure_reads (Some (r ∷ rs)) NoSemicolon))
       (λ mid rest front ends. record { item = tt; comma = ap (sees_terminal signs.Comma) (front-next (leaf_of (suc d) (Mark signs.RightBrace)) [] mid rest front) }))))
 
-  -- After a function's constraints comes the closing parenthesis of its parameters, so the
-  -- constraints begin with a colon or are absent.
+  -- After a function's constraints comes the closing parenthesis of its parameters, so the constraints begin with a colon or are absent.
   colon_or_end : (cs : List Constraint) (mid rest : List Symbol) → Front (yields.constraints d cs) mid rest → next rest ≡ Some (Mark signs.RightParen) → (next mid ≡ Some (Mark signs.Colon)) ⊎ (next mid ≡ Some (Mark signs.RightParen))
   colon_or_end [] mid rest front ends = inr (ap next front ∙ ends)
   colon_or_end (c ∷ cs) mid rest (t, more, e, is_leaf, front) ends = inl (ap next e ∙ ap Some is_leaf.terminal)

@@ -1,5 +1,4 @@
--- Each production of expressions is parsed back from its yield if its parts are parsed back from
--- theirs.
+-- Each production of expressions is parsed back from its yield if its parts are parsed back from theirs.
 use Rattle.std.proofs.Common.{◌≡◌, ℕ, zero, suc, ◌+◌, ◌≤◌, true, false, List, [], ◌∷◌, ◌++◌, Some, None, Ok, refl, sym, ap, subst, ◌∙◌, arith}
 use Rattle.std.specs.List.{AllByRecursion}
 use Rattle.cyc_syntax.specs.declared.tokens.Keyword.TheVariants as words
@@ -100,8 +99,7 @@ arguments_reads room d fits (MoreExpressions e es) all =
 pub record NoParen (ts : List Symbol) : Type 0 where
   pub paren : sees signs.LeftParen ts ≡ false
 
--- Says that the inner expressions of an operand are parsed back by the parsers one nesting level
--- deeper.
+-- Says that the inner expressions of an operand are parsed back by the parsers one nesting level deeper.
 abbrev pub Parts : ℕ → ℕ → Expression → Type 0
 Parts room d (Call f es) = AreRead room (suc d) (list_of es)
 Parts room d (Bracketed p e) = ReadsDeeper room (suc d) e

@@ -1,6 +1,6 @@
--- If a parser succeeds, it has read symbols that a yield spells and whose leaves keep the limits. If it rejects for a limit, it has read
--- the first symbols of a yield, up to the rejected one. This file contains the rules for composed parsers by which both facts, on yields
--- and on first symbols, follow.
+-- If a parser succeeds, it has read symbols that a yield spells and whose leaves keep the limits. If a parser rejects a symbol for a
+-- limit, it has read the first symbols of a yield, up to the rejected symbol. This file contains the rules for composed parsers by which
+-- both facts, on yields and on first symbols, follow.
 use Rattle.std.proofs.Common.{◌≡◌, ℕ, ◌≤◌, Bool, true, false, List, [], ◌∷◌, ◌++◌, Option, Some, None, Ok, Err, refl, sym, ap, subst, ◌∙◌, append_assoc}
 use Rattle.std.specs.Option.{IfSome}
 use Rattle.std.specs.List.{AllByRecursion}
@@ -40,8 +40,7 @@ pub record Possible {A : Type 0} (Post : A → Yield → List Symbol → Type 0)
 pub possibly : {A : Type 0} {Post : A → Yield → List Symbol → Type 0} (x : A) (ls : Yield) → Post x ls [] → Possible Post
 possibly x ls post = record { value = x; leaves = ls; post = post }
 
--- Says that some result satisfies `Post`, and its yield begins with a symbol of the given terminal
--- and source position.
+-- Says that some result satisfies `Post`, and its yield begins with a symbol of the given terminal and source position.
 pub record Opened {A : Type 0} (Post : A → Yield → List Symbol → Type 0) (u : Terminal) (p : Place) : Type 0 where
   pub value : A
   pub leaf : Leaf
@@ -50,8 +49,7 @@ pub record Opened {A : Type 0} (Post : A → Yield → List Symbol → Type 0) (
   pub place : IfSome leaf.place (λ q. p ≡ q)
   pub post : Post value (leaf ∷ following) []
 
--- Says that some result satisfies `Post`, and its yield begins with the symbols that were read, up
--- to the rejected one.
+-- Says that some result satisfies `Post`, and its yield begins with the symbols that were read, up to the rejected one.
 pub record Completed {A : Type 0} (Post : A → Yield → List Symbol → Type 0) (ts left : List Symbol) : Type 0 where
   pub value : A
   pub leaves : Yield
@@ -71,8 +69,7 @@ pub record Gives {A : Type 0} (p : Parser A) (Post : A → Yield → List Symbol
   -- If no symbols are left, some result satisfies `Post`.
   pub ending : ts ≡ [] → Possible Post
 
--- Says that leaves read before, followed by the symbols read, are the yield of the result, and that
--- the result satisfies a condition.
+-- Says that leaves read before, followed by the symbols read, are the yield of the result, and that the result satisfies a condition.
 abbrev pub Follows : {A : Type 0} → Yield → (A → Yield) → (A → List Symbol → Type 0) → A → Yield → List Symbol → Type 0
 Follows before yield Is x ls rest = (before ++ ls ≡ yield x) × Is x rest
 
@@ -103,8 +100,7 @@ begins_after xs {ts = ts} {mid = mid} front b = record {
   front = front-append xs b.done ts mid b.back front b.front;
 }
 
--- If a yield begins with certain symbols, then it still does when one leaf is put before the yield
--- and its symbol before the symbols.
+-- If a yield begins with certain symbols, then it still does when one leaf is put before the yield and its symbol before the symbols.
 pub leaf_begins : (leaf : Leaf) (t : Symbol) {ys : Yield} {more mid left : List Symbol} → t.terminal ≡ leaf.terminal → IfSome leaf.place (λ q. t.place ≡ q) → more ≡ mid → Begins ys mid left
     → Begins (leaf ∷ ys) (t ∷ more) left
 leaf_begins leaf t {more = more} terminal place same b = begins_after (leaf ∷ []) (t, more, refl, record { terminal = terminal; place = place }, same) b
@@ -120,8 +116,7 @@ begins_before ys b = record {
   front = b.front;
 }
 
--- If a yield's first leaf is the rejected symbol, then the yield begins with the symbols up to that
--- one.
+-- If a yield's first leaf is the rejected symbol, then the yield begins with the symbols up to that one.
 pub begins_here : (leaf : Leaf) (following : Yield) (t : Symbol) (more left : List Symbol) → t.terminal ≡ leaf.terminal → IfSome leaf.place (λ q. t.place ≡ q) → left ≡ t ∷ more
     → Begins (leaf ∷ following) (t ∷ more) left
 begins_here leaf following t more left terminal place same = record {
@@ -142,8 +137,7 @@ no_limit left e h limit = absurd (subst IsLimit (sym (ap (λ (r : Refusal). r.re
 pub no_refusal : {P : Type 0} {A : Type 0} {e : Refusal} {r : A × List Symbol} → ◌≡◌ {A = Outcome A} (Ok r) (Err e) → P
 no_refusal h = absurd (cc)
 
--- If a composed parser rejects its input, then either its first part rejects it or its second part
--- does.
+-- If a composed parser rejects its input, then either its first part rejects it or its second part does.
 pub data WasRefused {A B : Type 0} (p : Parser A) (f : A → Parser B) (ts : List Symbol) (e : Refusal) : Type 0 where
   in_first : p ts ≡ Err e → WasRefused p f ts e
   in_second : (x : A) (mid : List Symbol) → p ts ≡ Ok (x, mid) → f x mid ≡ Err e → WasRefused p f ts e
@@ -263,8 +257,7 @@ completed_here : {A : Type 0} {Q : A → Yield → List Symbol → Type 0} (t : 
 completed_here t more left same o =
     record { value = o.value; leaves = o.leaf ∷ o.following; begins = begins_here o.leaf o.following t more left o.terminal o.place same; post = o.post }
 
--- `Gives` holds for a parser that rejects the next symbol because of a limit, if some result begins
--- with that symbol.
+-- `Gives` holds for a parser that rejects the next symbol because of a limit, if some result begins with that symbol.
 pub limit_gives : {A : Type 0} {Q : A → Yield → List Symbol → Type 0} {ts : List Symbol} (why : Reason) (u : Terminal) → next ts ≡ Some u → ((p : Place) → Opened Q u p) → Gives (refuse {A = A} why) Q ts
 limit_gives {A} {Q = Q} {ts = ts} why u comes opened = record {
   gives = λ rest y h. absurd (cc);
@@ -279,8 +272,7 @@ limit_gives {A} {Q = Q} {ts = ts} why u comes opened = record {
     start [] e is same = absurd (nothing is)
     start (t ∷ more) e is same = let terminal : t.terminal ≡ u = cc in completed_here t more e.left (sym same) (subst (λ (w : Terminal). Opened Q w t.place) (sym terminal) (opened t.place))
 
--- `Gives` holds for a limit's rejection of an item if every symbol that may begin an item begins
--- some result.
+-- `Gives` holds for a limit's rejection of an item if every symbol that may begin an item begins some result.
 pub begun_gives : {A : Type 0} {Q : A → Yield → List Symbol → Type 0} {ts : List Symbol} (begins : Terminal → Bool) (why : Reason) → starts begins (next ts) ≡ true
     → ((u : Terminal) (p : Place) → begins u ≡ true → Opened Q u p) → Gives (refuse {A = A} why) Q ts
 begun_gives {A} {Q = Q} {ts = ts} begins why comes opened = go (next ts) refl comes
@@ -354,8 +346,7 @@ item_gives {yield = yield} i few h = record {
 pub opened_at : {A : Type 0} {Q : A → Yield → List Symbol → Type 0} (d : ℕ) (u : Terminal) (p : Place) (x : A) (following : Yield) → Q x (leaf_at d u p ∷ following) [] → Opened Q u p
 opened_at d u p x following post = record { value = x; leaf = leaf_at d u p; following = following; terminal = refl; place = refl; post = post }
 
--- A result witnesses `Opened` if its first leaf has no stored source position and has a given item
--- number.
+-- A result witnesses `Opened` if its first leaf has no stored source position and has a given item number.
 pub opened_item : {A : Type 0} {Q : A → Yield → List Symbol → Type 0} (d i : ℕ) (u : Terminal) (p : Place) (x : A) (following : Yield) → Q x (record { terminal = u; place = None; nesting = d; item = i } ∷ following) [] → Opened Q u p
 opened_item d i u p x following post = record { value = x; leaf = record { terminal = u; place = None; nesting = d; item = i }; following = following; terminal = refl; place = tt; post = post }
 

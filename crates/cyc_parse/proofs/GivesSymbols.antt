@@ -1,5 +1,4 @@
--- The parsers of one symbol satisfy `Gives` for the symbol's leaf, and so do the parsers that decide by
--- the next symbol.
+-- The parsers of one symbol satisfy `Gives` for the symbol's leaf, and so do the parsers that decide by the next symbol.
 use Rattle.std.proofs.Common.{◌≡◌, ℕ, zero, suc, ◌≤◌, Bool, true, false, cond, List, [], ◌∷◌, Option, Some, None, is_some, Ok, Err, refl, sym, ap, subst, ◌∙◌, arith, rules}
 use Rattle.std.specs.Option.{IfSome}
 use Rattle.std.specs.Prelude.{if◌then◌else◌}
@@ -37,8 +36,7 @@ too_deep (suc r) (Some a) give t ts e h limit = no_refusal h
 pub some_place : Place
 some_place = record { line = 1; column = 1 }
 
--- `Gives` holds for the parser of one symbol followed by another parser; the symbol's leaf is
--- computed from its value and position.
+-- `Gives` holds for the parser of one symbol followed by another parser; the symbol's leaf is computed from its value and position.
 pub take_then : {A B C : Type 0} (room : ℕ) (reads : Terminal → Option A) (give : A → Place → B) (f : B → Parser C) {Q : C → Yield → List Symbol → Type 0} {ts : List Symbol} (some : A) (leaf : A → Place → Leaf)
     → ((a : A) (q : Place) → Fits room (leaf a q).nesting) → ((a : A) (q : Place) → (leaf a q).item ≤ max_items)
     → ((a : A) (u : Terminal) (q : Place) → reads u ≡ Some a → u ≡ (leaf a q).terminal) → ((a : A) (q : Place) → IfSome (leaf a q).place (λ p. q ≡ p))
@@ -155,8 +153,7 @@ region_terminal (Word k) a h = absurd (cc)
 region_terminal (Mark s) a h = absurd (cc)
 
 module _ {C : Type 0} {Q : C → Yield → List Symbol → Type 0} {ts : List Symbol} (room d : ℕ) where
-  -- `Gives` holds for the parser of a sign (punctuation token) that is the item with a given number
-  -- in its list or chain.
+  -- `Gives` holds for the parser of a sign (punctuation token) that is the item with a given number in its list or chain.
   pub sign_item_then : (i : ℕ) (s : Sign) {f : Place → Parser C} → Fits room d → i ≤ max_items
       → ((q : Place) (mid : List Symbol) → Gives (f q) (λ y ys rest. Q y (record { terminal = Mark s; place = None; nesting = d; item = i } ∷ ys) rest) mid) → Gives (bind (sign room s) f) Q ts
   sign_item_then i s fits few second = take_then room (is_sign s) only_place _ tt (λ _ _. record { terminal = Mark s; place = None; nesting = d; item = i }) (λ _ _. fits) (λ _ _. few) (λ a u _ e. sign_is s u a e) (λ _ _. tt) (λ _ q mid. second q mid)

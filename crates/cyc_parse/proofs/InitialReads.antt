@@ -96,8 +96,7 @@ module _ (room d : ℕ) (fits : Fits (suc room) d) where
 
   -- ---- a plain expression
 
-  -- If a name does not open a struct's fields, the parser of initial values parses it as an
-  -- expression.
+  -- If a name does not open a struct's fields, the parser of initial values parses it as an expression.
   on_name : (x : ℕ) (t : Symbol) (more : List Symbol) → t.terminal ≡ Identifier x → sees signs.LeftBrace more ≡ false → opens_regions more ≡ false
       → initial room (nested room) (t ∷ more) ≡ bind (unary room (nested room)) (λ v. pure (Plain v)) (t ∷ more)
   unfolding initial unary choose if_sees bind primary
@@ -158,8 +157,7 @@ unfolding nested
 binary_read e h zero d fits is = deep_reads begins_expression d (omega arith) (expression_starts d e)
 binary_read e h (suc room) d fits is = h.operand 10 (suc room) d fits (omega arith) is
 
--- An initial value is parsed back at every depth if it is parsed back where nesting levels are
--- left.
+-- An initial value is parsed back at every depth if it is parsed back where nesting levels are left.
 initial_read : (i : Initial) → ((room d : ℕ) → Fits (suc room) d → IsInitial i → Reads (initial room (nested room)) i (yields.initial d i) (Stops 0)) → IsInitialRead i
 unfolding nested
 initial_read i h = record { reads = at }

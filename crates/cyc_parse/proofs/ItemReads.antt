@@ -50,8 +50,7 @@ open_reads zero d fits k Ends = word_deep_reads d words.Open _ (omega arith)
 open_reads (suc room) d fits k Ends = word_reads (suc room) d words.Open _ fits (λ p. sign_reads (suc room) d signs.LeftParen _ fits (λ p. identifier_reads room (suc d) k _ (deeper room d fits)
     (sign_reads room (suc d) signs.RightParen _ (deeper room d fits) (λ p. pure_reads (Some k) Ends))))
 
--- `(variable)` in a catch clause is parsed back from its yield, even at the deepest permitted
--- nesting.
+-- `(variable)` in a catch clause is parsed back from its yield, even at the deepest permitted nesting.
 caught_reads : (room d : ℕ) → Fits room d → (v : Option Named) → Reads (caught room (nested_statements room)) v (yields.optional (yields.caught d) v) NoParen
 caught_reads room d fits None = unseen_reads signs.LeftParen _ _ (λ ts rest front ends. ap (sees signs.LeftParen) front ∙ ends.paren) (pure_reads None NoParen)
 caught_reads zero d fits (Some x) = sees_reads signs.LeftParen _ _ (leaf_of d (Mark signs.LeftParen)) _ refl (sign_deep_reads d signs.LeftParen _ (omega arith))

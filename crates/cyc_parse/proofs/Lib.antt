@@ -3,8 +3,7 @@ pub mod Accepted
 pub mod Ends
 pub mod Naming
 pub mod OneTree
--- Completeness: if symbols have a parse tree, the parser returns that tree, or rejects the first limit
--- that it breaks.
+-- Completeness: if symbols have a parse tree, the parser returns that tree, or rejects the first limit that it breaks.
 pub mod Completeness
 pub mod Rules
 pub mod Signs

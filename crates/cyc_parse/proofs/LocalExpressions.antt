@@ -103,8 +103,7 @@ NoLess ts = next ts ≡ Some (Mark signs.Less) → ⊥
 abbrev pub Halts : {A : Type 0} → Parser A → Type 0
 Halts {A} p = (ts rest : List Symbol) (x : A) → p ts ≡ Ok (x, rest) → NoLess rest
 
--- Says that a sequence of two parsers read its symbols in two parts: the first parser's, then the
--- second's.
+-- Says that a sequence of two parsers read its symbols in two parts: the first parser's, then the second's.
 pub record WasRead {A B : Type 0} (p : Parser A) (f : A → Parser B) (ts rest : List Symbol) (y : B) : Type 0 where
   pub value : A
   pub mid : List Symbol
@@ -119,8 +118,7 @@ was_read {A} {B} p f ts rest y h = go (p ts) refl h
     go (Ok q) e h = record { value = q.0; mid = q.1; first = e; second = h }
     go (Err r) e h = absurd (cc)
 
--- If the last parser of a sequence never stops before `<`, then the sequence never stops before
--- `<`.
+-- If the last parser of a sequence never stops before `<`, then the sequence never stops before `<`.
 halts_then : {A B : Type 0} (p : Parser A) (f : A → Parser B) → ((x : A) → Halts (f x)) → Halts (bind p f)
 halts_then p f h ts rest y e = let w = was_read p f ts rest y e in h w.value w.mid rest y w.second
 
@@ -130,8 +128,7 @@ halts_made p make ts rest y h e =
     let same : w.mid ≡ rest = ap left_of w.second in
     h w.value (subst (λ (s : List Symbol). p ts ≡ Ok (w.value, s)) same w.first)
 
--- `Ready` holds for symbols before an operator if they do not begin with `<`, except where `<` is an operator
--- of the current level.
+-- `Ready` holds for symbols before an operator if they do not begin with `<`, except where `<` is an operator of the current level.
 module _ (operand : Parser Expression) (k : ℕ) (Ready : List Symbol → Type 0) (stops : (ts : List Symbol) → Ready ts → operator_at k (next ts) ≡ None → NoLess ts)
     (ready : (ts rest : List Symbol) (e : Expression) → operand ts ≡ Ok (e, rest) → Ready rest) where
   stopped : (ts rest : List Symbol) (os : Operations) → Ready ts → operator_at k (next ts) ≡ None → pure NoOperations ts ≡ Ok (os, rest) → NoLess rest
@@ -309,8 +306,7 @@ module _ (room : ℕ) (inner : Nested) (h : NestedRuns inner) where
   from_name_alone_runs : (s : Named) → Runs false IsOpenInitial (from_name_alone s)
   from_name_alone_runs s = then_runs (with_postfixes_run (from_name_run s)) (λ e. pure_runs _)
 
-  -- The parser decides by the symbol after `<`, which may be the first symbol after the common part
-  -- of two inputs.
+  -- The parser decides by the symbol after `<`, which may be the first symbol after the common part of two inputs.
   by_region : (s : Named) (t : Symbol) (a b : List Symbol) (x y : Bool) → IsLess t → region_next a ≡ x → region_next b ≡ y
       → Agrees IsOpenInitial a b (cond x (with_regions s) (from_name_alone s) (t ∷ a)) (cond y (with_regions s) (from_name_alone s) (t ∷ b))
   by_region s t a b true true less e e' = (with_regions_run s).agrees (t ∷ []) a b
@@ -385,7 +381,7 @@ module _ (room : ℕ) (inner : Nested) (h : NestedRuns inner) where
   pub named_run : (x : Named) → Local false (bind (with_postfixes room inner (from_name room inner x)) (climb (unary room inner) 10))
   named_run x = then_runs (with_postfixes_run (from_name_run x)) (λ e. climb_all_runs (unary room inner) (opens_as (λ e _. tt) unary_runs) e)
 
-  -- a conversion to a low byte, after its keyword, has bounded lookahead
+  -- After its keyword, a conversion to a low byte has bounded lookahead.
   pub low_byte_run : (p : Place) → Local true (bind (with_postfixes room inner (bind (group room inner) (λ e. pure (LowByteOf p e)))) (climb (unary room inner) 10))
   low_byte_run p = then_runs (with_postfixes_run (then_runs group_runs (λ e. pure_runs _))) (λ e. climb_all_runs (unary room inner) (opens_as (λ e _. tt) unary_runs) e)
 

@@ -19,8 +19,7 @@ use Rattle.cyc_parse.proofs.LocalExpressions.{IsOpen, nested_runs, named_run, lo
 end_of_swap_runs : (room : ℕ) (e : Expression) → Local false (end_of_swap room e)
 end_of_swap_runs room e = sees_runs signs.Semicolon (sign_runs _ signs.Semicolon) (test_runs (λ t. sees_terminal signs.Less t && ends_in_new e) (then_runs advance_runs (λ _. unexpected_runs)) unexpected_runs)
 
--- After the right side of a swap that ends in `new` and a name, `<` could open region arguments, so
--- the symbol after the `<` is rejected.
+-- After the right side of a swap that ends in `new` and a name, `<` could open region arguments, so the symbol after the `<` is rejected.
 end_refuses : (room : ℕ) (a b : Expression) (t : Symbol) (rest : List Symbol) → IsOpen b → IsLess t → bind (end_of_swap room b) (λ _. pure (Swap a b)) (t ∷ rest) ≡ Err (record { reason = Unexpected; left = rest })
 unfolding bind if_sees
 end_refuses room a b t rest ready less = rw (less, ready) refl

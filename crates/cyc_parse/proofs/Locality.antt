@@ -52,15 +52,13 @@ pub data Beyond {A : Type 0} (Open : A → Type 0) (a b : List Symbol) (o : Outc
   opens : (x : A) (t : Symbol) → o ≡ Ok (x, t ∷ a) → Open x → IsLess t → Differ a b → Beyond Open a b o
   overflows : (t : Symbol) → o ≡ Err (record { reason = TooLong; left = t ∷ a }) → IsLess t → Differ a b → Beyond Open a b o
 
--- Says that the outcome with `a` as the end of the symbols equals the one with `b`, or looks beyond the symbols before `a`
--- and `b`.
+-- Says that the outcome with `a` as the end of the symbols equals the one with `b`, or looks beyond the symbols before `a` and `b`.
 pub data Agrees {A : Type 0} (Open : A → Type 0) (a b : List Symbol) (o u : Outcome A) : Type 0 where
   both_read : (x : A) (t : Symbol) (f : List Symbol) → o ≡ Ok (x, t ∷ (f ++ a)) → u ≡ Ok (x, t ∷ (f ++ b)) → Agrees Open a b o u
   both_refuse : (why : Reason) (t : Symbol) (f : List Symbol) → o ≡ Err (record { reason = why; left = t ∷ (f ++ a) }) → u ≡ Err (record { reason = why; left = t ∷ (f ++ b) }) → Agrees Open a b o u
   goes_on : Beyond Open a b o → Agrees Open a b o u
 
--- Says that a parser has bounded lookahead. `consumes` says that the parser reads at least one
--- symbol if it succeeds.
+-- Says that a parser has bounded lookahead. `consumes` says that the parser reads at least one symbol if it succeeds.
 pub record Runs {A : Type 0} (consumes : Bool) (Open : A → Type 0) (p : Parser A) : Type 0 where
   -- The symbols that a parser leaves unread are a suffix of its input.
   pub suffix : (ts : List Symbol) → IsSuffix (left_of (p ts)) ts
@@ -87,8 +85,7 @@ beyond_as {Open = Open} {a = a} {b = b} e h = subst (λ (w : Outcome _). Beyond 
 pub agree_as : {A : Type 0} {Open : A → Type 0} {a b : List Symbol} {o o' u u' : Outcome A} → o ≡ o' → u ≡ u' → Agrees Open a b o' u' → Agrees Open a b o u
 agree_as {Open = Open} {a = a} {b = b} {o' = o'} {u = u} e e' h = subst (λ (w : Outcome _). Agrees Open a b w u) (sym e) (subst (λ (w : Outcome _). Agrees Open a b o' w) (sym e') h)
 
--- If a parser succeeds and leaves exactly the symbols after the common part of two inputs, then its
--- two outcomes agree.
+-- If a parser succeeds and leaves exactly the symbols after the common part of two inputs, then its two outcomes agree.
 pub answered : {A : Type 0} {Open : A → Type 0} (x : A) (f a b : List Symbol) → Agrees Open a b (Ok (x, f ++ a)) (Ok (x, f ++ b))
 answered x [] a b = goes_on (reads_on x a refl (suffix_whole a))
 answered x (t ∷ f) a b = both_read x t f refl refl
@@ -286,8 +283,7 @@ pub choose_runs : {A : Type 0} {c : Bool} {Open : A → Type 0} {f : Option Term
 unfolding choose
 choose_runs {f = f} h = next_runs f h
 
--- A choice between two parsers by a test of the next symbol has bounded lookahead if both parsers
--- do.
+-- A choice between two parsers by a test of the next symbol has bounded lookahead if both parsers do.
 pub test_runs : {A : Type 0} {c d : Bool} {Open : A → Type 0} (g : Option Terminal → Bool) {p q : Parser A} → Runs c Open p → Runs d Open q → Runs false Open (λ ts. cond (g (next ts)) p q ts)
 test_runs {Open = Open} g {p = p} {q = q} h k = next_runs (λ t. cond (g t) p q) (λ t. chosen (g t))
   where
@@ -311,8 +307,7 @@ is_runs {A} {Open = Open} reads {f = f} {q = q} h k = next_runs (λ t. on_some (
     chosen (Some x) = weaker_runs (h x)
     chosen None = weaker_runs k
 
--- A test that rejects the next symbol because of a limit has bounded lookahead. At the end of the
--- text a limit rejects nothing.
+-- A test that rejects the next symbol because of a limit has bounded lookahead. At the end of the text a limit rejects nothing.
 pub limit_runs : {A : Type 0} {d : Bool} {Open : A → Type 0} (g : Option Terminal → Bool) (why : Reason) {q : Parser A} → g None ≡ false → Runs d Open q → Runs false Open (λ ts. cond (g (next ts)) (refuse why) q ts)
 limit_runs {A} {d} {Open = Open} g why {q = q} none h = record {
   suffix = λ ts. left (g (next ts)) ts;
@@ -376,8 +371,7 @@ item_refusal_runs {A} {Open = Open} begins why = record {
 
 -- ---- lists, with as many rounds as there are symbols
 
--- Two continuations of a parser give equal results if they agree on the symbols that the parser
--- leaves.
+-- Two continuations of a parser give equal results if they agree on the symbols that the parser leaves.
 pub same_after : {A B : Type 0} {c : Bool} {Open : A → Type 0} {p : Parser A} (f g : A → Parser B) (ts : List Symbol) → Runs c Open p
     → ((x : A) (rest : List Symbol) → length rest ≤ length ts → f x rest ≡ g x rest) → bind p f ts ≡ bind p g ts
 unfolding bind
@@ -396,8 +390,7 @@ same_after_read {A} {p = p} f g ts h same = go (p ts) refl
     go (Ok q) e = same q.0 q.1 (h.shorter refl ts q.1 q.0 e)
     go (Err e) _ = refl
 
--- In a sequence, the first parser may be replaced by one that returns an equal result on the given
--- symbols.
+-- In a sequence, the first parser may be replaced by one that returns an equal result on the given symbols.
 pub same_first : {A B : Type 0} (p q : Parser A) (f : A → Parser B) (ts : List Symbol) → p ts ≡ q ts → bind p f ts ≡ bind q f ts
 unfolding bind
 same_first p q f ts e = ap (λ (o : Outcome _). and_then o f) e
@@ -414,8 +407,7 @@ pub starts_same : {A : Type 0} (begins : Terminal → Bool) (p p' q : Parser A) 
 unfolding if_starts
 starts_same begins p p' q ts e = cond_same (starts begins (next ts)) p p' q ts e
 
--- If a repeating parser may take one round per symbol, then further permitted rounds do not change
--- its result.
+-- If a repeating parser may take one round per symbol, then further permitted rounds do not change its result.
 pub turns_run : {A : Type 0} {Open : A → Type 0} (q : ℕ → Parser A) → ((n : ℕ) → Runs false Open (q n)) → ((n m : ℕ) (ts : List Symbol) → length ts ≤ n → length ts ≤ m → q n ts ≡ q m ts)
     → Runs false Open (λ ts. q (length ts) ts)
 turns_run {A} {Open = Open} q h enough = record {

@@ -28,8 +28,7 @@ stays_among : (texts more : List (List ℕ)) (a : List ℕ) → is_among a texts
 stays_among texts [] a among = among
 stays_among texts (b ∷ more) a among = stays_among (with_text texts b) more a (is_among-with_text_other texts a b among)
 
--- If the texts of a token list are known, then so are the text of its first token and those of the
--- tokens after it.
+-- If the texts of a token list are known, then so are the text of its first token and those of the tokens after it.
 known_kind : (seen : List (List ℕ)) (ts : List Token) (k : Kind) → ((s : List (List ℕ)) → AreKnown (fold with_text s (texts_in ts)) ts)
     → IsKnown (fold with_text seen (name_texts k (texts_in ts))) k × AreKnown (fold with_text seen (name_texts k (texts_in ts))) ts
 unfolding IsKnown
@@ -79,8 +78,7 @@ texts_in-append : (xs ys : List Token) → texts_in (xs ++ ys) ≡ texts_in xs +
 texts_in-append [] ys = refl
 texts_in-append (x ∷ xs) ys = ap (name_texts x.kind) (texts_in-append xs ys) ∙ name_texts-append x.kind (texts_in xs) (texts_in ys)
 
--- The next token is added: `names` are the texts met before the token, and `more` also contains the
--- token's text.
+-- The next token is added: `names` are the texts met before the token, and `more` also contains the token's text.
 module _ (f : CodeToken → Token) (seen : List (List ℕ)) (tokens : List CodeToken) (i : ℕ) (d : CodeToken) (within : i < length tokens) where
   one_more : map f (take (i + 1) tokens) ≡ map f (take i tokens) ++ f (get_or tokens i d) ∷ []
   one_more = ap (map f) (take_more tokens i d within) ∙ map-append f (take i tokens) (get_or tokens i d ∷ [])

@@ -76,8 +76,7 @@ module _ (unary : Parser Expression) where
   unfolding climb
   climb_zero {e = e} h = last_reads (climb unary zero) (λ ts. refl) h
 
-  -- If no operator of a level follows, then an operand of that level is also an operand of the next
-  -- looser level.
+  -- If no operator of a level follows, then an operand of that level is also an operand of the next looser level.
   pub climb_more : {e : Expression} {xs : Yield} (k : ℕ) → Reads (bind unary (climb unary k)) e xs (Stops k) → Reads (bind unary (climb unary (suc k))) e xs (Stops (suc k))
   climb_more {e = e} k h = reads_instead (bind (bind unary (climb unary k)) (at_level k)) (λ ts rest front ends. climb-suc k ts)
       (nothing_reads (at_level k) h (last_reads (λ (v : Operations). pure (binary_of e v)) (λ ts. refl) (operations_reads (bind unary (climb unary k)) k 0 (omega arith) 64 1 NoOperations refl tt))

@@ -1,4 +1,4 @@
--- Operators and their signs.
+-- Facts about operators and the signs (punctuation tokens) that denote them.
 use Rattle.std.proofs.Common.{◌≡◌, true, Option, Some, None, refl, ap}
 use Rattle.cyc_syntax.specs.declared.tokens.Sign.{Sign}
 use Rattle.cyc_syntax.specs.declared.tokens.Sign.TheVariants as signs

@@ -1,5 +1,4 @@
--- If symbols are rejected, then no program continues them, or every program that continues them breaks a limit at
--- the rejected symbol.
+-- If symbols are rejected, then no program continues them, or every program that continues them breaks a limit at the rejected symbol.
 use Rattle.std.proofs.Common.{◌≡◌, ℕ, suc, ◌+◌, ◌<◌, Bool, true, false, cond, List, [], ◌∷◌, ◌++◌, length, Ok, Err, refl, sym, ap, subst, ◌∙◌, arith, append_assoc, append-nil, length-append, ltb-true, ltb-false}
 use Rattle.std.specs.Prelude.{nat_lt}
 use Rattle.std.specs.List.{AllByRecursion}
@@ -61,8 +60,7 @@ at_end front why h = (program_runs 200).ends (front ++ []) (record { reason = wh
 
 -- ---- a tree and the first limit that it breaks
 
--- Says that a tree's yield breaks a limit after a certain number of symbols, at the first symbol
--- left.
+-- Says that a tree's yield breaks a limit after a certain number of symbols, at the first symbol left.
 record IsBroken (leaves : Yield) (ts : List Symbol) (e : Refusal) : Type 0 where
   count : ℕ
   place : count + length e.left ≡ length ts
@@ -159,8 +157,7 @@ judge_breaks (l ∷ ls) leaf following [] s back why outcome same all breaks = a
 judge_breaks (l ∷ ls) leaf following (t ∷ front) s back why outcome same (one, all) breaks =
     rw (le-nat_lt max_nesting l.nesting one.nesting, le-nat_lt max_items l.item one.item) (judge_breaks ls leaf following front s back why outcome (omega (arith, same)) all breaks)
 
--- If a parse tree breaks a limit, its symbols are rejected for the first limit that it breaks, at the
--- symbol that breaks it.
+-- If a parse tree breaks a limit, its symbols are rejected for the first limit that it breaks, at the symbol that breaks it.
 pub first_limit_refused : (front back : List Symbol) (s : Symbol) (tree : List Declaration) (why : Reason) → HasTree (front ++ s ∷ back) tree → BreaksFirst why (yields.program tree) (length front)
     → program_of (front ++ s ∷ back) ≡ Err (record { reason = why; left = s ∷ back })
 first_limit_refused front back s tree why has h =

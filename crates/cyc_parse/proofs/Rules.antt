@@ -29,7 +29,7 @@ judge (leaf ∷ leaves) (t ∷ ts) outcome =
     (cond (nat_lt max_items leaf.item) (Err (record { reason = TooLong; left = t ∷ ts }))
     (judge leaves ts outcome))
 
--- On symbols that begin with the yield of x and do not continue it, the parser returns x, or rejects the first broken limit.
+-- Says that, on symbols that begin with the yield of x and do not continue it, the parser returns x, or rejects the first broken limit.
 pub record Reads {A : Type 0} (p : Parser A) (x : A) (leaves : Yield) (Ends : List Symbol → Type 0) : Type 0 where
   pub reads : (ts rest : List Symbol) → Front leaves ts rest → Ends rest → p ts ≡ judge leaves ts (Ok (x, rest))
 
@@ -168,8 +168,7 @@ identifier_reads room d x f {y = y} {ys = ys} {Ends = Ends} fits next =
     token_reads room identifier_name named f (leaf_at d (Identifier x.name) x.place) x.name fits (omega arith) refl
     (λ p e. subst (λ (q : Place). Reads (f (named x.name q)) y ys Ends) (sym e) next)
 
--- `Reads` holds for the parser of a region name; the number of its list item may be any within the
--- limit.
+-- `Reads` holds for the parser of a region name; the number of its list item may be any within the limit.
 pub region_reads : {C : Type 0} (room d i : ℕ) (x : Named) (f : Named → Parser C) {y : C} {ys : Yield} {Ends : List Symbol → Type 0} → Fits room d → i ≤ max_items
     → Reads (f x) y ys Ends → Reads (bind (region_name room) f) y (record { terminal = RegionName x.name; place = Some x.place; nesting = d; item = i } ∷ ys) Ends
 region_reads room d i x f {y = y} {ys = ys} {Ends = Ends} fits few next =
@@ -306,8 +305,7 @@ pub seen_reads : {A : Type 0} (s : Sign) (p q : Parser A) {x : A} {xs : Yield} {
 unfolding if_sees
 seen_reads s p q is h = reads_instead p (λ ts rest front ends. ap (λ (b : Bool). (cond b p q) ts) (is ts rest front ends)) h
 
--- `Reads` holds for the parser of a sign (punctuation token) that is the item with a given number
--- in its list or chain.
+-- `Reads` holds for the parser of a sign (punctuation token) that is the item with a given number in its list or chain.
 pub sign_reads_item : {C : Type 0} (room d i : ℕ) (s : Sign) (f : Place → Parser C) {y : C} {ys : Yield} {Ends : List Symbol → Type 0} → Fits room d → i ≤ max_items
     → ((p : Place) → Reads (f p) y ys Ends) → Reads (bind (sign room s) f) y (record { terminal = Mark s; place = None; nesting = d; item = i } ∷ ys) Ends
 sign_reads_item room d i s f fits few next = token_reads room (is_sign s) only_place f (record { terminal = Mark s; place = None; nesting = d; item = i }) tt fits few (same_sign-self s) (λ p _. next p)
@@ -339,7 +337,7 @@ pub front-length : (xs : Yield) (ts rest : List Symbol) → Front xs ts rest →
 front-length [] ts rest front = zero-le
 front-length (leaf ∷ xs) ts rest (t, more, e, is_leaf, front) = subst (λ (s : List Symbol). suc (length xs) ≤ length s) (sym e) (suc-le-suc (front-length xs more rest front))
 
--- a parser that reads a yield also reads an equal yield, for example one with another grouping
+-- If a parser reads a yield, it also reads an equal yield, for example one with another grouping.
 pub yield_reads : {A : Type 0} {q : Parser A} {x : A} {xs ys : Yield} {Ends : List Symbol → Type 0} → xs ≡ ys → Reads q x xs Ends → Reads q x ys Ends
 yield_reads {q = q} {x = x} {Ends = Ends} same h = subst (λ (zs : Yield). Reads q x zs Ends) same h
 
@@ -363,8 +361,7 @@ word_deep_reads d k f deep = token_deep_reads (is_word k) only_place f (leaf_of 
 pub sign_deep_reads : {C : Type 0} (d : ℕ) (s : Sign) (f : Place → Parser C) {y : C} {ys : Yield} {Ends : List Symbol → Type 0} → max_nesting < d → Reads (bind (sign zero s) f) y (leaf_of d (Mark s) ∷ ys) Ends
 sign_deep_reads d s f deep = token_deep_reads (is_sign s) only_place f (leaf_of d (Mark s)) tt deep (same_sign-self s)
 
--- A test of the first symbol may be added before a parser if every yield of the parser passes the
--- test.
+-- A test of the first symbol may be added before a parser if every yield of the parser passes the test.
 pub starting_reads : {A : Type 0} (begins : Terminal → Bool) (d : ℕ) (p q : Parser A) {x : A} {xs : Yield} {Ends : List Symbol → Type 0} → Starts begins d xs → Reads p x xs Ends → Reads (if_starts begins p q) x xs Ends
 starting_reads begins d p q {x = x} {Ends = Ends} s h = subst (λ (zs : Yield). Reads (if_starts begins p q) x zs Ends) (sym s.are)
     (starts_reads begins p q s.first s.others s.begin (subst (λ (zs : Yield). Reads p x zs Ends) s.are h))

@@ -22,8 +22,7 @@ expression_starts d (Binary e os) = starts_append (operations d 1 os) (expressio
 expression_starts d (Assign a b) = starts_append _ (expression_starts d a)
 expression_starts d e = record { first = _; others = _; are = refl; begin = refl; nesting = refl; item = zero-le }
 
--- A symbol that may begin an expression may also begin an initial value; an initial value may also
--- begin with a brace.
+-- A symbol that may begin an expression may also begin an initial value; an initial value may also begin with a brace.
 in_initial : (t : Terminal) → begins_expression t ≡ true → begins_initial t ≡ true
 in_initial (Mark signs.LeftBrace) h = refl
 in_initial (Mark _) h = h

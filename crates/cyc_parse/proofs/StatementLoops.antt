@@ -1,4 +1,4 @@
--- The lists of items and of clauses that the code reads in a loop equal the results of their parsers.
+-- The code reads the lists of items and of clauses in a loop; they equal the results of the lists' parsers.
 use Rattle.std.proofs.Common.{◌≡◌, ℕ, suc, ◌+◌, ◌-◌, ◌<◌, true, false, List, [], ◌∷◌, Option, Some, None, option_map, Ok, Err, refl, sym, ap, ◌∙◌, arith}
 use Rattle.cyc_syntax.specs.declared.tokens.Keyword.TheVariants as words
 use Rattle.cyc_syntax.specs.declared.tokens.Sign.TheVariants as signs
@@ -61,8 +61,7 @@ clauses_in_steps room inner = record {
 }
 
 module _ {X Y B : Type 0} (view : X → Y) (add : Y → B → B) (last : Parser B) (one : Parser (Option Y)) (many : ℕ → Parser B) (steps : Steps add last one many) where
-  -- The parser that follows the last step of a loop rejects, and so does the parser of the whole
-  -- list.
+  -- The parser that follows the last step of a loop rejects, and so does the parser of the whole list.
   pub ends_badly : (e : Stop) (front : List X) (count i : ℕ) (ts us vs : List Symbol) (read : Option X) (whole : Outcome B) → i < count → one ts ≡ Ok (option_map view read, us) → read ≡ None → Stops e (last us) vs
       → with_front view add front (many (count - i) ts) ≡ whole → Stops e whole vs
   ends_badly stops.Memory front count i ts us vs read whole lt h is rest so_far = tt

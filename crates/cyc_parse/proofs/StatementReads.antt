@@ -1,5 +1,4 @@
--- Each production of statements is parsed back from its yield if its parts are parsed back from
--- theirs.
+-- Each production of statements is parsed back from its yield if its parts are parsed back from theirs.
 use Rattle.std.proofs.Common.{◌≡◌, ℕ, suc, ◌≤◌, Bool, true, false, cond, ◌&&◌, List, [], ◌∷◌, ◌++◌, Option, Some, None, refl, sym, ap, subst, ◌∙◌, arith, append-nil}
 use Rattle.cyc_syntax.specs.declared.tokens.Keyword.TheVariants as words
 use Rattle.cyc_syntax.specs.declared.tokens.Sign.TheVariants as signs
@@ -66,8 +65,7 @@ no_colon ys more rest alone front after = after more rest front
 no_colon ys more rest (goes_on leaf zs binds plain) (u, us, e, is_leaf, front) after = ap (sees signs.Colon) e ∙ ap (λ (t : Terminal). sees_terminal signs.Colon (Some t)) is_leaf.terminal ∙ high_not_colon leaf.terminal binds
 
 module _ (room : ℕ) where
-  -- If no colon follows a name, then a statement that begins with the name begins with an
-  -- expression.
+  -- If no colon follows a name, then a statement that begins with the name begins with an expression.
   on_name : (x : ℕ) (t : Symbol) (more : List Symbol) → t.terminal ≡ Identifier x → sees signs.Colon more ≡ false
       → statement room (nested_statements room) (t ∷ more) ≡ bind (statements.expression room (nested_statements room)) (following room (nested_statements room)) (t ∷ more)
   unfolding statement choose if_sees bind nested unary primary

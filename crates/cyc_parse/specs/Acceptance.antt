@@ -16,15 +16,13 @@ pub record IsAccepted (tokens : List Token) (tree : List Declaration) : Type 0 w
   pub has : HasTree (symbols_of tokens) tree
   pub within : IsWithinLimits tree
 
--- Says that the tokens of a text are rejected with the given fault: the meaning of the fault's code
--- holds at its source position.
+-- Says that the tokens of a text are rejected with the given fault: the meaning of the fault's code holds at its source position.
 pub record IsRefused (text : List ℕ) (tokens : List Token) (fault : Fault) : Type 0 where
   pub refusal : Refusal
   pub refused : symbols.IsRefused (symbols_of tokens) refusal
   pub is : fault ≡ fault_of (end_of text) refusal
 
--- Says that the tokens have a parse tree, and that the given token is the first one to break the
--- given limit.
+-- Says that the tokens have a parse tree, and that the given token is the first one to break the given limit.
 pub record BreaksLimit (tokens : List Token) (refusal : Refusal) : Type 0 where
   pub front : List Symbol
   pub symbol : Symbol

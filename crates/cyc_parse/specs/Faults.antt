@@ -16,8 +16,7 @@ pub data Reason : Type 0 where
   -- The item that begins at the rejected symbol exceeds the maximal number of items of its list.
   TooLong : Reason
 
--- A rejection has a reason and the symbols left; it is located at the first symbol left, or at the end of
--- the text.
+-- A rejection has a reason and the symbols left; it is located at the first symbol left, or at the end of the text.
 pub record Refusal : Type 0 where
   pub reason : Reason
   pub left : List Symbol
@@ -29,8 +28,7 @@ code_of Unexpected (t ∷ ts) = codes.UnexpectedToken
 code_of TooDeep ts = codes.NestingTooDeep
 code_of TooLong ts = codes.ListTooLong
 
--- Returns the source position of the first of the given symbols, or the end of the text if there is
--- none.
+-- Returns the source position of the first of the given symbols, or the end of the text if there is none.
 abbrev pub place_at : Place → List Symbol → Place
 place_at end [] = end
 place_at end (t ∷ ts) = t.place

@@ -1,4 +1,4 @@
--- definitions that the contract of `parse` and the laws use
+-- Definitions that the contract of `parse` and the laws of the parser use.
 pub mod Acceptance
 pub mod Refusals
 pub mod Faults

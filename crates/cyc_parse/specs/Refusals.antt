@@ -8,16 +8,14 @@ use Rattle.cyc_syntax.specs.Yields.{Leaf, Yield, program}
 use Rattle.cyc_syntax.specs.Grammar.{HasTree, IsWithin, max_nesting, max_items}
 use Rattle.cyc_parse.specs.Faults.{Reason, Unexpected, TooDeep, TooLong, Refusal}
 
--- Says that a leaf breaks the limit of the given reason. If a leaf breaks both limits, the nesting
--- is reported.
+-- Says that a leaf breaks the limit of the given reason. If a leaf breaks both limits, the nesting is reported.
 abbrev pub Breaks : Reason → Leaf → Type 0
 Breaks TooDeep leaf = max_nesting < leaf.nesting
 -- The leaf's item exceeds the maximal number of items of its list or operator chain.
 Breaks TooLong leaf = (leaf.nesting ≤ max_nesting) × (max_items < leaf.item)
 Breaks Unexpected leaf = ⊥
 
--- Says that the leaf after the first `count` leaves breaks the limit, and that the leaves before it
--- keep the limits.
+-- Says that the leaf after the first `count` leaves breaks the limit, and that the leaves before it keep the limits.
 pub record BreaksFirst (why : Reason) (leaves : Yield) (count : ℕ) : Type 0 where
   pub before : Yield
   pub leaf : Leaf
@@ -48,7 +46,7 @@ region_of_terminal (Mark s) = None
 abbrev pub begins_region : Terminal → Bool
 begins_region t = is_some (region_of_terminal t)
 
--- true if the next symbol is a region
+-- Returns true if the next symbol is a region.
 abbrev pub region_next : List Symbol → Bool
 region_next symbols = starts begins_region (next symbols)
 
@@ -62,13 +60,11 @@ IsAlike symbol back more = symbol.terminal ≡ Mark signs.Less → region_next m
 abbrev pub IsBegun : List Symbol → Symbol → Type 0
 IsBegun front symbol = (more : List Symbol) × (tree : List Declaration) × HasTree (front ++ symbol ∷ more) tree
 
--- Defines the meaning of a rejection's reason, given the symbols before the rejected one and the
--- symbols left.
+-- Defines the meaning of a rejection's reason, given the symbols before the rejected one and the symbols left.
 abbrev pub Holds : Reason → List Symbol → List Symbol → Type 0
 -- If no symbol is left, `Unexpected` means that no program ends at the end of the text.
 Holds Unexpected front [] = (tree : List Declaration) → HasTree front tree → ⊥
--- If a symbol is left, `Unexpected` means that no program begins with the symbols up to and
--- including it.
+-- If a symbol is left, `Unexpected` means that no program begins with the symbols up to and including it.
 Holds Unexpected front (symbol ∷ back) = (more : List Symbol) (tree : List Declaration) → HasTree (front ++ symbol ∷ more) tree → ⊥
 -- At the end of the text no limit is broken.
 Holds TooDeep front [] = ⊥
@@ -80,8 +76,7 @@ Holds TooLong front [] = ⊥
 -- the first to break a limit: it begins an item too many.
 Holds TooLong front (symbol ∷ back) = IsBegun front symbol × ((more : List Symbol) (tree : List Declaration) → IsAlike symbol back more → HasTree (front ++ symbol ∷ more) tree → BreaksFirst TooLong (program tree) (length front))
 
--- Says that the symbols are rejected at the first symbol left, or at their end, for a reason that
--- holds.
+-- Says that the symbols are rejected at the first symbol left, or at their end, for a reason that holds.
 pub record IsRefused (symbols : List Symbol) (refusal : Refusal) : Type 0 where
   pub front : List Symbol
   pub are : symbols ≡ front ++ refusal.left

@@ -260,8 +260,7 @@ impl<'a> Parser<'a> {
     }
 }
 
-/// Returns the rejection for the given reason if an item begins at the next symbol; otherwise the
-/// symbol is unexpected.
+/// Returns the rejection for the given reason if an item begins at the next symbol; otherwise the symbol is unexpected.
 pub(crate) fn refusal(begins: bool, why: Reason) -> Stop
     ensures { result ≡ Refused (if begins then why else reasons.Unexpected) }
 {

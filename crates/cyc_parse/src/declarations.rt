@@ -1,5 +1,4 @@
-//! The parser of declarations and of programs. A declaration stands at nesting depth zero, so its own brackets
-//! are the first nesting level.
+//! The parser of declarations and of programs. A declaration stands at nesting depth zero, so its own brackets are the first nesting level.
 ghost use Rattle.std.specs.Prelude.{◌≡◌, ℕ, suc, map, option_map};
 ghost use Rattle.cyc_syntax.specs.inside.TreeView.{place_of_span, view_name, view_type, view_member, view_constructor, view_value, view_constraint};
 ghost use Rattle.cyc_syntax.specs.inside.TreeView.{view_list, view_parameters, view_declaration};
@@ -22,7 +21,7 @@ use cyc_syntax::{
 };
 use cyc_words::Span;
 
-/// The largest number of levels of nesting.
+/// The maximal number of nesting levels.
 const MAX_NESTING: u32 = 200;
 
 impl<'a> Parser<'a> {

@@ -17,7 +17,7 @@ use crate::symbol::Terminal;
 use cyc_syntax::{Clause, Ident, Item, Keyword, Sign, Stmt};
 use cyc_words::Span;
 
-/// The clauses of a `catch`, and the items of its default clause, if it has one.
+/// The clauses of a `catch`, and the items of its default clause, if the `catch` has a default clause.
 #[derive(Drop)]
 struct Handlers {
     clauses: Vec<Clause>,
@@ -59,8 +59,7 @@ impl<'a> Parser<'a> {
         Ok(Some(variable))
     }
 
-    /// Parses the start of a catch clause up to its colon, if a clause comes next: its exception, and its variable if
-    /// it has one.
+    /// Parses the start of a catch clause up to its colon, if a clause comes next: its exception, and its variable if it has one.
     fn parse_clause_head(&mut self, room: u32) -> Result<Option<(Ident, Option<Ident>)>, Stop>
         ensures { Gives (option_map view_clause_head) result (clause_head room (nested_statements room) self.old) self.new }
     {

@@ -325,8 +325,7 @@ impl<'a> Parser<'a> {
         })
     }
 
-    /// Parses an operand, given the prefix operator that its first sign (punctuation token)
-    /// denotes, if any.
+    /// Parses an operand, given the prefix operator that its first sign (punctuation token) denotes, if any.
     #[cycle(expression)]
     fn parse_prefixed_by(
         &mut self,

@@ -185,8 +185,7 @@ impl<'a> Parser<'a> {
         self.climb_level(room, level - 1, most, first)
     }
 
-    /// Extends an operand by the operators of the level above `below`, and then of the levels above that
-    /// one.
+    /// Extends an operand by the operators of the level above `below`, and then of the levels above that one.
     #[cycle(expression)]
     fn climb_level(
         &mut self,
@@ -253,8 +252,7 @@ fn binary_operator(sign: Sign) -> Option<BinaryOperator>
     }
 }
 
-/// Returns the level of the binary operator that a sign (punctuation token) denotes, counted from the
-/// tightest; 0 if it denotes none.
+/// Returns the level of the binary operator that a sign (punctuation token) denotes, counted from the tightest; 0 if it denotes none.
 fn level_of(sign: Sign) -> u32
     ensures within { (below most : ℕ) → level_within below most (binary_operator sign)
         ≡ (if nat_lt below result && nat_le result most then Some result else None) }
@@ -275,8 +273,7 @@ fn level_of(sign: Sign) -> u32
     }
 }
 
-/// Returns the level of the binary operator that a sign (punctuation token) denotes, if the level is above
-/// `below` and at most `most`.
+/// Returns the level of the binary operator that a sign (punctuation token) denotes, if the level is above `below` and at most `most`.
 fn level_between(sign: Sign, below: u32, most: u32) -> Option<u32>
     ensures value { result ≡ level_within below most (binary_operator sign) }
     ensures within { IfSome result (λ k. (below < k) × (k ≤ most)) }

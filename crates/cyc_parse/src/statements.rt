@@ -220,7 +220,7 @@ impl<'a> Parser<'a> {
         Ok(Some(self.parse_expression_here(room)?))
     }
 
-    /// Parses the rest of a `return` statement.
+    /// Parses the rest of a `return` statement, after the keyword.
     fn parse_return(&mut self, room: u32, span: Span) -> Result<Stmt, Stop>
         ensures { Gives view_statement result (return_statement room (nested_statements room) (place_of_span span) self.old) self.new }
     {
@@ -310,8 +310,7 @@ pub(crate) fn inside(room: u32) -> u32
     room.saturating_sub(1)
 }
 
-/// Returns true if an expression is an operand with its prefixes and postfixes; both sides of a swap must be
-/// such operands.
+/// Returns true if an expression is an operand with its prefixes and postfixes; both sides of a swap must be such operands.
 fn is_unary(value: &Expr) -> bool
     ensures { result ≡ is_unary (view_expression value.now) }
 {

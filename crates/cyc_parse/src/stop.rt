@@ -4,8 +4,7 @@ ghost use Rattle.cyc_parse.specs.declared.stop.Stop.TheVariants.{Memory};
 
 use std::alloc::{AllocError, AllocFailed};
 
-/// The reason why symbols are rejected. The rejection is located at the first symbol left, or at
-/// the end of the text.
+/// The reason why symbols are rejected. The rejection is located at the first symbol left, or at the end of the text.
 #[derive(Clone, Copy)]
 pub(crate) enum Reason {
     /// No program continues with the rejected symbol, or no program ends at the end of the text.

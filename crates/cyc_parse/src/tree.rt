@@ -145,8 +145,7 @@ impl<'a> Parser<'a> {
         }
     }
 
-    /// Returns the fault for a rejection at the next symbol, in a text that ends at the given
-    /// position.
+    /// Returns the fault for a rejection at the next symbol, in a text that ends at the given position.
     fn fault(&self, reason: Reason, end: Span) -> Fault
         ensures { result ≡ fault_of (place_of_span end) (record { reason = view_reason reason; left = self.now }) }
     {

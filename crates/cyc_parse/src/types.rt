@@ -14,7 +14,7 @@ use crate::symbol::Terminal;
 use cyc_syntax::{BaseType, Ident, Keyword, Pointer, PointerKind, Sign, WrittenType};
 use cyc_words::Span;
 
-/// The largest number of items of a list.
+/// The maximal number of items of a list.
 pub(crate) const MAX_ITEMS: u32 = 64;
 
 impl<'a> Parser<'a> {
@@ -94,8 +94,7 @@ impl<'a> Parser<'a> {
         Ok(Some(self.take_region_name()?))
     }
 
-    /// Returns the kind of pointer that the next symbol denotes, if it is a pointer mark such as
-    /// `*`.
+    /// Returns the kind of pointer that the next symbol denotes, if it is a pointer mark such as `*`.
     fn mark(&self) -> Option<PointerKind>
         ensures { result ≡ mark_at (next self.now) }
     {

@@ -1,19 +1,19 @@
-//! The functions of an image, according to its file of places.
+//! Lists the functions of an image, according to its file of places (the file that maps code addresses to source positions).
 use crate::reading::Table;
 use cyc_image::Stretch;
 use std::fmt;
 
-/// The number of bytes of a word of text.
+/// The number of bytes of one word of an image's text.
 const WORD: u32 = 4;
 
-/// The beginning of a function: its first word.
+/// The beginning of a function in an image's text: its number and the address of its first word.
 #[derive(Clone, Copy)]
 struct Begun {
     number: usize,
     address: u32,
 }
 
-/// Returns true if words of this origin continue the current function.
+/// Returns true if words with the given origin continue the current function.
 fn goes_on(begun: Option<Begun>, number: Option<usize>) -> bool {
     match (begun, number) {
         (Some(begun), Some(number)) => begun.number == number,
@@ -22,7 +22,7 @@ fn goes_on(begun: Option<Begun>, number: Option<usize>) -> bool {
     }
 }
 
-/// Returns the function that begins with words of this origin.
+/// Returns the function that begins with words of the given origin.
 fn begun_at(number: Option<usize>, address: u32) -> Option<Begun> {
     match number {
         Some(number) => Some(Begun { number, address }),
@@ -30,17 +30,18 @@ fn begun_at(number: Option<usize>, address: u32) -> Option<Begun> {
     }
 }
 
-/// Returns the number after this one, or the former number if that is greater.
+/// Returns the function number after `number`, or the number `before` if that is greater.
 fn after(before: usize, number: usize) -> usize {
     before.max(number.saturating_add(1))
 }
 
-/// The functions of an image. `Display` writes a line for each function, in the order of the text: the name, the address and the words.
+/// The functions of an image. `Display` writes a line for each function, in the order of the text: the name, the address and the number
+/// of words.
 #[derive(Drop)]
 pub struct Functions<'a>(pub &'a Table);
 
 impl Functions<'_> {
-    /// Writes the line of a function that ends before this address.
+    /// Writes the line of a function whose words end before the address `end`.
     fn write_line<W: fmt::Write>(
         &self,
         begun: Begun,
@@ -55,7 +56,7 @@ impl Functions<'_> {
         write!(f, "function {named} at {address:08x}, {words} words\n")
     }
 
-    /// Writes the lines of a range of functions without words: their code is inlined at each call.
+    /// Writes the lines of a range of functions that have no words because their code is inlined at each call.
     fn write_empty<W: fmt::Write>(
         &self,
         from: usize,
@@ -69,14 +70,14 @@ impl Functions<'_> {
         Ok(())
     }
 
-    /// Writes the lines of all functions, both those that begin among these stretches and those without words.
+    /// Writes the lines of all functions, both those that begin in one of the given stretches of code and those without words.
     fn write_all<W: fmt::Write>(
         &self,
         stretches: &[Stretch],
         f: &mut fmt::Formatter<W>,
     ) -> fmt::Result {
         let mut begun: Option<Begun> = None;
-        // All functions before this number are written, or have begun.
+        // All functions with numbers below `next` are already written, or have begun.
         let mut next: usize = 0;
         for stretch in stretches {
             let number = stretch.frame_function();

@@ -1,5 +1,5 @@
-//! Files of places: the origin in a program of each word of its image's text, as lines of text. The format of files of places is described
-//! in `docs/PLACES.md`.
+//! Files of places: they state, as lines of text, the source position or other origin of each word of an image's text. The format of files
+//! of places is described in `docs/PLACES.md`.
 #![tactic(auto)]
 
 pub use functions::Functions;

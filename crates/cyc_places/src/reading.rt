@@ -1,4 +1,4 @@
-//! The contents of a file of places.
+//! Reads the contents of a file of places, which maps code addresses to source positions.
 use crate::writing::HEAD;
 use cyc_cli::Shown;
 use cyc_image::{Site, Source, Stretch};
@@ -6,17 +6,17 @@ use cyc_words::Span;
 use std::alloc::{AllocError, Global};
 use std::fmt;
 
-/// A name in a file of places.
+/// The name of a function or exception in a file of places.
 #[derive(Drop)]
 pub struct Named {
     pub name: Vec<u8>,
     pub has_int: bool,
 }
 
-/// The most bytes of a name that are shown, as in messages; three dots stand for the rest of a longer one.
+/// The maximal number of bytes of a name that messages show; three dots stand for the rest of a longer name.
 const MOST_SHOWN: usize = 160;
 
-/// The name as it is shown.
+/// Shows a name; a name that is too long is cut off and ends in three dots.
 impl fmt::Display for Named {
     fn fmt<W: fmt::Write>(&self, f: &mut fmt::Formatter<W>) -> fmt::Result {
         match self.name.get(..MOST_SHOWN) {
@@ -26,22 +26,22 @@ impl fmt::Display for Named {
     }
 }
 
-/// The beginning of a part of a text that stands in another file.
+/// The beginning of a part of the program text that comes from another file.
 #[derive(Drop)]
 pub struct Elsewhere {
     /// The first line of the part, as a line number in the whole text.
     pub first: u32,
-    /// The number of the part's first line in its own file.
+    /// The number of the part's first line in the file that it comes from.
     pub line: u32,
     pub file: Vec<u8>,
 }
 
-/// The contents of a file of places.
+/// The contents of a file of places, which maps code addresses to source positions.
 #[derive(Drop)]
 pub struct Table {
     /// The name of the source file.
     pub source: Vec<u8>,
-    /// The parts of the text that stand in other files, in order.
+    /// The parts of the text that come from other files, in order.
     pub parts: Vec<Elsewhere>,
     pub sum: u64,
     /// The declared exceptions, in the order of their numbers.
@@ -49,11 +49,11 @@ pub struct Table {
     /// The names of the functions, in the order of their numbers.
     pub functions: Vec<Named>,
     pub stretches: Vec<Stretch>,
-    /// The first address after all stretches.
+    /// The first address after all stretches of code.
     pub end: u32,
 }
 
-/// Returns the number that digits in this base write.
+/// Returns the number that a string of digits represents in the given base.
 fn number_in(digits: &[u8], base: u64) -> Option<u64> {
     if digits.is_empty() {
         return None;
@@ -73,17 +73,17 @@ fn number_in(digits: &[u8], base: u64) -> Option<u64> {
     Some(number)
 }
 
-/// Returns the 32-bit number that a word of a line writes.
+/// Returns the 32-bit number that a word of a line represents.
 fn small_in(word: Option<&[u8]>, base: u64) -> Option<u32> {
     u32::try_from(number_in(word?, base)?).ok()
 }
 
-/// Returns the word of this number of a line, counted from 0.
+/// Returns the word with the given number in a line, counted from 0.
 fn word_in(line: &[u8], number: usize) -> Option<&[u8]> {
     line.split(|byte| *byte == b' ').nth(number)
 }
 
-/// Returns the position that two words of a line write, beginning with the one of this number.
+/// Returns the source position that two consecutive words of a line represent, of which the first has the given number.
 fn span_in(line: &[u8], number: usize) -> Option<Span> {
     Some(Span {
         line: small_in(word_in(line, number), 10)?,
@@ -91,7 +91,7 @@ fn span_in(line: &[u8], number: usize) -> Option<Span> {
     })
 }
 
-/// Returns the origin that the words after an address name, and the number of the word after them.
+/// Returns the origin of code that the words after an address state, and the number of the word after them.
 fn source_in(line: &[u8]) -> Option<(Source, usize)> {
     let first = word_in(line, 1);
     if first == Some(b"start") {
@@ -108,7 +108,7 @@ fn source_in(line: &[u8]) -> Option<(Source, usize)> {
     }
 }
 
-/// Returns the call that the last words of a line write, beginning with the one of this number.
+/// Returns the inlined call that the last words of a line represent, beginning with the word of the given number.
 fn site_in(line: &[u8], number: usize) -> Option<Site> {
     if word_in(line, number.saturating_add(4)).is_some() {
         return None;
@@ -119,7 +119,7 @@ fn site_in(line: &[u8], number: usize) -> Option<Site> {
     })
 }
 
-/// Returns the stretch that a line describes.
+/// Returns the stretch of code that a line describes.
 fn stretch_in(line: &[u8], address: u32) -> Option<Stretch> {
     let (source, following) = source_in(line)?;
     let site = match word_in(line, following) {
@@ -134,7 +134,7 @@ fn stretch_in(line: &[u8], address: u32) -> Option<Stretch> {
     })
 }
 
-/// The reason why a file of places was not read.
+/// The reason why a file of places could not be read.
 #[derive(Clone, Copy)]
 pub enum Unread {
     /// The file of places is malformed.
@@ -148,7 +148,7 @@ impl From<AllocError> for Unread {
     }
 }
 
-/// Appends an item to a list.
+/// Appends an item to a list, or reports that memory ran out.
 fn put<T: Drop>(list: &mut Vec<T>, item: T) -> Result<(), Unread> {
     match list.push(item) {
         Ok(()) => Ok(()),
@@ -156,7 +156,7 @@ fn put<T: Drop>(list: &mut Vec<T>, item: T) -> Result<(), Unread> {
     }
 }
 
-/// Returns a name, shortened to its stored length.
+/// Returns a copy of a name from a file of places.
 fn read_name(alloc: Global, name: &[u8], has_int: bool) -> Result<Named, Unread> {
     Ok(Named {
         name: Vec::from_slice(alloc, name)?,
@@ -164,7 +164,8 @@ fn read_name(alloc: Global, name: &[u8], has_int: bool) -> Result<Named, Unread>
     })
 }
 
-/// Returns the part of a text that a line is of: its words are two numbers and a name, which may have spaces.
+/// Returns the part of the text that a line describes: after its first word, the line has two numbers and a
+/// file name, which may contain spaces.
 fn part_in(alloc: Global, line: &[u8]) -> Result<Elsewhere, Unread> {
     let first = small_in(word_in(line, 1), 10).ok_or(Unread::Malformed)?;
     let begin = small_in(word_in(line, 2), 10).ok_or(Unread::Malformed)?;
@@ -184,7 +185,7 @@ fn part_in(alloc: Global, line: &[u8]) -> Result<Elsewhere, Unread> {
 }
 
 impl Table {
-    /// The file in which a place of the text stands, and its line there.
+    /// Returns the file that a line of the whole text comes from, and the line's number in that file.
     pub fn home_of(&self, line: u32) -> (&[u8], u32) {
         let after = self.parts.partition_point(|part| part.first <= line);
         match after.checked_sub(1).and_then(|last| self.parts.get(last)) {
@@ -196,7 +197,7 @@ impl Table {
         }
     }
 
-    /// Adds the contents of one line after the first.
+    /// Adds the contents of one line to the table; the line is not the file's first line.
     fn add(&mut self, alloc: Global, line: &[u8]) -> Result<(), Unread> {
         let name = word_in(line, 1).unwrap_or(b"");
         match word_in(line, 0) {
@@ -228,7 +229,7 @@ impl Table {
     }
 }
 
-/// Returns the contents of a file of places.
+/// Reads a file of places, and returns its contents.
 pub fn table_in(alloc: Global, file: &[u8]) -> Result<Table, Unread> {
     let mut table = Table {
         source: Vec::new(alloc),

@@ -1,22 +1,22 @@
-//! Writes the file of places of an image.
+//! Writes the file of places of an image, which maps code addresses to source positions.
 use cyc_cli::Shown;
 use cyc_image::{Places, Site, Source, Stretch};
 use cyc_syntax::Token;
 use cyc_words::Span;
 use std::fmt;
 
-/// The first line of a file of places.
+/// The first line of a file of places, which names the format.
 pub const HEAD: &[u8] = b"cyclone places 2";
 
-/// The most bytes of a name that are stored.
+/// The maximal number of bytes of a name that a file of places stores.
 const MOST_NAME: usize = 128;
 
-/// Returns a name, shortened to its stored length.
+/// Returns a name, cut off at the maximal length that a file of places stores.
 fn kept_name(name: &[u8]) -> &[u8] {
     &name[..name.len().min(MOST_NAME)]
 }
 
-/// Returns a hash of bytes, by which an image and its file of places are matched (FNV-1a).
+/// Returns a hash of an image's bytes (FNV-1a); the hash serves to match an image with its file of places.
 pub fn sum_of(bytes: &[u8]) -> u64 {
     let mut sum: u64 = 0xcbf2_9ce4_8422_2325;
     for byte in bytes {
@@ -25,38 +25,38 @@ pub fn sum_of(bytes: &[u8]) -> u64 {
     sum
 }
 
-/// The beginning of a part of a text that stands in another file.
+/// The beginning of a part of the program text that comes from another file.
 #[derive(Clone, Copy)]
 pub struct Part<'a> {
     /// The first line of the part, as a line number in the whole text.
     pub first: u32,
-    /// The number of the part's first line in its own file.
+    /// The number of the part's first line in the file that it comes from.
     pub line: u32,
-    /// The name of the file.
+    /// The name of the file that the part comes from.
     pub name: &'a str,
 }
 
-/// The file of places of an image that was compiled from a text. The `Display` form is the text of the file of places.
+/// The file of places of an image that was compiled from a program text. The `Display` form is the content of the file of places.
 #[derive(Drop)]
 pub struct PlacesText<'a> {
     /// The name of the source file.
     pub name: &'a str,
-    /// The parts of the text that stand in other files, in order.
+    /// The parts of the text that come from other files, in order.
     pub parts: &'a [Part<'a>],
     pub text: &'a [u8],
-    /// The tokens of the text, in order.
+    /// The tokens of the program text, in order.
     pub tokens: &'a [Token],
     pub image: &'a [u8],
     pub places: &'a Places,
 }
 
-/// Returns true if a token is before a position.
+/// Returns true if a token begins before the given source position.
 fn is_before(token: &Token, span: Span) -> bool {
     (token.span.line, token.span.column) < (span.line, span.column)
 }
 
 impl PlacesText<'_> {
-    /// Returns the number of the first token that is not before a position.
+    /// Returns the number of the first token that does not begin before the given source position.
     fn number_at(&self, span: Span) -> usize {
         let mut low: usize = 0;
         let mut high = self.tokens.len();
@@ -72,7 +72,7 @@ impl PlacesText<'_> {
         low
     }
 
-    /// Returns the name at a position of the text, shortened to its stored length.
+    /// Returns the name at a source position, cut off at the maximal length that a file of places stores.
     fn name_at(&self, span: Span) -> &[u8] {
         match self.tokens.get(self.number_at(span)) {
             Some(token) => kept_name(self.text.get(token.start..token.end).unwrap_or(b"?")),
@@ -81,7 +81,7 @@ impl PlacesText<'_> {
     }
 }
 
-/// Writes the line of a stretch.
+/// Writes the line of a stretch of code.
 fn write_stretch<W: fmt::Write>(stretch: &Stretch, f: &mut fmt::Formatter<W>) -> fmt::Result {
     write!(f, "{:08x} ", stretch.address)?;
     match stretch.source {

@@ -158,8 +158,7 @@ runs_off_the_end = refl
 
 -- ---- calls
 
--- An example program whose function `f` prints `A` and calls itself with its argument minus 1, down to
--- 0; `main` calls `f(3)`.
+-- An example program whose function `f` prints `A` and calls itself with its argument minus 1, down to 0; `main` calls `f(3)`.
 abbrev recursion : Program
 recursion = record {
   functions =
@@ -179,8 +178,7 @@ recursion_ends = refl
 recursion_prints : output_of (after 40 5 recursion []) ≡ 65 ∷ 65 ∷ 65 ∷ 65 ∷ []
 recursion_prints = refl
 
--- If at most four calls may be active, the fifth call ends the run, and the output is as before
--- this call.
+-- If at most four calls may be active, the fifth call ends the run, and the output is as before this call.
 recursion_is_full : status_of (after 40 4 recursion []) ≡ Ended Full
 recursion_is_full = refl
 
@@ -195,8 +193,7 @@ call_counts_its_argument = refl
 
 -- ---- checks of stack room
 
--- An example program whose `main` checks that the stack has space for a recursive call, and
--- returns.
+-- An example program whose `main` checks that the stack has space for a recursive call, and returns.
 abbrev asking : Program
 asking = program (instructions.Enter 0 ∷ Move 0 (Word 7) ∷ Return 0 ∷ [])
 
@@ -324,8 +321,7 @@ slot_is_loaded_by_its_address = refl
 slot_that_is_not_named_has_no_address : status_of (after 2 1 (program (instructions.AddressOf 0 2 1 ∷ instructions.Load 1 (Slot 0) 4 ∷ Return 1 ∷ [])) []) ≡ Failed
 slot_that_is_not_named_has_no_address = refl
 
--- An example program whose `main` passes the address of its slot 2 to a function that stores a word
--- there.
+-- An example program whose `main` passes the address of its slot 2 to a function that stores a word there.
 abbrev passes_an_address : Program
 passes_an_address = record {
   functions =

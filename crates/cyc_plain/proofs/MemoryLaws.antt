@@ -71,8 +71,7 @@ pinned_is_pinned (i ∷ code) slot pinned = elim (or_cases (pins i slot) (is_pin
 address_of_pins : (destination first count slot : ℕ) → first ≤ slot → slot < first + count → pins (instructions.AddressOf destination first count) slot ≡ true
 address_of_pins destination first count slot from below = and_from (nat_le first slot) (nat_lt slot (first + count)) (le-leb first slot from) (lt-ltb slot (first + count) below)
 
--- If an instruction takes the address of slots, these slots are pinned: loads and stores can access
--- them.
+-- If an instruction takes the address of slots, these slots are pinned: loads and stores can access them.
 pub pinned-at : (code : List Instruction) (index destination first count slot : ℕ) → slice_get code index ≡ Some (instructions.AddressOf destination first count)
     → first ≤ slot → slot < first + count → is_pinned code slot ≡ true
 pinned-at [] index destination first count slot at from below = absurd (let e : None ≡ Some (instructions.AddressOf destination first count) = at in cc)
@@ -121,8 +120,7 @@ below-there program function base (h ∷ frames) zero f (first, rest) at =
     (frames, subst (λ (g : Frame). AreBelow program g.caller.function g.caller.base frames) same rest)
 below-there program function base (h ∷ frames) (suc k) f (first, rest) at = below-there program h.caller.function h.caller.base frames k f rest at
 
--- Loads and stores at the address of a waiting call's slot access this slot, if its address is
--- taken.
+-- Loads and stores at the address of a waiting call's slot access this slot, if its address is taken.
 waiting-hidden : (program : Program) → IsWellFormed program → (h : Frame) (a : ℕ) → h.caller.base + 4 * (routine_at program h.caller.function).slots ≤ a → slot_at program h.caller a ≡ None
 waiting-hidden program well h a past =
     numbered-none (is_pinned (routine_at program h.caller.function).code) h.caller.base a
@@ -181,8 +179,7 @@ length-waiting program (f ∷ frames) a word = go (slot_at program f.caller a) (
     go (Some number) others = refl
     go None others = ap (λ (n : ℕ). suc n) others
 
--- `IsLeft` says that two configurations agree in everything that no store instruction can change,
--- wherever it writes.
+-- `IsLeft` says that two configurations agree in everything that no store instruction can change, wherever it writes.
 pub record IsLeft (c d : Configuration) : Type 0 where
   pub function : d.active.function ≡ c.active.function
   pub next : d.active.next ≡ c.active.next
@@ -245,8 +242,7 @@ stored-word s a word there = go (range_of a) there
     go OfStore found = found
     go OfSlots found = absurd (let e : None ≡ Some word = found in cc)
 
--- Loads and stores at the address of a live block's word access this word, whatever else memory
--- contains.
+-- Loads and stores at the address of a live block's word access this word, whatever else memory contains.
 module _ (program : Program) (c : Configuration) (a word : ℕ) (there : store_word c.store a ≡ Some word) where
   in-store : range_of a ≡ OfStore
   in-store = go (range_of a) refl there
@@ -278,8 +274,7 @@ module _ (program : Program) (well : IsWellFormed program) (c : Configuration) w
       ∙ ap (λ (o : Option ℕ). with_global c o word) (global-there number below)
 
   module _ (lie : AreBelow program c.active.function c.active.base c.frames) where
-    -- The address of each slot of the active call belongs to this slot only, if the code takes its
-    -- address.
+    -- The address of each slot of the active call belongs to this slot only, if the code takes its address.
     active-there : (slot : ℕ) → is_pinned (routine_at program c.active.function).code slot ≡ true → slot_at program c.active (c.active.base + 4 * slot) ≡ Some slot
     active-there slot pinned = numbered-there (is_pinned (routine_at program c.active.function).code) c.active.base slot pinned
 
@@ -297,8 +292,7 @@ module _ (program : Program) (well : IsWellFormed program) (c : Configuration) w
         ap (with_word program c (c.active.base + 4 * slot) word) (active-range slot)
         ∙ ap (λ (o : Option ℕ). with_slot program c o (c.active.base + 4 * slot) word) (active-there slot pinned)
 
-    -- The module shows that the address of a waiting call's slot belongs to this slot only, if the
-    -- code takes its address.
+    -- The module shows that the address of a waiting call's slot belongs to this slot only, if the code takes its address.
     module _ (k : ℕ) (f : Frame) (at : slice_get c.frames k ≡ Some f) where
       above : c.active.base + 4 * (routine_at program c.active.function).slots ≤ f.caller.base
       above = below-waiting program c.active.function c.active.base c.frames k f lie at

@@ -1,5 +1,4 @@
--- In every state of a run of a well-formed program, the next instruction of each call lies in its
--- function's code.
+-- In every state of a run of a well-formed program, the next instruction of each call lies in its function's code.
 use Rattle.std.proofs.Common.{◌≡◌, ℕ, zero, suc, ◌+◌, ◌-◌, ◌%◌, ◌<◌, Bool, true, false, List, [], ◌∷◌, length, Option, None, Some, slice_get, refl, sym, ap, subst, ◌∙◌, arith, inl, inr}
 use Rattle.std.proofs.lemmas.Bool.{cases_lt}
 use Rattle.std.specs.Prelude.{IsSomeAnd, ◌==◌, if◌then◌else◌, ◌⊎◌}
@@ -62,8 +61,7 @@ goes_after program r place i routine at stays =
 abbrev pub IsPlacedAt : Program → (function next : ℕ) → Type 0
 IsPlacedAt program function next = (function < length program.functions) × (next < length (routine_at program function).code)
 
--- `ArePlaced` says that the instructions at which exceptions arrive at the open handlers lie in the
--- function's code.
+-- `ArePlaced` says that the instructions at which exceptions arrive at the open handlers lie in the function's code.
 abbrev pub ArePlaced : Program → (function : ℕ) → List Handler → Type 0
 ArePlaced program function [] = Unit {0}
 ArePlaced program function (Open index first contents ∷ handlers) =
@@ -73,8 +71,7 @@ ArePlaced program function (Caught ∷ handlers) = ArePlaced program function ha
 abbrev pub IsWaiting : Program → Frame → Type 0
 IsWaiting program f = IsPlacedAt program f.caller.function f.caller.next × ArePlaced program f.caller.function f.caller.handlers
 
--- `IsPlaced` says that the next instructions of the active call and of each waiting call lie in
--- their functions' code.
+-- `IsPlaced` says that the next instructions of the active call and of each waiting call lie in their functions' code.
 abbrev pub IsPlaced : Program → State → Type 0
 IsPlaced program (Running c) =
     IsPlacedAt program c.active.function c.active.next × ArePlaced program c.active.function c.active.handlers × AllByRecursion (IsWaiting program) c.frames

@@ -1,5 +1,4 @@
--- `Enter` checks for stack space: it continues if a call of its function would be allowed, and
--- otherwise ends the run.
+-- `Enter` checks for stack space: it continues if a call of its function would be allowed, and otherwise ends the run.
 use Rattle.std.proofs.Common.{◌≡◌, ℕ, suc, ◌-◌, ◌≤◌, ◌<◌, true, false, length, Some, ap, ◌∙◌, arith}
 use Rattle.std.specs.Prelude.{nat_le, ◌&&◌}
 use Rattle.std.proofs.lemmas.Bool.{le-leb, leb-true, and_from, and_parts, false_from_ne_true}
@@ -11,8 +10,7 @@ use Rattle.cyc_plain.specs.inside.State.{Configuration, State, Running, Ended, p
 use Rattle.cyc_plain.specs.inside.Step.{Choice, advanced, performed, executed, instruction_at, is_within, limit_of, limited, Step}
 use Rattle.cyc_plain.proofs.RunLaws.{limited-within, limited-full}
 
--- The state after `Enter` is within the limit for `Enter` exactly if the state after the call would be
--- within the run's limit.
+-- The state after `Enter` is within the limit for `Enter` exactly if the state after the call would be within the run's limit.
 pub as_called : (program : Program) (pages calls : ℕ) (choice other : Choice) (c : Configuration) (function arguments count result : ℕ)
     → is_within pages (limit_of (Some (instructions.Enter function)) calls) (performed program choice c (instructions.Enter function))
     ≡ is_within pages calls (performed program other c (instructions.Call function arguments count result))

@@ -25,8 +25,7 @@ use Rattle.cyc_plain.specs.inside.Step.{Choice, IsAllowed, MayServe, MayLie, giv
 use Rattle.cyc_plain.specs.inside.Step.{call_in, call_of, asked, callee_of, called, performed, executed, instruction_at, step, is_within, limit_of, limit_at, limited, limited_step, Step, start, machine}
 use Rattle.cyc_words.proofs.Simulation.{Run-grows, Run-stays}
 
--- Returns true if an instruction calls neither a function nor the store, and does not check for
--- stack space.
+-- Returns true if an instruction calls neither a function nor the store, and does not check for stack space.
 abbrev pub calls_nothing : Instruction → Bool
 calls_nothing (instructions.Ask request) = false
 calls_nothing (instructions.Call function arguments count result) = false
@@ -41,8 +40,7 @@ over_within pages calls ending output input = and_from _ _ (le-leb 0 pages (omeg
 pub stuck_within : (pages calls : ℕ) (output input : List ℕ) → is_within pages calls (Stuck output input) ≡ true
 stuck_within pages calls output input = and_from _ _ (le-leb 0 pages (omega arith)) (le-leb 0 calls (omega arith))
 
--- A state that is within a limit of calls is within every higher limit. No instruction raises the
--- limit.
+-- A state that is within a limit of calls is within every higher limit. No instruction raises the limit.
 pub within_more : (pages less more : ℕ) (s : State) → less ≤ more → is_within pages less s ≡ true → is_within pages more s ≡ true
 within_more pages less more s over within =
     let (paged, some) = and_parts (nat_le (demand s) pages) (nat_le (depth s) less) within in
@@ -63,16 +61,14 @@ pub limit_free : (i : Instruction) (calls : ℕ) → calls_nothing i ≡ true �
 limit_free (instructions.Enter function) calls free = absurd (let e : false ≡ true = free in cc)
 limit_free i calls free = refl
 
--- A step to a state within the limits is the step without limits. A step to any other state ends
--- the run instead.
+-- A step to a state within the limits is the step without limits. A step to any other state ends the run instead.
 pub limited-within : (pages calls : ℕ) (old new : State) → is_within pages calls new ≡ true → limited pages calls old new ≡ new
 limited-within pages calls old new within = ap (λ (b : Bool). if b then new else Ended Full (output_of old) (input_of old)) within
 
 pub limited-full : (pages calls : ℕ) (old new : State) → is_within pages calls new ≡ false → limited pages calls old new ≡ Ended Full (output_of old) (input_of old)
 limited-full pages calls old new within = ap (λ (b : Bool). if b then new else Ended Full (output_of old) (input_of old)) within
 
--- A property holds after a limited step if it holds after the step without limits and in the state
--- that ends the run.
+-- A property holds after a limited step if it holds after the step without limits and in the state that ends the run.
 pub limited_either : (P : State → Type 0) (pages calls : ℕ) (old new : State) → (is_within pages calls new ≡ true → P new) → P (Ended Full (output_of old) (input_of old)) → P (limited pages calls old new)
 limited_either P pages calls old new first second = go (is_within pages calls new) refl
   where
@@ -86,8 +82,7 @@ pub if_either : (P : State → Type 0) (b : Bool) (s t : State) → P s → P t 
 if_either P true s t first second = first
 if_either P false s t first second = second
 
--- An instruction that prints nothing leaves the output unchanged, and the remaining input is a suffix of
--- the input before.
+-- An instruction that prints nothing leaves the output unchanged, and the remaining input is a suffix of the input before.
 abbrev Shrinks : List ℕ → List ℕ → Type 0
 Shrinks old new = (read : List ℕ) × (old ≡ read ++ new)
 
@@ -220,8 +215,7 @@ limited_steps program pages calls old new (choice, allowed, is) =
 
 -- ---- ended runs
 
--- Returns a choice of zeros, which is allowed for a step that calls neither a function nor the
--- store.
+-- Returns a choice of zeros, which is allowed for a step that calls neither a function nor the store.
 abbrev pub zeros : Choice
 zeros = record {
   contents = λ (slot : ℕ). 0;
@@ -296,8 +290,7 @@ calling_asks slots None function calls = refl
 calling_asks slots (Some (instructions.Ask request)) function calls = absurd (let e : None ≡ Some function = calls in cc)
 calling_asks slots (Some i) function calls = refl
 
--- A call of a function allows the choice of any address below the caller's slots with space for the
--- callee's slots.
+-- A call of a function allows the choice of any address below the caller's slots with space for the callee's slots.
 pub called_at : (program : Program) (c : Configuration) (function : ℕ) (choice : Choice) → called program (Running c) ≡ Some function → AreWords choice.contents
     → IsBelow program function choice.base c.active.base → IsAllowed program (Running c) choice
 called_at program c function choice calls contents below = record {

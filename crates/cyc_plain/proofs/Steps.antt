@@ -20,8 +20,7 @@ use Rattle.cyc_plain.specs.inside.State.{Configuration, State, Running, Ended, p
 use Rattle.cyc_plain.specs.inside.Step.{Choice, IsAllowed, IsServed, MayServe, call_in, call_of, served_to, asks, performed, executed, instruction_at, step, is_within, limit_of, limit_at, limited, limited_step, Step}
 use Rattle.cyc_plain.proofs.RunLaws.{limited-within, over_within}
 
--- If the instruction is known and its effect is within the limits for every choice, each step has
--- this effect.
+-- If the instruction is known and its effect is within the limits for every choice, each step has this effect.
 pub step_performs : (program : Program) (pages calls : ℕ) (c : Configuration) (i : Instruction) (new : State)
     → instruction_at program (place_of (Running c)) ≡ Some i
     → ((choice : Choice) → is_within pages (limit_of (Some i) calls) (performed program choice c i) ≡ true)

@@ -1,5 +1,4 @@
--- Straight-line code runs to the configuration that the code determines, and executes no
--- instruction twice.
+-- Straight-line code runs to the configuration that the code determines, and executes no instruction twice.
 use Rattle.std.proofs.Common.{◌≡◌, ◌≢◌, ℕ, zero, suc, ◌+◌, ◌<◌, true, false, List, [], ◌∷◌, ◌++◌, length, Some, slice_get, refl, sym, ap, subst, ◌∙◌, arith, length-append, append_assoc}
 use Rattle.std.specs.List.{AllByRecursion}
 use Rattle.cyc_words.specs.Distinct.{IsDistinct}
@@ -118,14 +117,12 @@ module _ (program : Program) (pages calls : ℕ) (choice : Choice) where
   places_same c d count k =
       ap (λ f. places_after f d.active.next count) k.function ∙ ap (λ n. places_after c.active.function n count) k.next
 
-  -- A straight-line instruction does not check for stack space, so it leaves the limit of calls
-  -- unchanged.
+  -- A straight-line instruction does not check for stack space, so it leaves the limit of calls unchanged.
   no_more : (i : Instruction) → is_straight i ≡ true → limit_of (Some i) calls ≡ calls
   no_more (instructions.Enter function) straight = absurd (let e : false ≡ true = straight in cc)
   no_more i straight = refl
 
-  -- A step with a straight-line instruction leads to the configuration that the instruction
-  -- determines.
+  -- A step with a straight-line instruction leads to the configuration that the instruction determines.
   goes : (c : Configuration) (i : Instruction) (new : State) → is_straight i ≡ true → At (routine_at program c.active.function).code c.active.next i → IsWithin c
       → Step program pages calls (Running c) new → new ≡ Running (after c i)
   goes c i new straight at within step =

@@ -17,8 +17,7 @@ use Rattle.cyc_plain.specs.inside.Step.{Choice, IsAllowed, IsServed, MayServe, c
 use Rattle.cyc_plain.specs.inside.Uniform.{AsksNoRoom, UniformStep, uniform_machine}
 use Rattle.cyc_plain.proofs.RunLaws.{limited-within, over_within, lawful}
 
--- On the uniform machine, if the instruction is known and its effect is within the limits for every
--- choice, each step has this effect.
+-- On the uniform machine, if the instruction is known and its effect is within the limits for every choice, each step has this effect.
 pub uniform_performs : (program : Program) (pages calls : ℕ) (c : Configuration) (i : Instruction) (new : State)
     → instruction_at program (place_of (Running c)) ≡ Some i
     → ((choice : Choice) → is_within pages calls (performed program choice c i) ≡ true)
@@ -90,7 +89,6 @@ module _ (program : Program) (none : AsksNoRoom program) (pages calls : ℕ) whe
     way met now (inl u) = inl (record { places = u.places; state = u.state; path = u.path; running = u.running; goes_on = u.goes_on; ahead = u.ahead; following = u.following; cost = u.cost })
     way met now (inr o) = inr (record { places = o.places; state = o.state; path = o.path; ending = o.ending; ended = o.ended; over = o.over; seen = o.seen })
 
-    -- A simulation proved for the machine with uniform limits of calls also holds for the plain
-    -- machine itself.
+    -- A simulation proved for the machine with uniform limits of calls also holds for the plain machine itself.
     pub follows_uniform : Follows above (uniform_machine program pages calls) before own start from → Follows above (machine program pages calls) before own start from
     follows_uniform f = record { runs = λ met now path. way met now (f.runs met now (path_uniform met from now path)) }

@@ -281,8 +281,7 @@ words_step program choice (Running c) words allowed (slots, frames, globals, sto
 words_step program choice (Ended ending output input) words allowed holds = tt
 words_step program choice (Stuck output input) words allowed holds = tt
 
--- If the program, the store and the input contain only machine words, every value in a run is a
--- machine word.
+-- If the program, the store and the input contain only machine words, every value in a run is a machine word.
 pub words_stay : (program : Program) (pages calls n : ℕ) (old new : State) → HasWords program → HoldsWords old → Run (machine program pages calls) n old new → HoldsWords new
 words_stay program pages calls zero old new words holds run = subst HoldsWords (sym run) holds
 words_stay program pages calls (suc n) old new words holds (mid, (choice, allowed, is), rest) =

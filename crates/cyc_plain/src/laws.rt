@@ -87,8 +87,7 @@ pub fn room_is_asked()
         ≡ is_within pages calls (performed program other c (instructions.Call function arguments count result)) }
 {}
 
-/// A program without `Enter` has the same steps as on the machine whose limit of calls is the same at each
-/// instruction.
+/// A program without `Enter` has the same steps as on the machine whose limit of calls is the same at each instruction.
 pub fn room_is_not_asked()
     ensures uniform { (program : Program) (pages calls : ℕ) (old new : State) → AsksNoRoom program
         → Step program pages calls old new → UniformStep program pages calls old new }
@@ -123,16 +122,14 @@ pub fn few_get_stuck()
         → DividesByZero program old ⊎ (AsksForNoWord program old ⊎ (AsksInVain program old ⊎ AsksForHandlers program old)) }
 {}
 
-/// If all numbers of a program, its store and its input are machine words and bytes, every value in a run of
-/// the program is a machine word.
+/// If all numbers of a program, its store and its input are machine words and bytes, every value in a run of the program is a machine word.
 pub fn values_are_words()
     ensures { (program : Program) (pages calls count base : ℕ) (store : StoreState) (input : List ℕ) (new : State) → HasWords program
         → stores.AreWords store.memory → AllByRecursion (λ b. b < 256) input → Run (machine program pages calls) count (start program base store input) new
         → HoldsWords new }
 {}
 
-/// In each state of a run, the slots of each call lie below those of its caller, if the slots of `main` lie in the range of
-/// slots.
+/// In each state of a run, the slots of each call lie below those of its caller, if the slots of `main` lie in the range of slots.
 pub fn calls_lie_apart()
     ensures { (program : Program) (pages calls count base : ℕ) (store : StoreState) (input : List ℕ) (new : State)
         → IsBelow program program.main base slots_end → Run (machine program pages calls) count (start program base store input) new → LieBelow program new }

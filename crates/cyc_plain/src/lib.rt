@@ -1,6 +1,5 @@
-//! The plain program is the intermediate representation between source and machine code. A plain program has functions with numbered
-//! slots of words, three-address instructions, and explicit branches for all checks. The meaning of a plain program is defined in
-//! `specs/`.
+//! The plain program is the intermediate representation between source and machine code. A plain program has functions with numbered slots
+//! of words, three-address instructions, and explicit branches for all checks. The meaning of a plain program is defined in `specs/`.
 #![tactic(auto)]
 
 pub mod instruction;

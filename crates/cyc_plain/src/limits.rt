@@ -18,6 +18,5 @@ pub const GLOBALS_BASE: u32 = 0x1000_0000;
 /// The most words of globals that can be addressed: 4 megabytes.
 pub const MOST_GLOBALS: usize = 1_048_576;
 
-/// The most words of machine code of all functions together, as `size` counts them: 120 for each token that a
-/// text may have.
+/// The most words of machine code of all functions together, as `size` counts them: 120 for each token that a text may have.
 pub const MOST_SIZE: usize = 7_200_000;

@@ -109,8 +109,7 @@ impl Plain {
     }
 }
 
-/// Returns true if a program is well-formed, which the invariant of `Plain` implies for every
-/// program.
+/// Returns true if a program is well-formed, which the invariant of `Plain` implies for every program.
 pub fn well_formed(program: &Plain) -> bool
     ensures { IsTrue result ↔ IsWellFormed program.now }
 {

@@ -19,8 +19,7 @@ use cyc_store::{
 use std::alloc::{AllocError, Global};
 use std::marker::Model;
 
-/// A heap store on an array of words, which grows by pages. The store allocates memory for a page only when the page is
-/// used.
+/// A heap store on an array of words, which grows by pages. The store allocates memory for a page only when the page is used.
 #[derive(Drop)]
 pub struct PlainStore {
     table: PageTable,
@@ -43,8 +42,7 @@ impl Model for PlainStore {
     ghost invariant = { λ s. IsKept s.table s.lexicals.items s.classes s.ledger.blocks };
 }
 
-/// Returns the index of the word at an address, if the word is among the store's first `count`
-/// words.
+/// Returns the index of the word at an address, if the word is among the store's first `count` words.
 #[inline]
 fn number_below(count: usize, address: u32) -> Option<usize>
     requires { count ≤ 0x400_0000 }
@@ -261,8 +259,7 @@ impl PlainStore {
         Ok(())
     }
 
-    /// Allocates a unique block in a free slot of the given size class, and returns the block's
-    /// address.
+    /// Allocates a unique block in a free slot of the given size class, and returns the block's address.
     fn fill(&mut self, class: u32) -> u32
         requires class { class ≤ 10 }
         requires some { HasSlot (held_of self.old) class }
@@ -292,8 +289,7 @@ impl PlainStore {
         Ok(self.fill(class))
     }
 
-    /// Returns the first word and the size class of the live unique block that begins at the given
-    /// address.
+    /// Returns the first word and the size class of the live unique block that begins at the given address.
     fn slot_of(&self, address: u32) -> Option<(u32, u32)>
         ensures { MatchOption result (lookup address_of self.now.blocks.unique address ≡ None)
             (λ slot. (address ≡ STORE_BASE + 4 * slot.0) × (lookup address_of self.now.blocks.unique address

@@ -1,5 +1,4 @@
--- An instruction has equal effects in two programs with equal numbers of results and with the same slots whose
--- address is taken.
+-- An instruction has equal effects in two programs with equal numbers of results and with the same slots whose address is taken.
 use Rattle.std.proofs.Common.{◌≡◌, ℕ, suc, ◌+◌, ◌*◌, ◌-◌, ◌/◌, ◌%◌, Bool, ◌&&◌, ◌||◌, List, [], ◌∷◌, length, Option, Some, None, slice_get, refl, ap, ◌∙◌, arith}
 use Rattle.std.specs.Prelude.{◌==◌, if◌then◌else◌}
 use Rattle.cyc_words.specs.Word.{add_of}
@@ -11,8 +10,7 @@ use Rattle.cyc_plain.specs.inside.State.{Activation, Frame, Configuration, Runni
 use Rattle.cyc_plain.specs.inside.Memory.{pins, is_pinned, global_at, slot_at, word_or, word_waiting, put_or, with_waiting, Range, OfGlobals, OfStore, OfSlots, range_of, word_in, memory_at, with_global, with_slot, with_word, with_memory}
 use Rattle.cyc_plain.specs.inside.Step.{Choice, operand_word, returns, finishes, loads, saves, loads_byte, saves_byte, advanced, performed}
 
--- If corresponding instructions of two codes take the addresses of the same slots, the two codes take the
--- addresses of the same slots.
+-- If corresponding instructions of two codes take the addresses of the same slots, the two codes take the addresses of the same slots.
 pub pinned_alike : (slot : ℕ) (code others : List Instruction) → length others ≡ length code
     → ((index : ℕ) (i : Instruction) → slice_get code index ≡ Some i → (j : Instruction) × (slice_get others index ≡ Some j) × (pins j slot ≡ pins i slot))
     → is_pinned others slot ≡ is_pinned code slot

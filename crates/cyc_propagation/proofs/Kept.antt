@@ -141,8 +141,7 @@ module _ (program simplified : Program) (replaced : (function : ℕ) → IsRepla
         go (Some number) goes_on = (goes_on, handling, waiting)
         go None goes_on = (goes_on, handling, states.waiting_written program simplified replaced c.active.function c.frames address word waiting)
 
-    -- A store instruction changes memory, and at most one slot of the active call, whose address is
-    -- taken.
+    -- A store instruction changes memory, and at most one slot of the active call, whose address is taken.
     module _ (address word : ℕ) where
       abbrev after_store : Configuration
       after_store = advanced (with_memory program c address word)
@@ -178,8 +177,7 @@ module _ (program simplified : Program) (replaced : (function : ℕ) → IsRepla
           fact_free between (scene_of program after_store) slots_free free_left (λ other. refl) fact suits
           (ap (memory_at program after_store) (sym is_address) ∙ memory_after address ∙ memory_there program c address word before there ∙ ap Some is_word))
 
-    -- A return writes the result slots of the newest waiting call, and the facts of this call are
-    -- true afterwards.
+    -- A return writes the result slots of the newest waiting call, and the facts of this call are true afterwards.
     returned : (value results : ℕ) (frames : List Frame) → results ≡ (routine_at program c.active.function).results → AreWaiting c.active.function frames → IsKnown (returns c value results frames)
     returned value results [] same calls = tt
     returned value results (f ∷ frames) same (stands, rest) =
@@ -231,8 +229,7 @@ module _ (program simplified : Program) (replaced : (function : ℕ) → IsRepla
       };
     }
 
-    -- No fact is required where an exception reaches a handler, so `Try` keeps all facts of the
-    -- tables true.
+    -- No fact is required where an exception reaches a handler, so `Try` keeps all facts of the tables true.
     tried : (first handler : ℕ) (handlers : List Handler) → AreOpen c.active.function handlers → here ≡ []
         → ((new : Scene) → AreTrueIn new (facts_in c.active.function (c.active.next + 1))) → ((new : Scene) → AreTrueIn new (facts_in c.active.function handler))
         → IsKnown (tries choice c first handler handlers)
@@ -345,16 +342,14 @@ module _ (program simplified : Program) (replaced : (function : ℕ) → IsRepla
         goes choice c i at holds handling waiting next new led
         (subst (λ (facts : List Fact). AreTrueIn new (kept (written program i) (touched pins i) facts)) (sym ((replaced c.active.function).is_table.tries c.active.next first handler at)) tt) tt
 
-    -- The facts known after an instruction are true if the instruction writes an unknown word to a
-    -- slot.
+    -- The facts known after an instruction are true if the instruction writes an unknown word to a slot.
     gets_any : (i : Instruction) → here_at i → (d : Configuration) (destination word : ℕ) → IsAlike c d → d.active.slots ≡ put words destination word
         → leads i c.active.next (c.active.next + 1) ≡ true → written program i ≡ record { first = destination; count = 1 } → touched pins i ≡ touched_by pins destination
         → IsMade (scene_of program d) pins i c.active.next (c.active.next + 1) → AreTrueIn (scene_of program d) (facts_in c.active.function (c.active.next + 1))
     gets_any i at d destination word same is led writes touches makes =
         gets i at d destination word same is led writes touches makes
 
-    -- The facts known after an instruction are true if the instruction changes only the output and
-    -- the open handlers.
+    -- The facts known after an instruction are true if the instruction changes only the output and the open handlers.
     goes_by : (i : Instruction) → here_at i → (d : Configuration) → leads i c.active.next (c.active.next + 1) ≡ true → IsAlike c d → d.active.slots ≡ words → touched pins i ≡ touches.Nothing
         → IsMade (scene_of program d) pins i c.active.next (c.active.next + 1) → AreTrueIn (scene_of program d) (facts_in c.active.function (c.active.next + 1))
     goes_by i at d led same is nothing makes =
@@ -416,8 +411,7 @@ module _ (program simplified : Program) (replaced : (function : ℕ) → IsRepla
             (λ free. ap (memory_at program following) (global_at_offset global offset is) ∙ memory-global program well following global below)
         makes None is = tt
 
-    -- A store to a global has the same effect as a store to the global's address, so the facts
-    -- known after it are true.
+    -- A store to a global has the same effect as a store to the global's address, so the facts known after it are true.
     to_global : IsWellFormed program → (global : ℕ) (source : Operand) → global < length program.globals → here_at (instructions.StoreGlobal global source)
         → IsKnown (performed program choice c (instructions.StoreGlobal global source))
     to_global well global source below at = (

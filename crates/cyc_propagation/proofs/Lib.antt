@@ -19,8 +19,7 @@ pub mod Words
 pub mod Sizes
 pub mod Routines
 pub mod Plain
--- the proof that facts about stack space are true, and that dropping redundant checks for stack
--- space keeps the behaviour
+-- the proof that facts about stack space are true, and that dropping redundant checks for stack space keeps the behaviour
 pub mod Rooms
 pub mod Spared
 pub mod Sparing

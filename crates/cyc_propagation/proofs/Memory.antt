@@ -87,8 +87,7 @@ module _ (program : Program) where
         go OfStore OfSlots = refl
         go OfSlots other = slots_other (slot_at program c.active a) refl other
 
-    -- If memory has a word at an address, it has the stored word there after a store to this
-    -- address.
+    -- If memory has a word at an address, it has the stored word there after a store to this address.
     pub memory_there : (old : ℕ) → memory_at program c a ≡ Some old → memory_at program (with_memory program c a word) a ≡ Some word
     memory_there old found = go (range_of a) found
       where
@@ -134,8 +133,7 @@ unnamed_left program c a word slot free = go (range_of a)
 
 -- ---- slots
 
--- `IsAlike` says that two configurations have equal globals, blocks and calls, except for the slots
--- of the active call.
+-- `IsAlike` says that two configurations have equal globals, blocks and calls, except for the slots of the active call.
 pub record IsAlike (c d : Configuration) : Type 0 where
   pub function : d.active.function ≡ c.active.function
   pub base : d.active.base ≡ c.active.base

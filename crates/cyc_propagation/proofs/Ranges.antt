@@ -16,8 +16,7 @@ use Rattle.cyc_propagation.specs.inside.Pins.{is_within, range_of, AreRanges, Ar
 use Rattle.cyc_propagation.specs.inside.Table.{ArePins}
 use Rattle.cyc_propagation.proofs.Truth.{each_free}
 
--- `AreRangesBut` says that each slot whose address is taken lies in a range, or its address is
--- taken by the rest of the code.
+-- `AreRangesBut` says that each slot whose address is taken lies in a range, or its address is taken by the rest of the code.
 abbrev pub AreRangesBut : (code left : List Instruction) → List Written → Type 0
 AreRangesBut code left ranges = (slot : ℕ) → is_pinned code slot ≡ true → (is_within ranges slot ≡ true) ⊎ (is_pinned left slot ≡ true)
 
@@ -43,8 +42,7 @@ within_last (other ∷ ranges) range slot is = or_right (not (leaves_slot other 
     or_right true is = refl
     or_right false is = is
 
--- The range that is computed for an instruction contains the slots whose address the instruction
--- takes.
+-- The range that is computed for an instruction contains the slots whose address the instruction takes.
 pinned_in : (i : Instruction) (slot : ℕ) → pins i slot ≡ true → (range : Written) × (range_of i ≡ Some range) × (leaves_slot range slot ≡ false)
 pinned_in (instructions.AddressOf destination first count) slot is = (record { first = first; count = count }, refl, ap not is)
 pinned_in i slot is = absurd (false≢true is)
@@ -150,8 +148,7 @@ free_below pinned slot free = elim (cases_lt slot (length pinned)) [
   | inr beyond ↦ absurd (false≢true (sym (ap not (slice_index_or_beyond pinned slot beyond)) ∙ free))
 ]
 
--- A range of slots that are all free lies within the slots of the function. (A slot is free if its
--- address is not taken.)
+-- A range of slots that are all free lies within the slots of the function. (A slot is free if its address is not taken.)
 pub free_within : (pinned : List Bool) (first count : ℕ) → are_free pinned first count ≡ true → 0 < count → first + count ≤ length pinned
 free_within pinned first count free some =
     let last : is_free pinned (first + (count - 1)) ≡ true = each_free pinned first count (count - 1) free (omega (arith, some)) in

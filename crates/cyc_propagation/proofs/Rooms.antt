@@ -41,8 +41,7 @@ module _ (program : Program) (rooms : (function index : ℕ) → ℕ) (tables : 
   AreOpened function base depth (Open index first contents ∷ handlers) = HasRoom calls (rooms function index) base depth × AreOpened function base depth handlers
   AreOpened function base depth (Caught ∷ handlers) = AreOpened function base depth handlers
 
-  -- `IsRoomy` says that a call has the stack space that the tables state for its next instruction
-  -- and for its handlers.
+  -- `IsRoomy` says that a call has the stack space that the tables state for its next instruction and for its handlers.
   abbrev IsRoomy : Activation → (depth : ℕ) → Type 0
   IsRoomy a depth = HasRoom calls (rooms a.function a.next) a.base depth × AreOpened a.function a.base depth a.handlers
 
@@ -164,8 +163,7 @@ module _ (program : Program) (rooms : (function index : ℕ) → ℕ) (tables : 
     branched true target there next = ((there, handling), waiting)
     branched false target there next = ((next, handling), waiting)
 
-    -- If an instruction falls through, the stack space stated for the next instruction is available
-    -- there.
+    -- If an instruction falls through, the stack space stated for the next instruction is available there.
     on : (i : Instruction) → StandsHere i → room_of (slots_in program) i ≡ 0 → leads i c.active.next (c.active.next + 1) ≡ true → HasRoomAt (c.active.next + 1)
     on i at none led = room_led i at (subst (λ (room : ℕ). HasRoom calls room c.active.base (suc (length c.frames))) (sym none) tt) (c.active.next + 1) led
 

@@ -1,5 +1,4 @@
--- A function remains well-formed when its instructions are replaced, and its numbers are still
--- words.
+-- A function remains well-formed when its instructions are replaced, and its numbers are still words.
 use Rattle.std.proofs.Common.{◌≡◌, ℕ, ◌+◌, ◌-◌, ◌<◌, Bool, true, false, List, length, Option, Some, None, slice_get, refl, sym, subst, ◌∙◌, arith}
 use Rattle.std.specs.Prelude.{All, IsSomeAnd, nat_lt}
 use Rattle.std.proofs.lemmas.Bool.{cond_both, ltb-true, false≢true}
@@ -81,8 +80,7 @@ after_below index count below =
     cond_both (nat_lt (index + 1) count) (index + 1) index (λ (place : ℕ). place < count) (λ is. ltb-true (index + 1) count is) (λ last. below)
 
 module _ (program simplified : Program) (are : AreReplaced program simplified) (r s : Routine) (replaced : IsReplaced program r s) where
-  -- `IsPut` says that the instruction `j` is the replacement of the original function's instruction
-  -- at `index`.
+  -- `IsPut` says that the instruction `j` is the replacement of the original function's instruction at `index`.
   record IsPut (index : ℕ) (j : Instruction) : Type 0 where
     pub instruction : Instruction
     pub at : At r index instruction
@@ -101,8 +99,7 @@ module _ (program simplified : Program) (are : AreReplaced program simplified) (
         all = replaced.is_table.suited index within;
       }
 
-  -- If each replacement has a property, and each jump into the code has it, then all instructions
-  -- of the new code have it.
+  -- If each replacement has a property, and each jump into the code has it, then all instructions of the new code have it.
   all_put : (P Q : Instruction → Type 0) → ((facts : List Fact) → are_suited replaced.pinned facts ≡ true → (i : Instruction) → P i → Q (simplified_instruction facts i))
       → ((target : ℕ) → target < length r.code → Q (instructions.Jump target)) → All P r.code → All Q s.code
   all_put P Q each jump all = All_by_number Q s.code (λ index j at.

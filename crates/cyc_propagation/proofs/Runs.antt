@@ -1,5 +1,4 @@
--- The simplified program runs in lockstep with the original one: their states are equal, and the known facts are true in
--- them.
+-- The simplified program runs in lockstep with the original one: their states are equal, and the known facts are true in them.
 use Rattle.std.proofs.Common.{◌≡◌, ℕ, ◌+◌, ◌*◌, ◌≤◌, Bool, true, false, List, [], ◌∷◌, length, Option, Some, None, refl, sym, ap, subst, ◌∙◌, arith, inl, inr}
 use Rattle.std.proofs.lemmas.Bool.{cases_lt, and_parts, cond_both, false≢true}
 use Rattle.std.proofs.lemmas.List.{get_or_past}
@@ -38,8 +37,7 @@ use Rattle.cyc_propagation.proofs.Tables.{unchanged, put_reached}
 
 -- ---- corresponding functions
 
--- For every function number, even one without a function, the simplified function replaces the
--- original one.
+-- For every function number, even one without a function, the simplified function replaces the original one.
 pub each_replaced : (program simplified : Program) → AreReplaced program simplified → (k : ℕ) → IsReplaced program (routine_at program k) (routine_at simplified k)
 each_replaced program simplified are k = elim (cases_lt k (length program.functions)) [
   | inl below ↦ are.each k below
@@ -88,8 +86,7 @@ simplified_pins_same facts (instructions.LoadGlobal destination global) slot = g
     go None = refl
 simplified_pins_same facts i slot = refl
 
--- The replacement of an instruction takes the addresses of the same slots, since only instructions
--- that take no address are dropped.
+-- The replacement of an instruction takes the addresses of the same slots, since only instructions that take no address are dropped.
 put_pins_same : (facts : List Fact) (index count : ℕ) (i : Instruction) (slot : ℕ) → pins (put_at facts index count i) slot ≡ pins i slot
 put_pins_same facts index count i slot =
     cond_both (vanishes facts i) (instructions.Jump (place_after index count)) (simplified_instruction facts i) (λ j. pins j slot ≡ pins i slot)
@@ -223,8 +220,7 @@ module _ (program simplified : Program) (are : AreReplaced program simplified) w
     same_step : IsSame (instruction_at program place) (instruction_at simplified place)
     same_step = executes_same (instruction_at program place) (instruction_at simplified place) refl refl (both (instruction_at program place) refl)
 
-    -- A choice that a step of the simplified program allows is also allowed in the original
-    -- program.
+    -- A choice that a step of the simplified program allows is also allowed in the original program.
     lies_same : (base : ℕ) (o : Option ℕ) → MayLie simplified base o (Running c) → MayLie program base o (Running c)
     lies_same base None may = may
     lies_same base (Some function) may = record {

@@ -110,8 +110,7 @@ module _ (scene : Scene) where
       go None is = refl
       go (Some word) is = cond_both (nat_lt word 32768) (operands.Word word) operand (λ o. operand_word scene.slots o ≡ operand_word scene.slots operand) (λ small. sym is) (λ large. refl)
 
-  -- `IsFolded` says that the word that constant folding computes is the operator's result, and that
-  -- the result is defined.
+  -- `IsFolded` says that the word that constant folding computes is the operator's result, and that the result is defined.
   abbrev pub IsFolded : BinaryOperator → (left right : Operand) → Option ℕ → Type 0
   IsFolded operator left right (Some word) =
       (word ≡ binary_result operator (operand_word scene.slots left) (operand_word scene.slots right)) × (has_no_result operator (operand_word scene.slots right) ≡ false)
@@ -157,8 +156,7 @@ module _ (scene : Scene) where
       cond_both (may_fold destination left right) (folded_in facts operator left right) None (IsFolded operator left right)
       (λ may. folded_in_true facts operator left right holds) (λ stays. tt)
 
-  -- `HoldsResult` says that the slot that a fact states for the result of an operator contains this
-  -- result.
+  -- `HoldsResult` says that the slot that a fact states for the result of an operator contains this result.
   abbrev pub HoldsResult : BinaryOperator → (left right : Operand) → Option ℕ → Type 0
   HoldsResult operator left right (Some slot) = IsTrueIn scene (facts_are.Computed slot operator left right)
   HoldsResult operator left right None = Unit {0}
@@ -210,8 +208,7 @@ module _ (scene : Scene) where
       go (Some slot) holds others = holds
       go None holds others = others
 
-  -- `IsDecidedRight` says that if facts decide a comparison, the decision is the comparison's
-  -- result.
+  -- `IsDecidedRight` says that if facts decide a comparison, the decision is the comparison's result.
   abbrev pub IsDecidedRight : Comparison → (left right : Operand) → Option Bool → Type 0
   IsDecidedRight comparison left right (Some holds) = compares comparison (operand_word scene.slots left) (operand_word scene.slots right) ≡ holds
   IsDecidedRight comparison left right None = Unit {0}

@@ -38,8 +38,7 @@ use Rattle.cyc_propagation.proofs.Rooms.{HaveRoom, room_less, room_after_it}
 
 -- ---- one instruction
 
--- If an instruction has a property, and a jump to the next instruction has it, then so has the
--- instruction's replacement.
+-- If an instruction has a property, and a jump to the next instruction has it, then so has the instruction's replacement.
 spared_either : (P : Instruction → Type 0) (slots : ℕ → ℕ) (room index : ℕ) (i : Instruction) → P i → ((function : ℕ) → i ≡ instructions.Enter function → P (nothing_at index))
     → P (spared_instruction slots room index i)
 spared_either P slots room index (instructions.Enter function) has nothing =
@@ -106,8 +105,7 @@ module _ (program spared : Program) (are : AreSpared program spared) where
     abbrev stands : CodePlace
     stands = place_of (Running c)
 
-    -- `IsStepOf` says that the original program has a step with an equal result, after which the
-    -- facts about stack space are true.
+    -- `IsStepOf` says that the original program has a step with an equal result, after which the facts about stack space are true.
     record IsStepOf (next : State) : Type 0 where
       pub other : Choice
       pub may : IsAllowed program (Running c) other
@@ -139,8 +137,7 @@ module _ (program spared : Program) (are : AreSpared program spared) where
           ∙ ap (limited pages (limit_at program (Running c) calls) (Running c)) (executed_alike (instruction_at program stands));
     }
 
-    -- A step of the jump that replaces a redundant check for stack space has the result of the
-    -- check.
+    -- A step of the jump that replaces a redundant check for stack space has the result of the check.
     by_nothing : (function : ℕ) → instruction_at program stands ≡ Some (instructions.Enter function) → instruction_at spared stands ≡ Some (nothing_at c.active.next)
         → HasRoom calls (suc (slots_in program function)) c.active.base (suc (length c.frames)) → IsStepOf (limited_step spared pages calls choice (Running c))
     by_nothing function at there (low, few) =
@@ -250,8 +247,7 @@ module _ (program spared : Program) (are : AreSpared program spared) where
     abbrev made : Routine
     made = with_code r s.code
 
-    -- `IsSparedOf` says that the instruction `j` is the replacement of the original function's
-    -- instruction at `index`.
+    -- `IsSparedOf` says that the instruction `j` is the replacement of the original function's instruction at `index`.
     record IsSparedOf (index : ℕ) (j : Instruction) : Type 0 where
       pub instruction : Instruction
       pub at : slice_get r.code index ≡ Some instruction
@@ -266,8 +262,7 @@ module _ (program spared : Program) (are : AreSpared program spared) where
           stands = (let e : Some j ≡ Some (spared_instruction (slots_in program) (is.code.rooms index) index i) = sym at ∙ is.code.each index i there in cc);
         }
 
-    -- If each instruction has a property, and each jump to the next instruction has it, then all
-    -- instructions of the new code have it.
+    -- If each instruction has a property, and each jump to the next instruction has it, then all instructions of the new code have it.
     all_spared : (P Q : Instruction → Type 0) → ((i : Instruction) → P i → Q i) → ((index : ℕ) (function : ℕ) → slice_get r.code index ≡ Some (instructions.Enter function) → Q (nothing_at index))
         → All P r.code → All Q s.code
     all_spared P Q each nothing all = All_by_number Q s.code (λ index j at.
@@ -403,8 +398,7 @@ module _ (program spared : Program) (are : AreSpared program spared) where
     small = omega (arith, like.small, spared_smaller program spared are r s is);
   }
 
-  -- If a program satisfies the contract of value propagation, it still does after its redundant
-  -- checks for stack space are dropped.
+  -- If a program satisfies the contract of value propagation, it still does after its redundant checks for stack space are dropped.
   pub spared_simplified : (given : Program) → IsSimplified given program → IsSimplified given spared
   spared_simplified given by = record {
     plain = spared_plain by.plain;

@@ -1,5 +1,4 @@
--- Code that passed the check is free of redundant checks for stack space, and so are functions and programs
--- with this code.
+-- Code that passed the check is free of redundant checks for stack space, and so are functions and programs with this code.
 use Rattle.std.proofs.Common.{◌≡◌, ℕ, suc, ◌+◌, ◌^◌, ◌<◌, ◌≤◌, true, ◌&&◌, ◌||◌, List, [], ◌∷◌, ◌++◌, length, map, Some, slice_get, refl, sym, ap, subst, ◌∙◌, arith, inl, inr}
 use Rattle.std.specs.Prelude.{◌==◌, slice_index_or}
 use Rattle.std.proofs.lemmas.Bool.{cases_lt, and_parts, eqb-true, leb-true, or_cases, false≢true}
@@ -23,8 +22,7 @@ use Rattle.cyc_propagation.proofs.Walks.{get_before, get_last, next_replaced, ro
 
 -- ---- sizes
 
--- The number of a function's slots plus one fits a machine word, since the number of words of its frame
--- does.
+-- The number of a function's slots plus one fits a machine word, since the number of words of its frame does.
 pub slots_and_one_fit : (program : Program) (function : ℕ) (f : Function) → IsPlain program → function < length program.functions → routine_of f ≡ routine_at program function → f.frame_count < 2 ^ 64
     → f.slots + 1 < 2 ^ 64
 slots_and_one_fit program function f plain below same few =

@@ -1,5 +1,4 @@
--- States of a run in which the facts of the tables are true, for the active call and for the
--- waiting calls.
+-- States of a run in which the facts of the tables are true, for the active call and for the waiting calls.
 use Rattle.std.proofs.Common.{◌≡◌, ℕ, suc, ◌<◌, Bool, true, false, List, [], ◌∷◌, length, Option, Some, None, refl, sym, ap, subst, ◌∙◌}
 use Rattle.std.specs.Prelude.{slice_index}
 use Rattle.cyc_words.proofs.Items.{below_from_slice_get}
@@ -39,8 +38,7 @@ module _ (program simplified : Program) (replaced : (function : ℕ) → IsRepla
   AreOpen function (Open index first contents ∷ handlers) = (facts_in function index ≡ []) × AreOpen function handlers
   AreOpen function (Caught ∷ handlers) = AreOpen function handlers
 
-  -- `Stands` describes a call that waits for this callee: the facts known at its call instruction
-  -- are true in its slots.
+  -- `Stands` describes a call that waits for this callee: the facts known at its call instruction are true in its slots.
   pub record Stands (callee : ℕ) (f : Frame) : Type 0 where
     pub index : ℕ
     pub arguments : ℕ

@@ -1,5 +1,4 @@
--- If the known facts are true, a replacement has exactly the effect of the original instruction, for every
--- choice.
+-- If the known facts are true, a replacement has exactly the effect of the original instruction, for every choice.
 use Rattle.std.proofs.Common.{◌≡◌, ℕ, ◌%◌, ◌++◌, Bool, true, false, List, [], ◌∷◌, Option, Some, None, refl, sym, ap, ◌∙◌}
 use Rattle.std.specs.Prelude.{◌==◌, if◌then◌else◌}
 use Rattle.std.proofs.lemmas.Bool.{eqb-true, cond_both}

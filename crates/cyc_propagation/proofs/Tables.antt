@@ -121,8 +121,7 @@ module _ (scene : Scene) (facts : List Fact) (more : Option Fact) (holds : AreTr
     | inr last ↦ more_true fact last
   ]
 
-  -- If a comparison holds after its operands are replaced by equal ones, the original comparison
-  -- holds.
+  -- If a comparison holds after its operands are replaced by equal ones, the original comparison holds.
   resolved_true : (fact : Fact) → IsTrueIn scene (resolved_fact facts fact) → IsTrueIn scene fact
   resolved_true (facts_are.Equal slot operand) is = is
   resolved_true (facts_are.Computed slot operator left right) is = is
@@ -273,8 +272,7 @@ module _ (program : Program) (r s : Routine) (pinned : List Bool) (entry : ℕ �
   abbrev table : ℕ → List Fact
   table index = facts_at program pinned entry r.code index
 
-  -- `StandsFor` says that the instruction `j` is the replacement of the original function's
-  -- instruction at `index`.
+  -- `StandsFor` says that the instruction `j` is the replacement of the original function's instruction at `index`.
   record StandsFor (index : ℕ) (j : Instruction) : Type 0 where
     pub instruction : Instruction
     pub at : At r index instruction
@@ -294,8 +292,7 @@ module _ (program : Program) (r s : Routine) (pinned : List Bool) (entry : ℕ �
         well = subst (λ (x : Instruction). is_checked_at program pinned entry (table index) x index ≡ true) (sym same) (checked index i there);
       }
 
-  -- The facts of the table at the next position are those required there, or those after the
-  -- replaced instruction.
+  -- The facts of the table at the next position are those required there, or those after the replaced instruction.
   next_table : (index : ℕ) (j : Instruction) → StandsFor index j → table (suc index) ≡ entered_or (entry (suc index)) (after_put program pinned (table index) j index)
   next_table index j stands =
       ap (λ (o : Option Instruction). entered_or (entry (suc index)) (facts_after_place program pinned (table index) o index (length r.code))) stands.at
@@ -328,8 +325,7 @@ module _ (program : Program) (r s : Routine) (pinned : List Bool) (entry : ℕ �
       go (Some asked) others may = asked_true scene facts more holds one asked may
       go None others may = absurd (false≢true may)
 
-  -- The facts in the table of the next instruction are true, even if that instruction is a jump
-  -- target.
+  -- The facts in the table of the next instruction are true, even if that instruction is a jump target.
   went_on : (scene : Scene) (index : ℕ) (j : Instruction) → StandsFor index j → (facts : List Fact) → may_go_on (entry (index + 1)) facts None ≡ true → AreTrueIn scene facts
       → AreTrueIn scene (after_put program pinned (table index) j index) → AreTrueIn scene (table (suc index))
   went_on scene index j stands facts may holds following =
@@ -427,8 +423,7 @@ module _ (program : Program) (r s : Routine) (pinned : List Bool) (entry : ℕ �
         edge index next scene i (stands_for index i at) (well_led index i (stands_for index i at)) led keeps makes;
   }
 
-  -- If each instruction of a function is replaced under the facts of a checked table, the result
-  -- satisfies `IsReplaced`.
+  -- If each instruction of a function is replaced under the facts of a checked table, the result satisfies `IsReplaced`.
   pub replaced : ArePins r pinned → s.name ≡ r.name → s.parameters ≡ r.parameters → s.results ≡ r.results → s.slots ≡ r.slots → s.frame_count ≡ r.frame_count → size s ≤ size r → IsReplaced program r s
   replaced pins name parameters results slots frame_count small = record {
     name = name;

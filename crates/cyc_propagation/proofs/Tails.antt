@@ -74,8 +74,7 @@ next_last code count last i at is index next j there below led = elim (cases_lt 
       led_within last count i next (subst (λ (x : Instruction). leads x count next ≡ true) alike (subst (λ (k : ℕ). leads j k next ≡ true) same led))
 ]
 
--- If no instruction up to a position jumps or falls through past it, this is the last reachable
--- position.
+-- If no instruction up to a position jumps or falls through past it, this is the last reachable position.
 pub last_found : (code : List Instruction) (count last : ℕ) → IsLastOf code count last → last < count → IsLast code last
 last_found code count last is beyond index next i at below led = is index next i at (omega (arith, below, beyond)) led
 
@@ -110,13 +109,11 @@ all_tailless code last count made is are all = record { last = last; is_last = i
 
 -- ---- one function
 
--- Returns the facts at a code position: the fact `never` if it is after the last reachable
--- position, otherwise none.
+-- Returns the facts at a code position: the fact `never` if it is after the last reachable position, otherwise none.
 abbrev known_beyond : (last index : ℕ) → List Fact
 known_beyond last index = if nat_lt last index then never ∷ [] else []
 
--- Replacing the tail of code by jumps has the same result as the replacement under the facts
--- `known_beyond`.
+-- Replacing the tail of code by jumps has the same result as the replacement under the facts `known_beyond`.
 tailless_put : (last index count : ℕ) (i : Instruction) → tailless_instruction last index count i ≡ put_at (known_beyond last index) index count i
 tailless_put last index count i = go (nat_lt last index)
   where
@@ -138,8 +135,7 @@ module _ (program : Program) (r : Routine) (pinned : List Bool) (code : List Ins
   put_each : (index : ℕ) (i : Instruction) → At r index i → slice_get code index ≡ Some (put_at (table index) index (length r.code) i)
   put_each index i at = is.all.each index i at (below_from_slice_get r.code index i at) ∙ ap Some (tailless_put is.last index (length r.code) i)
 
-  -- `IsTaillessOf` says that the instruction `j` is the replacement of the original function's
-  -- instruction at `index`.
+  -- `IsTaillessOf` says that the instruction `j` is the replacement of the original function's instruction at `index`.
   record IsTaillessOf (index : ℕ) (j : Instruction) : Type 0 where
     pub instruction : Instruction
     pub at : At r index instruction

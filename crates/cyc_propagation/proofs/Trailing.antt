@@ -72,8 +72,7 @@ two_left old destination one other = λ slot leaves.
         and_from _ _ (le-leb destination slot (omega (arith, same, low))) (lt-ltb slot (destination + 2) (omega (arith, same, high))) in
         false≢true (sym (left_is_not_among destination 2 slot leaves) ∙ inside)
 
--- The result of a request to the store (the heap of regions) changes only the request's destination
--- slots.
+-- The result of a request to the store (the heap of regions) changes only the request's destination slots.
 pub reported_left : (store : StoreState) (old read : Words) (request : Request) (choice : services.Choice)
     → IsLeft old (reported (answer store (call_in read request) choice) (destination_of request) old) (range (destination_of request) (answer_count request))
 reported_left store old read (requests.OpenLexical destination) choice = two_left old destination _ _
@@ -98,8 +97,7 @@ moved_made old memory pinned destination source other =
     suited_any (record { slots = put old destination (operand_word old source); memory = memory }) pinned (facts_are.Equal destination source)
     (put-same old destination (operand_word old source) ∙ sym (other_word old destination (operand_word old source) source other))
 
--- If the destination slots of a move are not source slots, each of them equals its source slot
--- after the move.
+-- If the destination slots of a move are not source slots, each of them equals its source slot after the move.
 pub copied_made : (old : Words) (pinned : List Bool) (source count destination : ℕ) → are_copied pinned destination source count ≡ true → (k : ℕ) → k < count
     → copied old source count old destination (destination + k) ≡ copied old source count old destination (source + k)
 copied_made old pinned source count destination copies k below =

@@ -1,5 +1,4 @@
-//! Selects the functions that are worth simplifying. The selection is unverified, since any
-//! function may stay unchanged.
+//! Selects the functions that are worth simplifying. The selection is unverified, since any function may stay unchanged.
 ghost use Rattle.std.specs.Prelude.{◌<◌, length};
 
 use crate::jumps::is_end;
@@ -19,8 +18,7 @@ fn no_copies() -> Copies {
     Copies { first: 1, last: 0 }
 }
 
-/// Returns the range with one more slot to which a word was copied. The slots of consecutive copies
-/// must be adjacent.
+/// Returns the range with one more slot to which a word was copied. The slots of consecutive copies must be adjacent.
 fn with_copy(copies: Copies, destination: usize) -> Copies {
     if destination > copies.last && copies.first <= copies.last {
         Copies {
@@ -112,8 +110,7 @@ fn is_copy(copies: Copies, operand: Operand) -> bool {
     }
 }
 
-/// Returns true if one of two operands is a copied slot, so that the original slot can be read
-/// instead.
+/// Returns true if one of two operands is a copied slot, so that the original slot can be read instead.
 fn has_copy(copies: Copies, left: Operand, right: Operand) -> bool {
     is_copy(copies, left) || is_copy(copies, right)
 }

@@ -1,5 +1,4 @@
-//! The slots that an instruction writes, the memory that it changes, and the facts that it
-//! preserves.
+//! The slots that an instruction writes, the memory that it changes, and the facts that it preserves.
 ghost use Rattle.std.specs.Prelude.{◌≡◌, true};
 ghost use Rattle.cyc_plain.specs.inside.Program.{routine_at};
 ghost use Rattle.cyc_plain.specs.inside.Requests as requests_of;
@@ -117,8 +116,7 @@ fn leaves_operand(slots: Written, operand: Operand) -> bool
     }
 }
 
-/// Returns the part of memory that a write to this slot may change: nothing if the slot's address
-/// is not taken.
+/// Returns the part of memory that a write to this slot may change: nothing if the slot's address is not taken.
 pub(crate) fn touched_by(pinned: &[bool], slot: usize) -> Touched
     ensures { result ≡ facts_of.touched_by pinned.now slot }
 {
@@ -129,8 +127,7 @@ pub(crate) fn touched_by(pinned: &[bool], slot: usize) -> Touched
     }
 }
 
-/// Returns the part of memory that writes to these slots may change: nothing if their address is
-/// not taken.
+/// Returns the part of memory that writes to these slots may change: nothing if their address is not taken.
 fn touched_by_words(pinned: &[bool], first: usize, count: usize) -> Touched
     ensures { result ≡ facts_of.touched_by_words pinned.now first count }
 {
@@ -141,8 +138,7 @@ fn touched_by_words(pinned: &[bool], first: usize, count: usize) -> Touched
     }
 }
 
-/// Returns the distance in bytes of a global from the first one, if the global's number is in
-/// range.
+/// Returns the distance in bytes of a global from the first one, if the global's number is in range.
 pub(crate) fn global_offset(global: usize) -> Option<u32>
     ensures { result ≡ facts_of.global_offset global }
 {
@@ -212,8 +208,7 @@ fn are_apart(offset: u32, other: u32) -> bool
     offset != other
 }
 
-/// Returns true if the word at this address is unchanged. An equal address operand with a disjoint offset refers to
-/// another word.
+/// Returns true if the word at this address is unchanged. An equal address operand with a disjoint offset refers to another word.
 fn is_untouched(touched: Touched, address: Operand, offset: u32) -> bool
     ensures { result ≡ facts_of.is_untouched touched address offset }
 {
@@ -227,8 +222,7 @@ fn is_untouched(touched: Touched, address: Operand, offset: u32) -> bool
     }
 }
 
-/// Returns true if an instruction preserves a fact: it writes no slot, and changes no word of memory, that the
-/// fact mentions.
+/// Returns true if an instruction preserves a fact: it writes no slot, and changes no word of memory, that the fact mentions.
 fn keeps(slots: Written, touched: Touched, fact: &Fact) -> bool
     ensures { result ≡ facts_of.keeps slots touched fact.now }
 {

@@ -25,8 +25,7 @@ pub(crate) fn remember(facts: &mut Vec<Fact>, fact: Fact) -> Result<(), AllocErr
     Ok(())
 }
 
-/// Adds the facts about words that an instruction copies: at most three, the words of a pointer with its
-/// bounds.
+/// Adds the facts about words that an instruction copies: at most three, the words of a pointer with its bounds.
 fn remember_copies(
     pinned: &[bool],
     facts: &mut Facts,

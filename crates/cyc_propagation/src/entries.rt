@@ -16,8 +16,7 @@ use std::alloc::{AllocError, Global};
 /// The greatest number of passes over a code region with loops.
 const ROUNDS: usize = 4;
 
-/// For a code position, says if it is a loop header or a handler, and from where code jumps back to
-/// it.
+/// For a code position, says if it is a loop header or a handler, and from where code jumps back to it.
 #[derive(Clone, Copy)]
 struct Head {
     is_head: bool,
@@ -25,8 +24,7 @@ struct Head {
     jumped_from: usize,
 }
 
-/// A range of code positions, up to `end`. No jump enters or leaves the range, except to positions where
-/// a run ends.
+/// A range of code positions, up to `end`. No jump enters or leaves the range, except to positions where a run ends.
 #[derive(Clone, Copy)]
 pub(crate) struct Region {
     first: usize,
@@ -46,13 +44,11 @@ pub(crate) struct Search {
     before: Vec<Fact>,
     /// The current region.
     pub(crate) region: Region,
-    /// True if the search makes only one pass, after which the facts guessed for loop headers are right
-    /// or dropped.
+    /// True if the search makes only one pass, after which the facts guessed for loop headers are right or dropped.
     is_short: bool,
 }
 
-/// Returns the furthest position to which the instruction at `index` jumps, or from which code jumps
-/// back to it.
+/// Returns the furthest position to which the instruction at `index` jumps, or from which code jumps back to it.
 fn furthest(heads: &[Head], code: &[Instruction], instruction: Instruction, index: usize) -> usize {
     let back = match heads.get(index) {
         Some(head) => head.jumped_from,
@@ -120,8 +116,7 @@ fn has_head(instruction: Instruction, index: usize) -> bool {
     }
 }
 
-/// Returns the number of positions up to the last instruction that jumps back to a loop header or
-/// declares a handler.
+/// Returns the number of positions up to the last instruction that jumps back to a loop header or declares a handler.
 fn count_to_declarations(code: &[Instruction]) -> usize {
     let mut count = 0;
     for index in 0..code.len() {
@@ -155,8 +150,7 @@ fn collected_program(alloc: Global, code: &[Instruction]) -> Result<Vec<Head>, A
     Ok(heads)
 }
 
-/// Returns an upper bound of the number of positions up to the end of the last code region with a loop
-/// header.
+/// Returns an upper bound of the number of positions up to the end of the last code region with a loop header.
 fn count_to_end(heads: &[Head], code: &[Instruction]) -> usize {
     let mut count = heads.len();
     for index in 0..code.len() {
@@ -178,8 +172,7 @@ fn close(entries: &mut Vec<Entry>, place: usize) {
     }
 }
 
-/// Returns entries for `count` positions. All entries are unknown, except that nothing is known at
-/// handlers.
+/// Returns entries for `count` positions. All entries are unknown, except that nothing is known at handlers.
 fn unknown(alloc: Global, code: &[Instruction], count: usize) -> Result<Vec<Entry>, AllocError> {
     let mut guesses = no_entries(alloc, count)?;
     for index in 0..count.min(code.len()) {
@@ -220,8 +213,7 @@ impl Search {
         }
     }
 
-    /// Joins the facts after the previous instruction into those of a position, if control can fall through to
-    /// it.
+    /// Joins the facts after the previous instruction into those of a position, if control can fall through to it.
     fn come_next(&mut self, code: &[Instruction], place: usize) -> Result<(), AllocError> {
         if !self.is_joined(place) {
             return Ok(());
@@ -342,14 +334,12 @@ impl Search {
         Ok(())
     }
 
-    /// Returns true if a code region begins at a position. Code without a loop header needs no
-    /// region.
+    /// Returns true if a code region begins at a position. Code without a loop header needs no region.
     pub(crate) fn begins_at(&self, place: usize) -> bool {
         place >= self.region.end && !self.heads.is_empty()
     }
 
-    /// Begins a code region at a position with these known facts. After the last loop header, the rest of the code
-    /// is one region.
+    /// Begins a code region at a position with these known facts. After the last loop header, the rest of the code is one region.
     pub(crate) fn begin(
         &mut self,
         plain: &Plain,

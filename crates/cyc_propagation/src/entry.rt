@@ -13,15 +13,13 @@ use cyc_plain::Instruction;
 use std::alloc::{AllocError, Global};
 use std::mem;
 
-/// The most facts searched for at a jump target, since each jump on a path to the target may add
-/// one fact.
+/// The most facts searched for at a jump target, since each jump on a path to the target may add one fact.
 const MOST_ENTRY_FACTS: usize = 4 * MOST_FACTS;
 
 /// The facts at a position in the code.
 #[derive(Drop)]
 pub(crate) struct Entry {
-    /// True if the position is a jump target. If the position is no jump target, its facts are those after the previous
-    /// instruction.
+    /// True if the position is a jump target. If the position is no jump target, its facts are those after the previous instruction.
     pub(crate) is_target: bool,
     pub(crate) facts: Vec<Fact>,
 }
@@ -68,8 +66,7 @@ pub(crate) fn may_go_on(entries: &[Entry], next: usize, facts: &[Fact]) -> bool
     }
 }
 
-/// Returns true if the facts required at a position mention only words and slots whose address is
-/// not taken.
+/// Returns true if the facts required at a position mention only words and slots whose address is not taken.
 pub(crate) fn is_entry_suited(pinned: &[bool], entries: &[Entry], place: usize) -> bool
     ensures { result ≡ table.is_entry_suited pinned.now (entries_of.entry_in entries.now place) }
 {
@@ -113,8 +110,7 @@ fn restrict(asked: &mut Vec<Fact>, facts: &[Fact], more: Option<Fact>) -> bool
     kept == count
 }
 
-/// Adds the extra fact, if there is one, to the known facts. If the list is full, the oldest fact
-/// is dropped.
+/// Adds the extra fact, if there is one, to the known facts. If the list is full, the oldest fact is dropped.
 #[tactic(auto, using(crate::proofs::Entered::known_of_itself, crate::proofs::Entered::known_with_one, crate::proofs::Entered::known_without_first,))]
 fn remember_more(known: &mut Vec<Fact>, more: Option<Fact>) -> Result<(), AllocError>
     ensures { OnOk result (table.are_known known.new.items known.old.items more ≡ true) }
@@ -148,8 +144,7 @@ fn come_first(
     remember_more(&mut entry.facts, more)
 }
 
-/// Joins the known facts into those of a position. Returns true if the facts of the position do not
-/// change.
+/// Joins the known facts into those of a position. Returns true if the facts of the position do not change.
 #[tactic(auto, using(crate::proofs::Entered::known_where_set))]
 pub(crate) fn come_to(
     entries: &mut Vec<Entry>,

@@ -16,15 +16,13 @@ use std::marker::Model;
 /// The bit mask of all slots, for the case that each slot may equal another one.
 const ANY_SLOT: u64 = u64::MAX;
 
-/// A list of facts, with bit masks that show quickly that an operand equals no other slot or that
-/// no fact mentions it.
+/// A list of facts, with bit masks that show quickly that an operand equals no other slot or that no fact mentions it.
 #[derive(Drop)]
 pub(crate) struct Facts {
     facts: Vec<Fact>,
     /// The bits of slots known to equal other slots. A slot that equals no other one may share such a bit.
     copies: u64,
-    /// The bits of all slots that the facts mention. A slot that no fact mentions may share such a
-    /// bit.
+    /// The bits of all slots that the facts mention. A slot that no fact mentions may share such a bit.
     slots: u64,
 }
 

@@ -1,5 +1,4 @@
-//! Constant folding: the words that slots are known to contain replace operands if the instruction
-//! becomes cheaper.
+//! Constant folding: the words that slots are known to contain replace operands if the instruction becomes cheaper.
 ghost use Rattle.std.specs.Prelude.{◌≡◌};
 ghost use Rattle.cyc_plain.specs.inside.Operators as operators;
 ghost use Rattle.cyc_propagation.specs.inside.Replacement as replacement;

@@ -95,8 +95,7 @@ pub(crate) fn is_same_operand(one: Operand, other: Operand) -> bool
     }
 }
 
-/// Returns true if two pairs of operands are equal: the left operands are equal, and the right
-/// operands are equal.
+/// Returns true if two pairs of operands are equal: the left operands are equal, and the right operands are equal.
 pub(crate) fn are_same_operands(
     left: Operand,
     right: Operand,
@@ -108,8 +107,7 @@ pub(crate) fn are_same_operands(
     is_same_operand(left, other_left) && is_same_operand(right, other_right)
 }
 
-/// Returns true if two references to memory have equal address operands and offsets, so that they
-/// refer to the same word.
+/// Returns true if two references to memory have equal address operands and offsets, so that they refer to the same word.
 pub(crate) fn is_same_word(
     address: Operand,
     offset: u32,
@@ -134,8 +132,7 @@ fn says_equal(fact: &Fact, slot: usize, operand: Operand) -> bool
     }
 }
 
-/// Returns true if a fact states that this slot contains the result of this operator on these
-/// operands.
+/// Returns true if a fact states that this slot contains the result of this operator on these operands.
 fn says_computed(
     fact: &Fact,
     slot: usize,
@@ -394,8 +391,7 @@ fn is_below(facts: &[Fact], fact: Fact) -> bool
     }
 }
 
-/// Returns true if a fact follows when its operands are replaced by equal ones, or is a comparison of known
-/// words that holds.
+/// Returns true if a fact follows when its operands are replaced by equal ones, or is a comparison of known words that holds.
 fn follows_resolved(facts: &[Fact], more: Option<Fact>, fact: Fact) -> bool
     requires { table.is_known_with facts.now more fact ≡ false }
     ensures { result ≡ (table.is_known_with facts.now more (table.resolved_fact facts.now fact) || table.is_below facts.now fact) }
@@ -408,16 +404,14 @@ fn follows_resolved(facts: &[Fact], more: Option<Fact>, fact: Fact) -> bool
     }
 }
 
-/// Returns true if a fact is known, equals the extra fact, or follows when its operands are replaced by
-/// equal ones.
+/// Returns true if a fact is known, equals the extra fact, or follows when its operands are replaced by equal ones.
 pub(crate) fn follows(facts: &[Fact], more: Option<Fact>, fact: Fact) -> bool
     ensures { result ≡ table.follows facts.now more fact }
 {
     is_unreached(facts) || (is_known_with(facts, more, fact) || follows_resolved(facts, more, fact))
 }
 
-/// Returns the index of a fact in the list, searched from the index `place` on, or the length of the
-/// list if it is absent.
+/// Returns the index of a fact in the list, searched from the index `place` on, or the length of the list if it is absent.
 pub(crate) fn found_from(facts: &[Fact], place: usize, fact: &Fact) -> usize
     ensures { result < length facts.now → facts_of.is_known facts.now fact.now ≡ true }
 {
@@ -439,14 +433,12 @@ pub(crate) fn follows_found(facts: &[Fact], more: &Option<Fact>, fact: &Fact, pl
     place < facts.len() || (is_more(*more, *fact) || follows(facts, *more, *fact))
 }
 
-/// Returns the index at which the search for the next fact begins: after the fact that was found
-/// last.
+/// Returns the index at which the search for the next fact begins: after the fact that was found last.
 pub(crate) fn next_place(facts: &[Fact], place: usize, next: usize) -> usize {
     if place < facts.len() { place + 1 } else { next }
 }
 
-/// Returns true if all required facts are known. The search is fastest if both lists have their facts in the
-/// same order.
+/// Returns true if all required facts are known. The search is fastest if both lists have their facts in the same order.
 pub(crate) fn are_known(asked: &[Fact], facts: &[Fact], more: Option<Fact>) -> bool
     ensures { result ≡ table.are_known asked.now facts.now more }
 {

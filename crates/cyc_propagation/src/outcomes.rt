@@ -102,8 +102,7 @@ fn held(pinned: &[bool], address: Operand, offset: u32, value: Operand) -> Optio
     )
 }
 
-/// Returns the fact that a load establishes, or `None` if its destination is the slot that contains
-/// the address.
+/// Returns the fact that a load establishes, or `None` if its destination is the slot that contains the address.
 fn loaded(pinned: &[bool], address: Operand, offset: u32, destination: usize) -> Option<Fact>
     ensures { result ≡ facts_of.loaded pinned.now address offset destination }
 {
@@ -130,8 +129,7 @@ fn held_global(pinned: &[bool], global: usize, value: Operand) -> Option<Fact>
     }
 }
 
-/// Returns the fact that a move establishes. A move from a slot to the same slot establishes no
-/// fact.
+/// Returns the fact that a move establishes. A move from a slot to the same slot establishes no fact.
 fn moved(pinned: &[bool], destination: usize, source: Operand) -> Option<Fact>
     ensures { result ≡ facts_of.moved pinned.now destination source }
 {
@@ -147,8 +145,7 @@ fn moved(pinned: &[bool], destination: usize, source: Operand) -> Option<Fact>
     )
 }
 
-/// Returns the fact that an operator establishes, or `None` if its destination is the slot of an
-/// operand.
+/// Returns the fact that an operator establishes, or `None` if its destination is the slot of an operand.
 fn computed(
     pinned: &[bool],
     operator: BinaryOperator,
@@ -172,8 +169,7 @@ fn computed(
     )
 }
 
-/// Returns the fact that is true after the instruction at `index` if control continues at `next`, whatever was true
-/// before.
+/// Returns the fact that is true after the instruction at `index` if control continues at `next`, whatever was true before.
 pub(crate) fn made(
     pinned: &[bool],
     instruction: Instruction,
@@ -260,8 +256,7 @@ pub(crate) fn truth_in(slot: usize) -> Fact
     }
 }
 
-/// Returns the fact that a test's result is a truth value, which is true even if the test's
-/// destination is one of its operands.
+/// Returns the fact that a test's result is a truth value, which is true even if the test's destination is one of its operands.
 pub(crate) fn tested(pinned: &[bool], instruction: Instruction) -> Option<Fact>
     ensures { result ≡ facts_of.tested pinned.now instruction }
 {

@@ -1,5 +1,4 @@
-//! The slots of a function whose address is taken. A store instruction may change them, so no fact
-//! mentions them.
+//! The slots of a function whose address is taken. A store instruction may change them, so no fact mentions them.
 ghost use Rattle.std.specs.Prelude.{◌≡◌, IfOk};
 ghost use Rattle.cyc_plain.specs.inside.Program.{routine_of};
 ghost use Rattle.cyc_propagation.specs.inside.Facts as facts_of;
@@ -68,8 +67,7 @@ fn is_within(ranges: &[Written], slot: usize) -> bool
     false
 }
 
-/// Returns the slots whose address an instruction takes. The slots of a handler's record are among them,
-/// since the record is in memory.
+/// Returns the slots whose address an instruction takes. The slots of a handler's record are among them, since the record is in memory.
 fn range_of(instruction: Instruction) -> Option<Written>
     ensures { result ≡ pins.range_of instruction }
 {

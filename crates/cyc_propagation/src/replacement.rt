@@ -17,8 +17,7 @@ use crate::known::{
 use crate::outcomes::negated;
 use cyc_plain::{BinaryOperator, Comparison, Instruction, Operand, Request, UnaryOperator};
 
-/// Returns true if reading an operand costs no more than reading a slot. A constant word may need
-/// instructions of its own.
+/// Returns true if reading an operand costs no more than reading a slot. A constant word may need instructions of its own.
 pub(crate) fn is_cheap(operand: Operand) -> bool
     ensures { result ≡ replacement.is_cheap operand }
 {
@@ -62,8 +61,7 @@ pub(crate) fn operand_in(facts: &[Fact], operand: Operand) -> Operand
     operand
 }
 
-/// Returns an operand that equals this one by the known facts. The bit masks show quickly that most
-/// operands have no replacement.
+/// Returns an operand that equals this one by the known facts. The bit masks show quickly that most operands have no replacement.
 fn simplified_operand(facts: &Facts, operand: Operand) -> Operand
     ensures { result ≡ replacement.simplified_operand facts.now operand }
 {
@@ -74,8 +72,7 @@ fn simplified_operand(facts: &Facts, operand: Operand) -> Operand
     }
 }
 
-/// Returns true if an operator compares a truth value with 0 by `!=`, so that its result is the
-/// truth value.
+/// Returns true if an operator compares a truth value with 0 by `!=`, so that its result is the truth value.
 fn is_truth_test(
     comparison: Comparison,
     bound: Operand,
@@ -151,8 +148,7 @@ fn holder_in(
     None
 }
 
-/// Replaces an operator on two known words by its result, and an operator whose result a slot already contains by a move from this
-/// slot.
+/// Replaces an operator on two known words by its result, and an operator whose result a slot already contains by a move from this slot.
 fn simplified_binary(
     facts: &[Fact],
     operator: BinaryOperator,
@@ -309,8 +305,7 @@ fn decision_in(
     None
 }
 
-/// Returns the replacement of a branch that is never taken: if it has a slot operand, a move from
-/// this slot to itself.
+/// Returns the replacement of a branch that is never taken: if it has a slot operand, a move from this slot to itself.
 fn passed_by(left: Operand, right: Operand, target: usize) -> Instruction
     ensures { result ≡ replacement.passed_by left right target }
 {
@@ -576,8 +571,7 @@ fn simplified_otherwise(facts: &Facts, instruction: Instruction) -> Instruction
     }
 }
 
-/// Returns an instruction that has exactly the effect of the original if the facts are true. If no fact is known, it is the
-/// original.
+/// Returns an instruction that has exactly the effect of the original if the facts are true. If no fact is known, it is the original.
 pub(crate) fn simplified_instruction(facts: &Facts, instruction: Instruction) -> Instruction
     ensures { result ≡ replacement.simplified_instruction facts.now instruction }
 {
@@ -627,8 +621,7 @@ pub(crate) fn may_vanish(instruction: Instruction) -> bool
     }
 }
 
-/// Returns the position after `index`, or `index` if it is the last one, so that control never leaves the
-/// code.
+/// Returns the position after `index`, or `index` if it is the last one, so that control never leaves the code.
 pub(crate) fn place_after(index: usize, count: usize) -> usize
     requires { index + 1 < 2 ^ 64 }
     ensures { result ≡ replacement.place_after index count }

@@ -12,8 +12,7 @@ const MOST_ROOM: usize = usize::MAX;
 /// The most passes over the code in the search for known stack space.
 const ROUNDS: usize = 4;
 
-/// Returns the stack space that a call of a function requires, represented by its number of slots
-/// plus one.
+/// Returns the stack space that a call of a function requires, represented by its number of slots plus one.
 #[tactic(auto, using(crate::proofs::Sparing::slots_and_one_fit))]
 fn room_for(plain: &Plain, function: usize) -> usize
     ensures { result ≡ rooms_of.slots_in plain.now function + 1 }
@@ -29,8 +28,7 @@ fn room_for(plain: &Plain, function: usize) -> usize
     }
 }
 
-/// Returns the stack space that an instruction has proved to be available when control continues
-/// after it.
+/// Returns the stack space that an instruction has proved to be available when control continues after it.
 fn room_of(plain: &Plain, instruction: Instruction) -> usize
     ensures { result ≡ rooms_of.room_of (rooms_of.slots_in plain.now) instruction }
 {
@@ -87,8 +85,7 @@ fn leads_to_enough(rooms: &[usize], room: usize, instruction: Instruction, index
     }
 }
 
-/// Returns the instruction, or a jump to the next position if it is a redundant check for stack
-/// space.
+/// Returns the instruction, or a jump to the next position if it is a redundant check for stack space.
 fn spared_instruction(
     plain: &Plain,
     room: usize,
@@ -121,8 +118,7 @@ fn restrict(rooms: &mut Vec<usize>, place: usize, room: usize) -> bool {
     true
 }
 
-/// Makes one pass over the code. Returns true if the pass leaves the stack space known at each target of a backward jump
-/// unchanged.
+/// Makes one pass over the code. Returns true if the pass leaves the stack space known at each target of a backward jump unchanged.
 fn go_through(plain: &Plain, code: &[Instruction], rooms: &mut Vec<usize>) -> bool {
     let mut is_settled = true;
     for index in 0..code.len() {
@@ -162,8 +158,7 @@ fn asks_for_room(code: &[Instruction]) -> bool {
     false
 }
 
-/// Returns the code without redundant checks for stack space, if the table of known stack space
-/// passes the check.
+/// Returns the code without redundant checks for stack space, if the table of known stack space passes the check.
 fn sparing(
     alloc: Global,
     plain: &Plain,

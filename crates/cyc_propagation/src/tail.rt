@@ -45,8 +45,7 @@ fn last_place(code: &[Instruction]) -> usize
     last
 }
 
-/// Returns the replacement of the instruction at position `index` of `count`: in the unreachable tail, a jump to
-/// the next position.
+/// Returns the replacement of the instruction at position `index` of `count`: in the unreachable tail, a jump to the next position.
 fn tailless_instruction(
     last: usize,
     index: usize,

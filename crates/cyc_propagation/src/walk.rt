@@ -391,8 +391,7 @@ fn walked(
     Ok(Some(code))
 }
 
-/// Returns the simplified code of a function. A short search is tried first, since it mostly
-/// succeeds.
+/// Returns the simplified code of a function. A short search is tried first, since it mostly succeeds.
 pub(crate) fn walked_soon(
     alloc: Global,
     plain: &Plain,

@@ -59,8 +59,7 @@ module _ (pages : ℕ) (raw : Parts) (at count w : ℕ) (v : Bool) (there : at <
         ∙ sym (between-out was at count v number (inr (omega (arith, high, there, few))))
   ]
 
--- If bits are set in two adjacent ranges, one after the other, they are set in the union of the
--- ranges.
+-- If bits are set in two adjacent ranges, one after the other, they are set in the union of the ranges.
 between-more : (old mid : ℕ → Bool) (first done some : ℕ) (value : Bool) (number : ℕ) → mid number ≡ between old first done value number → between mid (first + done) some value number ≡ between old first (done + some) value number
 between-more old mid first done some value number were = elim (cases_lt number (first + done)) [
   | inl low ↦ between-out mid (first + done) some value number (inl low) ∙ were ∙ elim (cases_lt number first) [

@@ -1,5 +1,4 @@
--- Lemmas about creating a pool, whose pages are linked one after the other, beginning with the last
--- page.
+-- Lemmas about creating a pool, whose pages are linked one after the other, beginning with the last page.
 use Rattle.std.proofs.Common.{◌≡◌, ℕ, zero, suc, ◌+◌, ◌-◌, ◌*◌, ◌%◌, ◌^◌, ◌<◌, ◌≤◌, [], ◌∷◌, length, replicate, refl, sym, ap, subst, ◌∙◌, arith, length-set, inl, inr}
 use Rattle.std.specs.Prelude.{◌==◌, true, false, slice_index}
 use Rattle.std.specs.List.{AllByRecursion}

@@ -20,8 +20,7 @@ header-in pages page field raw whole there low = omega (arith, whole, there, low
 pub word-in : (pages page word : ℕ) (raw : Parts) → length raw.words ≡ 1024 * pages → page < pages → word < 1024 → 1024 * page + word < length raw.words
 word-in pages page word raw whole there low = omega (arith, whole, there, low)
 
--- After a header field is written for one page, the field's values are the old values, except for
--- that page.
+-- After a header field is written for one page, the field's values are the old values, except for that page.
 pub field-put : (pages page field v : ℕ) (raw : Parts) → header_at page field < length raw.heads → field_of (headed raw (header_at page field) v) field ≡ put (field_of raw field) page v
 field-put pages page field v raw inside = λ j p. at p j where
   at : (p : ℕ) → field_of (headed raw (header_at page field) v) field p ≡ put (field_of raw field) page v p

@@ -10,8 +10,7 @@ use std::marker::Model;
 /// The minimum number of words that are cleared at once.
 const STRETCH: usize = 1024;
 
-/// One block of memory with `heads` head words, followed by `words` further words. Dropping the struct
-/// frees the block.
+/// One block of memory with `heads` head words, followed by `words` further words. Dropping the struct frees the block.
 ///
 /// The head words are initialised when the block is allocated. The other words are initialised up to the last word that was set, and some
 /// words after it. Uninitialised words are read as 0, so the operating system provides no memory for unused words.
@@ -171,8 +170,7 @@ impl Block {
         }
     }
 
-    /// Writes the word at an index. Also writes 0 to each uninitialised word before it and to a stretch of
-    /// words after it.
+    /// Writes the word at an index. Also writes 0 to each uninitialised word before it and to a stretch of words after it.
     #[cold]
     #[inline(never)]
     fn set_far_word(&mut self, index: usize, word: u32)

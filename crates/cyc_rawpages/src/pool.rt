@@ -32,8 +32,7 @@ pub struct Chain {
 /// A pool of pages. A page is free or in a chain, which is identified by its first page, the head. Each page has 1,024 words, 1,024 bits, a
 /// fill mark, an owner and a serial. The meaning of a page's words, bits, mark, owner and serial is up to the caller.
 ///
-/// After [`Pool::new`], no function of the pool allocates. The pool's memory is freed when the pool
-/// is dropped.
+/// After [`Pool::new`], no function of the pool allocates. The pool's memory is freed when the pool is dropped.
 #[derive(Drop)]
 pub struct Pool {
     block: Block,
@@ -89,8 +88,7 @@ impl Pool {
         })
     }
 
-    /// Takes a free page, which becomes a chain that consists of this page. Returns `None` if no
-    /// page is free.
+    /// Takes a free page, which becomes a chain that consists of this page. Returns `None` if no page is free.
     pub fn take(&mut self) -> Option<PageNo>
         ensures { MatchOption result ((self.old.free ≡ replicate self.old.pages false) × (self.new ≡ self.old))
             (λ page. (page.number < self.old.pages) × IsFree self.old.free page.number
@@ -246,8 +244,7 @@ impl Pool {
         self.block.set_head(at, marks);
     }
 
-    /// Sets or clears `count` bits of a page from `bit` on in one operation. All `count` bits must lie in
-    /// one word.
+    /// Sets or clears `count` bits of a page from `bit` on in one operation. All `count` bits must lie in one word.
     pub fn set_bits(&mut self, page: PageNo, bit: u32, count: u32, value: bool)
         requires there { (page.number < self.old.pages) × (bit < PAGE_WORDS) }
         requires few { bit % 32 + count ≤ 32 }

@@ -1,5 +1,4 @@
-//! The free pages and the chains of a pool, as contracts and proofs see them, without a
-//! representation at run time.
+//! The free pages and the chains of a pool, as contracts and proofs see them, without a representation at run time.
 
 ghost use Rattle.std.specs.Prelude.{◌≡◌};
 ghost use Rattle.std.specs.Borrow.{ftrue};

@@ -1,4 +1,4 @@
--- Masks of candidate slots, bit by bit.
+-- Facts about bit masks of candidate slots (candidates for registers), bit by bit.
 use Rattle.std.proofs.Common.{◌≡◌, ◌≢◌, ℕ, zero, suc, ◌+◌, ◌-◌, ◌*◌, ◌^◌, ◌%◌, ◌<◌, ◌≤◌, true, false, List, [], ◌∷◌, ◌++◌, length, refl, sym, ap, subst, ◌∙◌, arith, inl, inr}
 use Rattle.std.specs.Prelude.{bit_and, bit_xor, nat_le, nat_lt}
 use Rattle.std.specs.Int.{bit_at}
@@ -62,7 +62,7 @@ no_range_bit masks first (suc count) j none =
     (no_range_bit masks first count j (λ k below. none k (omega (arith, below)))) (none count (omega arith))
 
 module _ (masks : List ℕ) (next : ℕ) (are : AreMasks masks next) (slot j : ℕ) (has : HasBit masks slot j) where
-  -- No other slot has the bit of this slot.
+  -- No two slots have the same bit in their masks.
   pub other_bit : (other : ℕ) → (other ≡ slot → ⊥) → bit_at (mask_at masks other) j ≡ 0
   other_bit other apart = elim (cases_lt (bit_at (mask_at masks other) j) 1) [
     | inl small ↦ omega (arith, small)

@@ -1,4 +1,4 @@
--- A checked table is right for each candidate: it misses no place where the slot is live.
+-- If the check of the liveness table succeeds, the table misses no position at which a candidate slot is live.
 use Rattle.std.proofs.Common.{◌≡◌, ℕ, zero, suc, ◌+◌, true, false, ◌||◌, ◌&&◌, List, sym, subst, arith, inl, inr}
 use Rattle.std.specs.Prelude.{◌==◌, Bool, if◌then◌else◌, bit_and, bit_or}
 use Rattle.std.specs.Int.{bit_at}
@@ -119,7 +119,7 @@ module _ (masks : List ℕ) (slot j : ℕ) (has : HasBit masks slot j) where
   request_written_bit (requests.Allocate destination handle words) is = slot_bit destination is
   request_written_bit (requests.Free address) is = absurd (false≢true is)
 
-  -- The mask of writes contains each slot that the instruction writes and does not exclude.
+  -- The mask of writes contains each slot that the instruction writes and does not exclude from registers.
   pub written_bit : (program : Program) (i : Instruction) → (bars i slot ≡ true → ⊥) → writes program i slot ≡ true → bit_at (write_mask masks program i) j ≡ 1
   written_bit program (instructions.Move destination source) free is = slot_bit destination is
   written_bit program (instructions.MoveWords destination source count) free is = among_bit masks destination count slot j is has
@@ -169,11 +169,11 @@ module _ (masks : List ℕ) (slot j : ℕ) (has : HasBit masks slot j) where
 -- ---- a checked table
 
 module _ (program : Program) (r : Routine) (masks live : List ℕ) (calls clauses barred : ℕ) (sound : IsSound program r masks live calls clauses barred) where
-  -- The uses and definitions of an instruction, as listed in the table of uses.
+  -- The slots that an instruction reads and writes, as listed in the table of uses.
   abbrev used : Instruction → Uses
   used i = uses_of program r.results masks i
 
-  -- The properties that the check ensures of one instruction.
+  -- The properties that the check of the liveness table ensures for one instruction.
   checked : (index : ℕ) (i : Instruction) → At r index i
       → (bit_or (needed_mask (used i) i index live) (mask_at live index) ≡ mask_at live index)
       × (bit_or (call_mask (used i) i index live) calls ≡ calls) × (bit_or (clause_mask i live) clauses ≡ clauses) × (bit_or (bar_mask masks i) barred ≡ barred)
@@ -209,7 +209,7 @@ module _ (program : Program) (r : Routine) (masks live : List ℕ) (calls clause
         (led_bit i index next j live led (live_within steps next wanted))
         (others_bit i other)))
 
-    -- The table contains the slot at each place where it is live.
+    -- The liveness table contains a slot at each code position where the slot is live.
     pub live_bit : (index : ℕ) → IsLiveAt program r slot index → bit_at (mask_at live index) j ≡ 1
     live_bit index (steps, wanted) = live_within steps index wanted
 

@@ -1,4 +1,4 @@
--- The places listed as filling delay slots may fill them.
+-- The code positions listed as filling delay slots may fill them.
 use Rattle.std.proofs.Common.{◌≡◌, ℕ, suc, ◌+◌, ◌<◌, Bool, false, true, List, length, Option, None, Some, sym, ap, subst, ◌∙◌, arith, inl, inr}
 use Rattle.std.specs.Prelude.{◌==◌, ◌&&◌, not, nat_lt, if◌then◌else◌, bit_and, bit_or, slice_get, slice_set}
 use Rattle.std.specs.Int.{bit_at}
@@ -27,7 +27,7 @@ use Rattle.cyc_registers.proofs.CheckedLiveness.{live_bit}
 -- ---- one branch at a time
 
 module _ (holders live : List ℕ) (hs : List Home) (code : List Instruction) (count : ℕ) (fills : List Bool) (left_so_far : AreLeft holders live hs code count fills) where
-  -- The list of places keeps its length.
+  -- Excluding branch targets does not change the length of the list of code positions.
   length-barring : (last : Instruction) → length (barring holders live hs code count last fills) ≡ length code
   length-barring (instructions.Branch comparison left right target) = go (nat_lt target (length fills) && not (may_fill holders live hs count (slice_get code target)))
     where
@@ -36,7 +36,7 @@ module _ (holders live : List ℕ) (hs : List Home) (code : List Instruction) (c
       go false = left_so_far.as_many
   length-barring i = left_so_far.as_many
 
-  -- A place that fills delay slots after the step did so before.
+  -- A position that may fill delay slots after one more branch was examined could already fill them before.
   fills_before : (target at : ℕ) (b : Bool) → fills_at (if b then slice_set fills at false else fills) target ≡ true → fills_at fills target ≡ true
   fills_before target at false is = is
   fills_before target at true is = elim (cases_eq target at) [
@@ -47,7 +47,7 @@ module _ (holders live : List ℕ) (hs : List Home) (code : List Instruction) (c
     | inr other ↦ sym (get_or-set_other fills at target false false other) ∙ is
   ]
 
-  -- The target of a branch is removed from the list if it may not fill the delay slot.
+  -- The target of a branch is removed from the list of filling positions if its instruction may not fill the branch's delay slot.
   barred_here : (index target : ℕ) (comparison : Comparison) (left right : Operand) (i : Instruction) → slice_get code target ≡ Some i
       → fills_at (barring holders live hs code count (instructions.Branch comparison left right target) fills) target ≡ true → may_fill holders live hs count (Some i) ≡ true
   barred_here index target comparison left right i there is = elim (cases_Bool (may_fill holders live hs count (Some i))) [
@@ -61,7 +61,7 @@ module _ (holders live : List ℕ) (hs : List Home) (code : List Instruction) (c
         ∙ (sym (ap (λ (b : Bool). fills_at (if b then slice_set fills target false else fills) target) barred) ∙ is)))
   ]
 
-  -- The invariant is kept by one more instruction.
+  -- Examining one more instruction keeps the invariant on the positions that fill delay slots.
   pub more_barred : (last : Instruction) → slice_get code count ≡ Some last → AreLeft holders live hs code (count + 1) (barring holders live hs code count last fills)
   more_barred last at_last = record {
     as_many = length-barring last;
@@ -87,7 +87,7 @@ by_register holders (homes.Register register) k has = ap (mask_at holders) (let 
 
 module _ (program : Program) (r : Routine) (masks live holders : List ℕ) (calls clauses barred : ℕ) (sound : IsSound program r masks live calls clauses barred)
     (are : AreMasks masks MOST_CHOSEN) (hs : List Home) (right : AreHolders masks holders hs) where
-  -- If a slot's register is free after a place, no slot with that register is live there.
+  -- If a slot's register is free after a code position, no slot with that register is live there.
   free : (index slot a k : ℕ) → is_free holders live hs index slot ≡ true → HasRegister hs slot k → HasRegister hs a k → IsLiveAt program r a (suc index) → ⊥
   free index slot a k is has has_a wanted =
       let (j, bit) = are.some a (right a k has_a).0 in
@@ -104,7 +104,7 @@ module _ (program : Program) (r : Routine) (masks live holders : List ℕ) (call
   free_at destination index d a k is written has has_a wanted =
       free index destination a k is (subst (λ (n : ℕ). HasRegister hs n k) (sym (eqb-true destination d written)) has) has_a wanted
 
-  -- The slot that a filling instruction writes has a free register.
+  -- If an instruction may fill a delay slot, the register of the slot that it writes is free there.
   free_of : (i : Instruction) (index d a k : ℕ) → may_fill holders live hs index (Some i) ≡ true → writes program i d ≡ true → HasRegister hs d k → HasRegister hs a k → IsLiveAt program r a (suc index) → ⊥
   free_of (instructions.Move destination source) index d a k is written has has_a wanted = free_at destination index d a k is written has has_a wanted
   free_of (instructions.Unary operator destination operand) index d a k is written has has_a wanted = free_at destination index d a k is written has has_a wanted

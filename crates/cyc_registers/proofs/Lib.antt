@@ -1,8 +1,8 @@
--- a checked table misses no place where a slot is live
+-- A checked liveness table misses no code position where a slot is live.
 pub mod Bits
 pub mod UsesTable
 pub mod CheckedLiveness
--- the homes of slots are correct
+-- Lemmas that the homes of slots (registers or memory) are correct.
 pub mod Meeting
 pub mod CheckedHomes
 pub mod IdleCode

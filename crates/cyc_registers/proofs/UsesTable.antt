@@ -1,4 +1,4 @@
--- The table of the effects of instructions, built one by one.
+-- The table of the slots that instructions read and write is built one instruction after the other.
 use Rattle.std.proofs.Common.{◌≡◌, ℕ, ◌+◌, ◌<◌, List, [], ◌∷◌, ◌++◌, Some, length, length-append, sym, ap, ◌∙◌, arith, inl, inr}
 use Rattle.std.specs.Prelude.{slice_get}
 use Rattle.std.proofs.lemmas.Bool.{cases_eq}
@@ -9,7 +9,7 @@ use Rattle.cyc_registers.specs.declared.uses.Uses.{Uses}
 use Rattle.cyc_registers.specs.inside.Masks.{uses_of}
 use Rattle.cyc_words.proofs.Lists.{slice_get_last, slice_get_before}
 
--- The table of uses of the first `count` instructions.
+-- Says that the table of uses is right for the first `count` instructions.
 abbrev pub AreFirstUses : Program → Routine → (masks : List ℕ) → (count : ℕ) → List Uses → Type 0
 AreFirstUses program r masks count table =
     (length table ≡ count)

@@ -1,10 +1,10 @@
--- the results that the contract of `allocate` rests on
+-- The definitions that the contract of `allocate` depends on.
 pub mod Bars
 pub mod Liveness
 pub mod Interference
 pub mod Idle
 pub mod Fills
--- the contracts of the functions inside the crate
+-- The contracts of the functions inside the register allocator's crate.
 pub mod Masks
 pub mod LivenessTable
 pub mod IdlePlaces

@@ -1,4 +1,4 @@
-//! Register allocation: spill costs, liveness, the assignment of registers, and the instructions that then need no code.
+//! Register allocation: spill costs, liveness, the assignment of registers, and the instructions that then need no machine code.
 ghost use Rattle.std.specs.Prelude.{◌≡◌, ◌≤◌, IfOk};
 ghost use Rattle.cyc_plain.specs.inside.Program.{routine_of};
 ghost use Rattle.cyc_registers.specs.inside.Interference.{AreHomes};
@@ -18,28 +18,29 @@ use crate::uses::all_uses;
 use cyc_plain::{Function, Plain};
 use std::alloc::{AllocError, Global};
 
-/// The homes of a function's slots, and the places that need no machine code.
+/// The result of register allocation: the homes of a function's slots, and the instructions that need no machine code.
 #[derive(Drop)]
 pub struct Allocation {
-    /// The home of each slot.
+    /// The home of each slot: a register, memory, or both.
     pub homes: Vec<Home>,
-    /// The number of callee-saved registers assigned to slots: the first ones.
+    /// The number of callee-saved registers assigned to slots; they are the first ones.
     pub saved: usize,
-    /// True for each place of the code that is idle. Places after the last are not.
+    /// True for each instruction that is idle, so that it needs no machine code. Instructions past the end of the list are not idle.
     pub idle: Vec<bool>,
-    /// True for each place whose word may be computed before the branches to it, in their delay slots. Places after the last do not
-    /// qualify.
+    /// True for each instruction whose word may be computed before the branches to it, in their delay slots. Instructions past the
+    /// end of the list do not qualify.
     pub fills: Vec<bool>,
 }
 
-/// Returns homes in memory for all slots.
+/// Returns a list of homes in which every slot is in memory.
 fn in_memory(alloc: Global, plain: &Plain, function: &Function) -> Result<Vec<Home>, AllocError>
     ensures { IfOk result (λ homes. AreHomes plain.now (routine_of function.now) 0 homes.items) }
 {
     Ok(vec![in alloc; Home::Memory; function.slots]?)
 }
 
-/// Returns all slots in memory, with no idle place and no filled delay slot. An allocation of all slots in memory is correct for any code.
+/// Returns an allocation with all slots in memory, no idle instruction and no filled delay slot. An allocation of all slots in memory is
+/// correct for any code.
 fn memory_alone(alloc: Global, plain: &Plain, function: &Function) -> Result<Allocation, AllocError>
     ensures homes { IfOk result (λ given. AreHomes plain.now (routine_of function.now) given.saved given.homes.items) }
     ensures saved { IfOk result (λ given. given.saved ≡ 0) }
@@ -54,8 +55,8 @@ fn memory_alone(alloc: Global, plain: &Plain, function: &Function) -> Result<All
     })
 }
 
-/// Returns a home for each slot of a function, and the idle places that follow from them. The slots with the highest spill costs get
-/// registers, which slots may share if they are never live at once. At most `most` callee-saved registers are used.
+/// Returns a home for each slot of a function, and the idle instructions that follow from the homes. The slots with the highest
+/// spill costs get registers, which slots may share if they are never live at once. At most `most` callee-saved registers are used.
 pub fn allocate(
     alloc: Global,
     plain: &Plain,

@@ -1,4 +1,4 @@
-//! Chooses the slots that get registers, and their registers. Unverified: the checker validates the homes.
+//! Chooses the slots that get registers, and their registers. This code is unverified: the checker validates the homes.
 ghost use Rattle.std.specs.Prelude.{◌≤◌, IfOk};
 
 use crate::home::{FIRST_PRESERVED, FIRST_REGISTER, Home, MOST_BOTH, MOST_SAVED, REGISTERS_END};
@@ -20,37 +20,37 @@ const SLOTS: usize = MOST_CHOSEN as usize;
 /// The cost of using a callee-saved register: each call of the function saves and restores it, and a caller may have to save it too.
 const PRESERVED_PRICE: u64 = 4;
 
-/// The extra cost for a parameter, which is passed in memory and loaded from there.
+/// The extra cost of a register for a parameter, which is passed in memory and loaded from there.
 const ARRIVAL_PRICE: u64 = 2;
 
-/// The most times that a slot is considered: once for each kind of register, and once more.
+/// The maximal number of times that a slot is considered: once for each kind of register, and once more.
 const MOST_LOOKS: u32 = 4;
 
-/// Stands for the absence of a register.
+/// Stands for the absence of a register in the tables of the register choice.
 const NO_REGISTER: u8 = 0;
 
-/// A slot under consideration, with the savings of each kind of register.
+/// A slot under consideration, with the savings that each kind of register would bring.
 #[derive(Clone, Copy)]
 struct Candidate {
     slot: usize,
     mask: u64,
-    /// The slots that interfere with the candidate.
+    /// The slots that interfere with the candidate, so that they must not share its register.
     meets: u64,
-    /// The slots connected with the candidate by moves that do not interfere with it.
+    /// The slots that are connected with the candidate by moves and do not interfere with it.
     moves: u64,
-    /// The savings of a caller-saved register.
+    /// The savings of giving the candidate a caller-saved register.
     lost: u64,
-    /// True if the caller-saved register would be an addition to memory.
+    /// True if a caller-saved register would be in addition to the slot's word in memory.
     is_both: bool,
-    /// The savings of a callee-saved register that is already saved for another slot.
+    /// The savings of giving the candidate a callee-saved register that is already saved for another slot.
     preserved: u64,
     /// True if the candidate needs a caller-saved register and may find none to share.
     is_wide: bool,
-    /// An upper bound of the candidate's savings; 0 once it has a home.
+    /// An upper bound of the candidate's savings; it is 0 once the candidate has a home.
     gain: u64,
 }
 
-/// A possible home of a slot, with its savings.
+/// A possible home of a slot, with the savings that it brings.
 #[derive(Clone, Copy)]
 struct Offer {
     home: Home,
@@ -58,30 +58,30 @@ struct Offer {
     gain: u64,
 }
 
-/// The registers assigned so far.
+/// The registers assigned to candidates so far.
 #[derive(Drop)]
 struct Registers {
-    /// The slots of each register, indexed by register.
+    /// The slots that have each register, indexed by register.
     slots: [u64; REGISTERS],
     /// The register of each candidate, indexed by candidate number.
     given: [u8; SLOTS],
-    /// The register in which each candidate is passed, so that passing needs no move.
+    /// For each candidate, the register in which it is passed as an argument or parameter, so that passing it needs no move.
     wanted: [u8; SLOTS],
-    /// The candidates that are passed in each register.
+    /// The candidates that are passed in each register, indexed by register.
     handed: [u64; REGISTERS],
-    /// The number of caller-saved registers without a slot.
+    /// The number of caller-saved registers that no slot has.
     free: usize,
-    /// The number of callee-saved registers assigned: the first ones.
+    /// The number of callee-saved registers assigned to slots; they are the first ones.
     saved: usize,
-    /// The most callee-saved registers that may be assigned.
+    /// The maximal number of callee-saved registers that may be assigned.
     most: usize,
-    /// The number of slots with a register in addition to memory.
+    /// The number of slots that have a register in addition to memory.
     both: usize,
-    /// The number of remaining slots that may find no register to share, for which free ones are reserved.
+    /// The number of slots not yet considered that may find no register to share; free registers are reserved for them.
     wide: usize,
 }
 
-/// Homes, and the number of callee-saved registers to save for them.
+/// The chosen homes of slots, and the number of callee-saved registers to save for them.
 #[derive(Drop)]
 pub(crate) struct Chosen {
     pub(crate) homes: Vec<Home>,
@@ -94,7 +94,7 @@ const NO_OFFER: Offer = Offer {
     gain: 0,
 };
 
-/// Returns the register listed for the candidate with the lowest number among these.
+/// Returns the register that a list gives for the lowest-numbered candidate of a set.
 fn register_at(list: &[u8], slots: u64) -> u8 {
     match list.get(slots.trailing_zeros() as usize) {
         Some(register) => *register,
@@ -148,13 +148,13 @@ impl Candidate {
 }
 
 impl Registers {
-    /// Returns true if the register is caller-saved and has none of these slots.
+    /// Returns true if the register is caller-saved and held by none of the slots in `others`.
     fn is_open(&self, register: u8, others: u64) -> bool {
         (FIRST_REGISTER..FIRST_PRESERVED).contains(&register)
             && mask_at(&self.slots, register as usize) & others == 0
     }
 
-    /// Returns the first caller-saved register listed for one of these candidates that has no interfering slot.
+    /// Returns the first caller-saved register listed for one of the given candidates that no interfering slot has.
     fn first_open(&self, list: &[u8], slots: u64, others: u64) -> Option<u8> {
         let mut left = slots;
         for _ in 0..MOST_CHOSEN {
@@ -170,7 +170,7 @@ impl Registers {
         None
     }
 
-    /// Returns the first register of a range that has a slot connected with the candidate by a move and no interfering slot.
+    /// Returns the first register of a range that is held by a slot connected with the candidate by a move, and by no interfering slot.
     fn moved(&self, first: u8, end: u8, candidate: &Candidate) -> Option<u8> {
         if candidate.moves == 0 {
             return None;
@@ -184,8 +184,8 @@ impl Registers {
         None
     }
 
-    /// Returns a register that has other slots but no interfering one. Prefers a slot connected by a move, else the register with the
-    /// fewest slots, since instructions on one register cannot be reordered.
+    /// Returns a register that other slots have but no interfering one. Prefers the register of a slot connected by a move, else the
+    /// register with the fewest slots, since instructions on one register cannot be reordered.
     fn shared(&self, first: u8, end: u8, candidate: &Candidate) -> Option<u8> {
         let mut found = self.moved(first, end, candidate);
         if found.is_some() {
@@ -203,7 +203,7 @@ impl Registers {
         found
     }
 
-    /// Returns a caller-saved register without a slot, if possible one in which no interfering slot is passed.
+    /// Returns a caller-saved register that no slot has, if possible one in which no interfering slot is passed.
     fn free(&self, candidate: &Candidate) -> Option<u8> {
         let mut found = None;
         for register in FIRST_REGISTER..FIRST_PRESERVED {
@@ -217,9 +217,9 @@ impl Registers {
         found
     }
 
-    /// Returns a caller-saved register that has none of the interfering slots. Tries the register of a slot connected by a move first. If
-    /// that register is not free, it tries the registers in which this slot, or a slot connected by a move, is passed. Returns another free
-    /// register only while more than the reserved ones are left.
+    /// Returns a caller-saved register that none of the interfering slots has. First tries the register of a slot connected by a move. If
+    /// that register is not free, the function tries the registers in which the candidate, or a slot connected by a move, is passed.
+    /// Returns another free register only while more than the reserved ones are left.
     fn lost(&self, candidate: &Candidate, others: u64) -> Option<u8> {
         let moved = self.first_open(&self.given, candidate.moves, others);
         if moved.is_some() {
@@ -242,7 +242,8 @@ impl Registers {
         }
     }
 
-    /// Returns the best caller-saved register. A slot live after a call keeps its word in memory too, and shares its register with no slot.
+    /// Returns the best caller-saved register for a candidate. A slot live after a call keeps its word in memory too, and shares its
+    /// register with no slot.
     fn lost_offer(&self, candidate: &Candidate) -> Offer {
         let is_both = candidate.is_both;
         if is_both && self.both >= MOST_BOTH {
@@ -267,12 +268,12 @@ impl Registers {
         }
     }
 
-    /// Returns the next callee-saved register; those before it are already saved.
+    /// Returns the next callee-saved register to assign; the callee-saved registers before it are already saved.
     fn next_preserved(&self) -> u8 {
         FIRST_PRESERVED + self.saved.min(MOST_SAVED) as u8
     }
 
-    /// Returns a callee-saved register: one that is already saved for another slot, or the next one.
+    /// Returns a callee-saved register for a candidate: one that is already saved for another slot, or the next one.
     fn preserved_offer(&self, candidate: &Candidate) -> Offer {
         let next = self.next_preserved();
         match self.shared(FIRST_PRESERVED, next, candidate) {
@@ -308,8 +309,8 @@ impl Registers {
         }
     }
 
-    /// Returns true if a slot should take a callee-saved register without needing it: a slot connected by a move has one, and none
-    /// connected has a caller-saved one.
+    /// Returns true if a slot should take a callee-saved register without needing it: a slot connected by a move has one, and no
+    /// connected slot has a caller-saved one.
     fn is_near_preserved(&self, candidate: &Candidate) -> bool {
         candidate.preserved >= candidate.gain
             && self
@@ -320,7 +321,7 @@ impl Registers {
                 .is_none()
     }
 
-    /// Returns the best home left for a slot.
+    /// Returns the best home that is still available for a slot.
     fn offer(&self, candidate: &Candidate) -> Offer {
         if self.is_near_preserved(candidate) {
             return self.preserved_offer(candidate);
@@ -332,7 +333,8 @@ impl Registers {
         better(lost, self.preserved_offer(candidate))
     }
 
-    /// Gives a slot the best home left, if that saves as much as was expected. Returns what the slot may still save, or 0.
+    /// Gives a slot the best home that is still available, if that saves as much as was expected. Returns the savings that
+    /// the slot may still have, or 0.
     fn settle(&mut self, homes: &mut Vec<Home>, candidate: &Candidate) -> u64 {
         let offer = self.offer(candidate);
         if offer.gain < candidate.gain {
@@ -363,7 +365,7 @@ fn next_of(candidates: &[Candidate]) -> usize {
 }
 
 impl Registers {
-    /// Returns all registers, without slots.
+    /// Returns the table of all registers, none of which is assigned to a slot.
     fn new(most: usize) -> Registers {
         Registers {
             slots: [0; REGISTERS],
@@ -429,7 +431,7 @@ impl Registers {
     }
 }
 
-/// Returns homes for the slots of a function that may save `most` registers. Slots with the greatest savings are served first.
+/// Returns homes for the slots of a function that may save `most` registers. Slots with the greatest savings get registers first.
 pub(crate) fn choose(
     alloc: Global,
     function: &Function,

@@ -1,4 +1,4 @@
-//! The places whose word may be computed before the branches that lead to these places.
+//! The instructions whose word may be computed before the branches that target them, in delay slots.
 ghost use Rattle.std.specs.Prelude.{◌≡◌, ◌<◌, length, slice_get, IfOk};
 ghost use Rattle.cyc_plain.specs.inside.Program.{routine_of};
 ghost use Rattle.cyc_registers.specs.inside.Fills.{AreFillable};
@@ -13,7 +13,7 @@ use crate::masks::mask_at;
 use cyc_plain::{Function, Instruction, Plain};
 use std::alloc::{AllocError, Global};
 
-/// Returns true if a slot has no register, or no slot with its register is live after this place.
+/// Returns true if a slot has no register, or no slot with its register is live after the instruction at `index`.
 fn is_free(holders: &[u64], live: &[u64], homes: &[Home], index: usize, slot: usize) -> bool
     requires { index < length live.now }
     ensures { result ≡ checks.is_free holders.now live.now homes.now index slot }
@@ -48,7 +48,7 @@ fn may_fill(
     }
 }
 
-/// Excludes the target of the branch at `index` if the target may not fill its delay slot.
+/// Excludes the target of the branch at `index` from the filling instructions if it may not fill the branch's delay slot.
 fn bar(
     holders: &[u64],
     live: &[u64],
@@ -68,7 +68,7 @@ fn bar(
     }
 }
 
-/// Returns the places of a function's code that fill delay slots.
+/// Returns the instructions of a function's code that may fill delay slots.
 pub(crate) fn fills_of(
     alloc: Global,
     plain: &Plain,

@@ -1,4 +1,4 @@
-//! The places that need no machine code.
+//! Finds the idle instructions, which need no machine code.
 ghost use Rattle.std.specs.Prelude.{◌≡◌, ◌+◌, ◌<◌, true, length, not, if◌then◌else◌, slice_set, IfOk};
 ghost use Rattle.cyc_plain.specs.inside.Program.{routine_of};
 ghost use Rattle.cyc_plain.specs.inside.Uses.{is_slot};
@@ -15,14 +15,14 @@ use crate::masks::mask_at;
 use cyc_plain::{BinaryOperator, Comparison, Function, Instruction, Operand, Plain};
 use std::alloc::{AllocError, Global};
 
-/// Returns true if an operator has a result for all words.
+/// Returns true if an operator has a result for all operand words.
 fn always_has_result(operator: BinaryOperator) -> bool
     ensures { result ≡ always_has_result operator }
 {
     !matches!(operator, BinaryOperator::Divide | BinaryOperator::Remainder)
 }
 
-/// Returns true if a branch compares a word with that word in a way that never holds. A branch whose comparison never holds is never taken.
+/// Returns true if a branch compares two equal constants for inequality. A branch whose comparison never holds is never taken.
 fn never_holds(comparison: Comparison, left: Operand, right: Operand) -> bool
     ensures { result ≡ checks.never_holds comparison left right }
 {
@@ -49,7 +49,7 @@ fn is_unkept(homes: &[Home], slot: usize) -> bool
     matches!(homes.get(slot), Some(Home::Register { .. }))
 }
 
-/// Returns true if a slot in a register only is not live after this place.
+/// Returns true if a slot that is in a register only is not live after the instruction at `index`.
 fn is_unused(masks: &[u64], live: &[u64], homes: &[Home], index: usize, slot: usize) -> bool
     requires { index < length live.now }
     ensures { result ≡ checks.is_unused masks.now live.now homes.now index slot }
@@ -58,7 +58,7 @@ fn is_unused(masks: &[u64], live: &[u64], homes: &[Home], index: usize, slot: us
     0 < mask && (mask_at(live, index + 1) & mask == 0 && is_unkept(homes, slot))
 }
 
-/// Returns true if the slot at this offset from the first is unused.
+/// Returns true if the slot at a given offset from the first slot is unused.
 fn is_unused_after(
     masks: &[u64],
     live: &[u64],
@@ -95,7 +95,7 @@ fn are_unused(
     are
 }
 
-/// Returns true if the first home is a register only, and the second home has that register.
+/// Returns true if the first home is a register only, and the second home has the first one's register.
 fn shares_register(home: Home, other: Home) -> bool
     ensures { result ≡ checks.shares_register home other }
 {
@@ -163,7 +163,7 @@ fn is_idle(
     }
 }
 
-/// Returns true if a place is idle. A place without an entry is not.
+/// Returns true if the instruction at `index` is idle. An instruction without an entry is not idle.
 fn idle_at(idle: &[bool], index: usize) -> bool
     ensures { result ≡ rules.idle_at idle.now index }
 {
@@ -173,7 +173,7 @@ fn idle_at(idle: &[bool], index: usize) -> bool
     }
 }
 
-/// Returns true if the places from `first` up to `end` are idle.
+/// Returns true if the instructions from `first` up to `end`, exclusive, are idle.
 fn are_idle(idle: &[bool], first: usize, end: usize) -> bool
     ensures { result ≡ true → rules.AreIdleFrom idle.now first end }
 {
@@ -185,7 +185,7 @@ fn are_idle(idle: &[bool], first: usize, end: usize) -> bool
     true
 }
 
-/// Returns true if an instruction jumps forward over idle places only.
+/// Returns true if an instruction jumps forward over idle instructions only.
 fn leads_over(idle: &[bool], instruction: Instruction, index: usize) -> bool
     ensures { result ≡ true → rules.LeadsOver idle.now index instruction }
 {
@@ -195,7 +195,7 @@ fn leads_over(idle: &[bool], instruction: Instruction, index: usize) -> bool
     }
 }
 
-/// Returns the idle places of a function's code, except jumps over idle places.
+/// Returns the idle instructions of a function's code, except jumps over idle instructions.
 fn idle_alone(
     alloc: Global,
     plain: &Plain,
@@ -217,7 +217,7 @@ fn idle_alone(
     Ok(idle)
 }
 
-/// Marks a place as idle, if it is one.
+/// Marks the instruction at `index` as idle, if it is idle.
 fn say(idle: &mut Vec<bool>, index: usize, is_more: bool)
     requires { index < length idle.old.items }
     ensures { idle.new.items ≡ (if is_more then slice_set idle.old.items index true else idle.old.items) }
@@ -227,7 +227,8 @@ fn say(idle: &mut Vec<bool>, index: usize, is_more: bool)
     }
 }
 
-/// Returns the idle places of a function's code. A jump is idle if it skips only idle places, not counting later jumps over idle places.
+/// Returns the idle instructions of a function's code. A jump counts as idle if it skips only idle instructions, not counting later
+/// jumps over idle instructions.
 pub(crate) fn idle_places(
     alloc: Global,
     plain: &Plain,

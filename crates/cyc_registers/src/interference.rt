@@ -1,4 +1,4 @@
-//! The interference graph of the candidates, and the moves between them. Unverified: the checker validates the homes.
+//! The interference graph of the candidates, and the moves between them. The graph is unverified: the checker validates the homes.
 ghost use Rattle.std.specs.Prelude.{◌≡◌, length};
 
 use crate::liveness::{MOST_CHOSEN, after_mask};
@@ -7,23 +7,23 @@ use crate::spill_costs::goes_on;
 use crate::uses::Uses;
 use cyc_plain::{Function, Instruction};
 
-/// The number of rows: one for each candidate.
+/// The number of rows of the interference graph: one for each candidate.
 const ROWS: usize = MOST_CHOSEN as usize;
 
-/// For each candidate, by its number, the candidates that interfere with it and those connected with it by moves.
+/// For each candidate number, the candidates that interfere with the candidate and those connected with it by moves.
 #[derive(Drop)]
 pub(crate) struct Interference {
-    /// The candidates that are live simultaneously, so that they must not share a register.
+    /// For each candidate, the candidates that are live simultaneously with it, so that they must not share a register.
     meets: [u64; ROWS],
-    /// The candidates that should share a register, so that the move needs no machine code.
+    /// For each candidate, the candidates that should share its register, so that the move between them needs no machine code.
     moves: [u64; ROWS],
-    /// The candidates whose rows may be non-empty.
+    /// The candidates whose rows of the interference graph may be non-empty.
     met: u64,
-    /// True if control can continue after the last visited instruction.
+    /// True if control can fall through from the last visited instruction to the next.
     goes: bool,
 }
 
-/// Adds slots to each row of a set.
+/// Adds a set of slots to the row of each candidate in `to`.
 fn add(rows: &mut [u64; ROWS], to: u64, slots: u64) {
     let mut left = to;
     for _ in 0..MOST_CHOSEN {
@@ -37,7 +37,7 @@ fn add(rows: &mut [u64; ROWS], to: u64, slots: u64) {
     }
 }
 
-/// Makes the first `count` rows symmetric. The rows after them are empty.
+/// Makes the first `count` rows of the interference graph symmetric. The rows after the first `count` are empty.
 fn mirror(rows: &mut [u64; ROWS], count: usize) {
     let mut mask: u64 = 1;
     for number in 0..count {
@@ -48,7 +48,8 @@ fn mirror(rows: &mut [u64; ROWS], count: usize) {
 }
 
 impl Interference {
-    /// Returns the graph of a function before any instruction is visited. The parameters of a function interfere with each other.
+    /// Returns the interference graph of a function before any instruction is visited. The parameters of a function interfere
+    /// with each other.
     fn of_parameters(function: &Function, masks: &[u64]) -> Interference {
         let parameters = range_mask(masks, 0, function.parameters);
         let mut interference = Interference {
@@ -61,7 +62,7 @@ impl Interference {
         interference
     }
 
-    /// Returns the interference graph of a function's code, given the uses of its instructions and the slots live at each.
+    /// Returns the interference graph of a function's code, given the uses of its instructions and the slots live at each instruction.
     pub(crate) fn of_code(
         function: &Function,
         masks: &[u64],
@@ -81,19 +82,19 @@ impl Interference {
         interference
     }
 
-    /// Returns the candidates that interfere with the one of this mask.
+    /// Returns the candidates that interfere with the candidate of a given mask.
     pub(crate) fn meets(&self, mask: u64) -> u64 {
         mask_at(&self.meets, mask.trailing_zeros() as usize)
     }
 
-    /// Returns the candidates connected by moves with the one of this mask.
+    /// Returns the candidates connected by moves with the candidate of a given mask.
     pub(crate) fn moves(&self, mask: u64) -> u64 {
         mask_at(&self.moves, mask.trailing_zeros() as usize)
     }
 
-    /// Adds the next instruction, with the slots live at it and after it. Slots interfere if they are live at the entry or after an
-    /// instruction that never falls through. A written slot interferes with those live after it. A slot moved along with other words
-    /// interferes with all of their sources.
+    /// Adds the next instruction to the interference graph, with the slots live at the instruction and after it. Slots interfere if
+    /// they are live at the entry or after an instruction that never falls through. A written slot interferes with the slots live
+    /// after the write. A slot moved along with other words interferes with all of their sources.
     fn look_at(&mut self, uses: Uses, instruction: Instruction, live: u64, following: u64) {
         if !self.goes {
             add(&mut self.meets, live, live);
@@ -113,7 +114,7 @@ impl Interference {
         }
     }
 
-    /// Makes the rows symmetric after all instructions have been visited.
+    /// Makes the rows of the interference graph symmetric after all instructions have been visited.
     fn complete(&mut self) {
         let count = ROWS.saturating_sub(self.met.leading_zeros() as usize);
         mirror(&mut self.meets, count);

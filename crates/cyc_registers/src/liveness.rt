@@ -1,4 +1,5 @@
-//! Liveness of the candidate slots: a table of where each may be live, computed by backward passes over the code, and its check.
+//! Liveness of the candidate slots: a table of the code positions where each may be live, computed by backward passes over the
+//! code, and the table's check.
 ghost use Rattle.std.specs.Prelude.{◌≡◌, ◌<◌, ◌≤◌, length, true, bit_and, bit_or, IfOk};
 ghost use Rattle.cyc_plain.specs.inside.Program.{routine_of};
 ghost use Rattle.cyc_registers.specs.inside.LivenessTable as checks;
@@ -9,16 +10,16 @@ use crate::uses::Uses;
 use cyc_plain::{Function, Instruction, Plain};
 use std::alloc::{AllocError, Global};
 
-/// The most candidate slots of a function: a mask has this many bits.
+/// The maximal number of candidate slots of a function: a mask has 64 bits.
 pub(crate) const MOST_CHOSEN: u32 = 64;
 
-/// The mask of all candidate numbers.
+/// The mask that contains all candidate numbers.
 pub(crate) const ALL_NUMBERS: u64 = 0xffff_ffff_ffff_ffff;
 
-/// The maximum number of further passes over the table. Each level of nested loops takes one pass.
+/// The maximal number of further passes over the liveness table. Each level of nested loops takes one pass.
 const ROUNDS: usize = 16;
 
-/// Returns the table's entry for the successors of an instruction.
+/// Returns the liveness table's entry for the successors of an instruction.
 pub(crate) fn after_mask(instruction: Instruction, index: usize, live: &[u64]) -> u64
     requires { index < length live.now }
     ensures { result ≡ checks.after_mask instruction index live.now }
@@ -35,21 +36,22 @@ pub(crate) fn after_mask(instruction: Instruction, index: usize, live: &[u64]) -
     }
 }
 
-/// Returns all candidates except those that an instruction writes.
+/// Returns the mask of all candidates except those that an instruction writes.
 fn unwritten_mask(uses: Uses) -> u64
     ensures { result ≡ checks.unwritten_mask uses }
 {
     ALL_NUMBERS ^ uses.writes
 }
 
-/// Returns the slots that the table must contain at an instruction: those that it reads, and those live after it that it does not write.
+/// Returns the slots that the liveness table must contain at an instruction: those that the instruction reads, and those live after it
+/// that it does not write.
 fn needed_mask(uses: Uses, following: u64) -> u64
     ensures { result ≡ bit_or uses.reads (bit_and following (checks.unwritten_mask uses)) }
 {
     uses.reads | following & unwritten_mask(uses)
 }
 
-/// Returns the slots that must survive a call: those live after it that it does not return.
+/// Returns the slots that must survive a call: those live after the call, except the ones that the call returns.
 fn call_mask(uses: Uses, instruction: Instruction, index: usize, live: &[u64]) -> u64
     requires { index < length live.now }
     ensures { result ≡ checks.call_mask uses instruction index live.now }
@@ -60,7 +62,7 @@ fn call_mask(uses: Uses, instruction: Instruction, index: usize, live: &[u64]) -
     }
 }
 
-/// Returns the slots that must be in memory too: those live in the handler that an instruction opens.
+/// Returns the slots that must also be in memory: those live in the handler that an instruction opens.
 fn clause_mask(instruction: Instruction, live: &[u64]) -> u64
     ensures { result ≡ checks.clause_mask instruction live.now }
 {
@@ -76,20 +78,21 @@ pub(crate) fn is_within(part: u64, whole: u64) -> bool
     part | whole == whole
 }
 
-/// The places where the candidates of a function are live.
+/// The code positions at which the candidates of a function are live.
 #[derive(Drop)]
 pub(crate) struct Lives {
-    /// For each place in the code, the candidates that may be live there.
+    /// For each position in the code, the candidates that may be live there.
     pub(crate) live: Vec<u64>,
-    /// Slots that are live after a call that does not return them.
+    /// The slots that are live after a call that does not return them.
     pub(crate) calls: u64,
-    /// Slots that are live in a handler.
+    /// The slots that are live in an exception handler.
     pub(crate) clauses: u64,
-    /// Slots that are excluded from registers.
+    /// The slots that are excluded from registers.
     pub(crate) barred: u64,
 }
 
-/// A function of a program, the masks of its slots, the slots that its instructions use, and the places at which slots are live.
+/// The input of the check of homes: a function of a program, the masks of its slots, the slots that its instructions use, and
+/// the positions at which slots are live.
 #[derive(Clone, Copy)]
 pub(crate) struct Analysis<'a> {
     pub(crate) plain: &'a Plain,
@@ -118,7 +121,8 @@ fn is_sound_at(
                 && is_within(uses.bars, lives.barred)))
 }
 
-/// Returns true if the table misses no place where a chosen slot is live, and none that is live after a call or in a clause, or is barred.
+/// Returns true if the liveness table misses no code position where a chosen slot is live. The check also ensures that no slot that is
+/// live after a call, live in a handler, or excluded from registers is missing from its set.
 pub(crate) fn is_sound(
     plain: &Plain,
     function: &Function,
@@ -142,7 +146,7 @@ pub(crate) fn is_sound(
     true
 }
 
-/// Makes one backward pass over the instructions before this place. The pass is unverified: the resulting table is checked.
+/// Makes one backward pass over the instructions before the position `end`. The pass is unverified: the resulting table is checked.
 fn sweep(function: &Function, uses: &[Uses], end: usize, lives: &mut Lives)
     requires table { length lives.old.live.items ≡ length function.now.code.items }
     requires all { length uses.now ≡ length function.now.code.items }
@@ -181,7 +185,7 @@ fn sweep(function: &Function, uses: &[Uses], end: usize, lives: &mut Lives)
     lives.barred = barred;
 }
 
-/// Returns true if the table contains the slots live at the targets of backward jumps.
+/// Returns true if the liveness table contains the slots live at the targets of backward jumps.
 fn is_settled(function: &Function, backward: &[usize], live: &[u64]) -> bool
     requires { length live.now ≡ length function.now.code.items }
 {
@@ -196,7 +200,7 @@ fn is_settled(function: &Function, backward: &[usize], live: &[u64]) -> bool
     true
 }
 
-/// Returns the place after the last backward jump: from there on, one pass is enough.
+/// Returns the code position after the last backward jump: from that position on, one pass is enough.
 fn loops_end(function: &Function, backward: &[usize]) -> usize
     ensures { result ≤ length function.now.code.items }
 {
@@ -212,7 +216,7 @@ fn loops_end(function: &Function, backward: &[usize]) -> usize
     }
 }
 
-/// Returns where the candidates may be live. `backward` lists the places of backward jumps in ascending order.
+/// Returns the code positions where the candidates may be live. `backward` lists the positions of backward jumps in ascending order.
 pub(crate) fn liveness_of(
     alloc: Global,
     function: &Function,

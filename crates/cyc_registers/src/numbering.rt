@@ -1,4 +1,4 @@
-//! The numbers of the candidate slots, as masks.
+//! Numbers the candidate slots; the numbers are given as masks.
 ghost use Rattle.std.specs.Prelude.{◌≤◌, IfOk};
 ghost use Rattle.cyc_registers.specs.inside.Masks.{AreMasks};
 
@@ -22,7 +22,7 @@ fn number(masks: &mut Vec<u64>, next: u32, is_chosen: bool) -> Result<u32, Alloc
     Ok(next + 1)
 }
 
-/// Returns the masks of all slots: those with the highest spill costs become candidates and get numbers in order.
+/// Returns the masks of all slots: the slots with the highest spill costs become candidates and get numbers in order.
 pub(crate) fn masks_of(alloc: Global, costs: &SpillCosts) -> Result<Vec<u64>, AllocError>
     ensures { IfOk result (λ masks. AreMasks masks.items MOST_CHOSEN) }
 {

@@ -23,7 +23,7 @@ fn is_single(slots: u64) -> bool
     slots & slots.saturating_sub(1) == 0
 }
 
-/// Returns the slots of each register, indexed by register. Unverified: they are checked together with the homes.
+/// Returns the slots that have each register, indexed by register. The result is unverified: it is checked together with the homes.
 pub(crate) fn holders_of(masks: &[u64], homes: &[Home]) -> [u64; REGISTERS] {
     let mut holders = [0; REGISTERS];
     for slot in 0..homes.len() {
@@ -39,7 +39,7 @@ pub(crate) fn holders_of(masks: &[u64], homes: &[Home]) -> [u64; REGISTERS] {
     holders
 }
 
-/// Appends a set to the groups if it has more than one slot.
+/// Appends a set of slots to the groups if the set has more than one slot.
 fn add_group(groups: &mut Vec<u64>, slots: u64) -> Result<(), AllocError>
     ensures { IfOk result (λ done. groups.new.items ≡ checks.with_group groups.old.items slots) }
 {
@@ -50,7 +50,7 @@ fn add_group(groups: &mut Vec<u64>, slots: u64) -> Result<(), AllocError>
     Ok(())
 }
 
-/// Returns the sets of more than one slot that share a register.
+/// Returns the groups: for each register that more than one slot has, the set of these slots.
 pub(crate) fn groups_of(alloc: Global, holders: &[u64]) -> Result<Vec<u64>, AllocError>
     ensures { IfOk result (λ groups. checks.AreGroups holders.now (length holders.now) groups.items) }
 {
@@ -68,7 +68,7 @@ fn is_given(saved: usize, register: u8) -> bool
     FIRST_REGISTER <= register && (register as usize) < FIRST_PRESERVED as usize + saved
 }
 
-/// Returns true if the home of a slot is correct in isolation, and the slots of its register include it.
+/// Returns true if the home of a slot is correct in isolation, and the set of slots listed for its register includes the slot.
 fn suits(analysis: &Analysis, holders: &[u64], saved: usize, slot: usize, home: Home) -> bool
     requires { saved ≤ MOST_SAVED }
     ensures { result ≡ checks.suits analysis.now.masks.now analysis.now.lives.now.live.items holders.now analysis.now.lives.now.calls
@@ -93,7 +93,7 @@ fn suits(analysis: &Analysis, holders: &[u64], saved: usize, slot: usize, home: 
     }
 }
 
-/// Returns true if each home is correct in isolation.
+/// Returns true if the home of each slot is correct in isolation.
 fn all_suit(analysis: &Analysis, holders: &[u64], saved: usize, homes: &[Home]) -> bool
     requires { saved ≤ MOST_SAVED }
     ensures { result ≡ true → checks.AllSuit analysis.now.masks.now analysis.now.lives.now.live.items holders.now analysis.now.lives.now.calls
@@ -162,8 +162,8 @@ fn are_single(groups: &[u64], set: u64) -> bool
     true
 }
 
-/// Returns true if a set contains at most one slot of each group. A subset of a set with at most one slot of each group has at most one
-/// slot of each group.
+/// Returns true if a set contains at most one slot of each group, given that the set `known` does. A subset of a set with at most one
+/// slot of each group has at most one slot of each group.
 fn are_alone(groups: &[u64], known: u64, set: u64) -> bool
     requires { checks.AreAlone groups.now known }
     ensures { result ≡ true → checks.AreAlone groups.now set }
@@ -171,7 +171,7 @@ fn are_alone(groups: &[u64], known: u64, set: u64) -> bool
     is_within(set, known) || are_single(groups, set)
 }
 
-/// Returns true if none of the slots that share a register is written, or at most one is written or live after.
+/// Returns true if none of the slots that share a register is written, or at most one of them is written or live after the instruction.
 fn is_apart(written: u64, following: u64, slots: u64) -> bool
     ensures { result ≡ checks.is_apart written following slots }
 {
@@ -203,8 +203,8 @@ fn standing_mask(uses: Uses, instruction: Instruction, index: usize, live: &[u64
     }
 }
 
-/// Returns true if no two slots of a group interfere anywhere. After an instruction only the written slots and those live after it need a
-/// new check.
+/// Returns true if no two slots of a group interfere anywhere. After an instruction, only the written slots and those live after it need
+/// a new check.
 fn never_meet(
     plain: &Plain,
     function: &Function,
@@ -255,7 +255,7 @@ fn may_share(
             && never_meet(plain, function, masks, uses, live, groups))
 }
 
-/// Returns true if the homes are correct for a function that saves `saved` registers.
+/// Returns true if the homes are correct for a function that saves `saved` callee-saved registers.
 pub(crate) fn are_right(
     analysis: &Analysis,
     holders: &[u64],

@@ -1,10 +1,10 @@
-//! Spill costs: the cost of keeping each slot in memory, used to select the candidates for registers. Unverified: the checker validates the
-//! homes, whatever is selected.
+//! Spill costs: the cost of keeping each slot in memory, used to select the candidates for registers. The code is unverified: the checker
+//! validates the homes, no matter which slots are selected.
 use crate::liveness::MOST_CHOSEN;
 use cyc_plain::{Function, Instruction, Operand, Request};
 use std::alloc::{AllocError, Global};
 
-/// The number of bits of a gain, and its highest bit.
+/// `GAIN_BITS` is the number of bits of a gain (a number of savings), and `HIGHEST_GAIN_BIT` is its highest bit.
 const GAIN_BITS: usize = 64;
 
 const HIGHEST_GAIN_BIT: u64 = 1 << 63;
@@ -16,31 +16,31 @@ struct SpillCost {
     writes: u64,
     /// The position among arguments or parameters at which the slot is passed most often.
     place: usize,
-    /// The estimated number of times that the slot is passed at this position.
+    /// The estimated number of times that the slot is passed at the position `place`.
     handed: u64,
 }
 
-/// The savings of registers for the slots of a function.
+/// The savings that registers bring for the slots of a function.
 #[derive(Drop)]
 pub(crate) struct SpillCosts {
     slots: Vec<SpillCost>,
     calls: u64,
-    /// The places of backward jumps, in ascending order.
+    /// The code positions of backward jumps, in ascending order.
     pub(crate) backward: Vec<usize>,
 }
 
-/// A place in the code.
+/// The facts about loops at one position in the code.
 #[derive(Clone, Copy)]
 struct Place {
-    /// The place after the last backward jump to this place, or 0.
+    /// The code position after the last backward jump to this one, or 0 if there is none.
     end: usize,
-    /// The number of loops that end just before this place.
+    /// The number of loops that end just before the code position.
     closing: u64,
-    /// True if a reachable jump from an earlier place leads to this place.
+    /// True if a reachable jump from an earlier position targets the code position.
     is_reached: bool,
 }
 
-/// Returns the jump target of an instruction, not counting handlers.
+/// Returns the jump target of an instruction; an exception handler is not a jump target.
 fn target_of(instruction: Instruction) -> Option<usize> {
     match instruction {
         Instruction::Jump { target } => Some(target),
@@ -118,13 +118,13 @@ impl SpillCosts {
         }
     }
 
-    /// Counts a write of a slot whose word is computed from an operand.
+    /// Counts a write of a slot whose new word is computed from an operand.
     fn change(&mut self, slot: usize, operand: Operand, weight: u64) {
         self.read_operand(operand, weight);
         self.write(slot, weight);
     }
 
-    /// Counts the passing of a slot as the argument or parameter at this position.
+    /// Counts that a slot is passed as the argument or parameter at the position `place`.
     fn hand_over(&mut self, slot: usize, place: usize, weight: u64) {
         if let Some(cost) = self.slots.get_mut(slot) {
             if place == cost.place {
@@ -149,8 +149,8 @@ impl SpillCosts {
         }
     }
 
-    /// Counts the reads that registers can serve, the writes and the jump target of an instruction that is executed `weight` times. Returns
-    /// true if control may continue after the instruction.
+    /// Counts the reads that registers would make cheaper, the writes and the jump target of an instruction that is executed `weight`
+    /// times. Returns true if control may continue after the instruction.
     fn look_at(&mut self, places: &mut Vec<Place>, instruction: Instruction, weight: u64) -> bool {
         match instruction {
             Instruction::Move {
@@ -189,7 +189,8 @@ impl SpillCosts {
         true
     }
 
-    /// Counts the uses of an instruction that neither computes nor branches. Returns true if control may continue after the instruction.
+    /// Counts the reads and writes of slots by an instruction that neither computes nor branches. Returns true if control may continue
+    /// after the instruction.
     fn look_at_other(
         &mut self,
         places: &mut Vec<Place>,
@@ -228,7 +229,7 @@ impl SpillCosts {
         true
     }
 
-    /// Counts the uses of an instruction that loads, stores, or makes a request to the store.
+    /// Counts the reads and writes of slots by an instruction that loads, stores, or makes a request to the page store.
     fn look_at_memory(&mut self, instruction: Instruction, weight: u64) {
         match instruction {
             Instruction::Load {
@@ -263,7 +264,7 @@ impl SpillCosts {
         }
     }
 
-    /// Returns the places of a function's code with the beginnings and ends of its loops.
+    /// Returns, for each position of a function's code, the beginnings and ends of its loops.
     fn places(&mut self, alloc: Global, code: &[Instruction]) -> Result<Vec<Place>, AllocError> {
         let place = Place {
             end: 0,
@@ -284,12 +285,12 @@ impl SpillCosts {
         Ok(places)
     }
 
-    /// Computes the cost of each slot. Each enclosing loop multiplies the weight of a place by ten, and unreachable places count nothing.
-    /// Targets of backward jumps count as reachable.
+    /// Computes the spill cost of each slot. Each enclosing loop multiplies the weight of an instruction by ten, and unreachable
+    /// instructions count nothing. Targets of backward jumps count as reachable.
     fn weigh(&mut self, code: &[Instruction], places: &mut Vec<Place>) {
         let mut depth: u64 = 0;
         let mut weight = weight_in(depth);
-        // True if control may fall through from the previous place.
+        // True if control may fall through from the previous instruction.
         let mut goes = true;
         for index in 0..code.len() {
             let place = match places.get(index) {
@@ -311,7 +312,7 @@ impl SpillCosts {
         }
     }
 
-    /// Returns the savings of a register as the only home.
+    /// Returns the savings of giving the slot a register as its only home.
     pub(crate) fn most_at(&self, slot: usize) -> u64 {
         match self.slots.get(slot) {
             Some(gain) => gain.reads.saturating_add(gain.writes),
@@ -319,7 +320,7 @@ impl SpillCosts {
         }
     }
 
-    /// Returns the savings of a register in addition to memory, which is reloaded after each call.
+    /// Returns the savings of giving the slot a register in addition to memory; the register is reloaded after each call.
     pub(crate) fn beside_at(&self, slot: usize) -> u64 {
         match self.slots.get(slot) {
             Some(gain) => gain.reads.saturating_sub(self.calls),
@@ -327,7 +328,7 @@ impl SpillCosts {
         }
     }
 
-    /// Returns the position at which the slot is passed most often, if it is passed.
+    /// Returns the argument or parameter position at which the slot is passed most often, if it is passed.
     pub(crate) fn place_at(&self, slot: usize) -> Option<usize> {
         match self.slots.get(slot) {
             Some(cost) if cost.handed > 0 => Some(cost.place),
@@ -335,12 +336,12 @@ impl SpillCosts {
         }
     }
 
-    /// Returns the number of slots.
+    /// Returns the number of slots whose costs are known.
     pub(crate) fn count(&self) -> usize {
         self.slots.len()
     }
 
-    /// Returns the number of slots for each number of leading zero bits of the savings.
+    /// Returns, for each number of leading zero bits, the number of slots whose savings have as many leading zero bits.
     fn counts(&self, alloc: Global) -> Result<Vec<u32>, AllocError> {
         let mut counts: Vec<u32> = vec![in alloc; 0; GAIN_BITS]?;
         for slot in 0..self.slots.len() {
@@ -351,7 +352,7 @@ impl SpillCosts {
         Ok(counts)
     }
 
-    /// Returns the choice of the candidates: the slots with the greatest savings.
+    /// Chooses the candidates for registers: the slots with the greatest savings.
     pub(crate) fn choice(&self, alloc: Global) -> Result<Choice, AllocError> {
         let mut choice = Choice {
             least: 1,
@@ -374,7 +375,8 @@ impl SpillCosts {
     }
 }
 
-/// The choice of candidates: slots whose savings are at least `least`, and up to `left` slots with at least half of it.
+/// The choice of candidates: the slots whose savings are at least `least`, and up to `left` slots whose savings are at
+/// least half of `least`.
 #[derive(Clone, Copy)]
 pub(crate) struct Choice {
     least: u64,
@@ -382,7 +384,7 @@ pub(crate) struct Choice {
 }
 
 impl Choice {
-    /// Returns true if a slot with these savings becomes a candidate.
+    /// Returns true if a slot with the given savings becomes a candidate.
     pub(crate) fn takes(&mut self, gain: u64) -> bool {
         if gain >= self.least {
             return true;
@@ -395,7 +397,7 @@ impl Choice {
     }
 }
 
-/// Returns the savings of registers for the slots of a function.
+/// Returns the savings that registers bring for the slots of a function.
 pub(crate) fn spill_costs_of(alloc: Global, function: &Function) -> Result<SpillCosts, AllocError> {
     let none = SpillCost {
         reads: 0,

@@ -1,4 +1,4 @@
-//! The uses and definitions of the candidates by each instruction of a function, computed once and then looked up by place.
+//! The candidates that each instruction of a function reads and writes, computed once and then looked up by the instruction's position.
 ghost use Rattle.std.specs.Prelude.{◌≡◌, length, IfOk};
 ghost use Rattle.cyc_plain.specs.inside.Program.{routine_of};
 ghost use Rattle.cyc_registers.specs.inside.Masks as masks_of;
@@ -7,7 +7,7 @@ use crate::masks::{bar_mask, read_mask, write_mask};
 use cyc_plain::{Function, Instruction, Plain};
 use std::alloc::{AllocError, Global};
 
-/// The effect of an instruction on the candidates, as masks.
+/// The effect of an instruction on the candidates: the slots that it reads, writes and excludes, as masks.
 #[derive(Clone, Copy)]
 pub(crate) struct Uses {
     /// The slots that the instruction reads.
@@ -18,7 +18,7 @@ pub(crate) struct Uses {
     pub(crate) bars: u64,
 }
 
-/// Returns the effect of an instruction, in a function with `results` results.
+/// Returns the effect of an instruction on the candidates, in a function with `results` result words.
 fn uses_of(plain: &Plain, results: usize, masks: &[u64], instruction: Instruction) -> Uses
     ensures { result ≡ masks_of.uses_of plain.now results masks.now instruction }
 {
@@ -29,7 +29,7 @@ fn uses_of(plain: &Plain, results: usize, masks: &[u64], instruction: Instructio
     }
 }
 
-/// Returns the effect of each instruction of a function.
+/// Returns the effect of each instruction of a function on the candidates.
 pub(crate) fn all_uses(
     alloc: Global,
     plain: &Plain,

@@ -12,8 +12,7 @@ pub struct Extent {
     pub end: usize,
 }
 
-/// Returns the length of the text up to and including the first occurrence of two bytes in sequence, or the length of the
-/// whole text.
+/// Returns the length of the text up to and including the first occurrence of two bytes in sequence, or the length of the whole text.
 fn after_pair(text: &[u8], first: u8, second: u8) -> usize {
     let mut last = 0u8;
     for (n, byte) in text.iter().enumerate() {
@@ -33,8 +32,7 @@ fn rest_of_line(text: &[u8]) -> &[u8] {
     }
 }
 
-/// Returns the length of a comment, a character constant or a string that begins a text, or 0. A string must end on
-/// its line.
+/// Returns the length of a comment, a character constant or a string that begins a text, or 0. A string must end on its line.
 pub fn quoted_length(text: &[u8]) -> usize {
     match text {
         [b'/', b'*', rest @ ..] => after_pair(rest, b'*', b'/').saturating_add(2),
@@ -66,8 +64,7 @@ fn begins_declaration(text: &[u8]) -> bool {
     false
 }
 
-/// Returns true if a line looks like the first line of a struct, a list of exceptions or a
-/// function.
+/// Returns true if a line looks like the first line of a struct, a list of exceptions or a function.
 fn is_head(line: &[u8]) -> bool {
     let Some(end) = line.iter().position(|byte| !is_in_name(*byte)) else {
         return line == b"datatype".as_slice();
@@ -153,8 +150,7 @@ pub fn starts_of(alloc: Global, text: &[u8]) -> Result<Vec<usize>, AllocError> {
             };
         } else if !byte.is_ascii_whitespace() {
             if *byte == b'{' && depth.is_ended {
-                // Text between a signature and its body declares parameters in the old style of C, so
-                // no declaration begins there.
+                // Text between a signature and its body declares parameters in the old style of C, so no declaration begins there.
                 starts.truncate(heads);
             }
             heads = heads_after(heads, starts.len(), depth, *byte);
@@ -165,8 +161,7 @@ pub fn starts_of(alloc: Global, text: &[u8]) -> Result<Vec<usize>, AllocError> {
     Ok(starts)
 }
 
-/// Returns the extent of the declaration that contains a byte offset, in a text of this length
-/// whose declarations begin at `starts`.
+/// Returns the extent of the declaration that contains a byte offset, in a text of this length whose declarations begin at `starts`.
 pub fn extent_of(starts: &[usize], length: usize, place: usize) -> Extent {
     let mut extent = Extent {
         start: 0,

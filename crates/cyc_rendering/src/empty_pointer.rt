@@ -54,8 +54,7 @@ fn item_up_to(tokens: &[Token], last: usize) -> &[Token] {
     tokens.get(start..=last).unwrap_or(&[])
 }
 
-/// Returns the type at the beginning of some tokens, as the type of a pointer's object, and the
-/// tokens after it.
+/// Returns the type at the beginning of some tokens, as the type of a pointer's object, and the tokens after it.
 fn target_of<'t>(tokens: &'t [Token]) -> Option<(Target<'t>, &'t [Token])> {
     match tokens {
         [first, rest @ ..] if first.kind == TokenKind::Keyword(Keyword::Int) => {
@@ -84,8 +83,7 @@ fn is_unique(text: &[u8], region: Option<&Token>) -> Option<bool> {
     }
 }
 
-/// Returns the object to which a local should refer that these tokens declare as a pointer with one
-/// pointer sign.
+/// Returns the object to which a local should refer that these tokens declare as a pointer with one pointer sign.
 fn object_of<'t>(text: &[u8], tokens: &'t [Token]) -> Option<Object<'t>> {
     let (target, rest) = target_of(tokens)?;
     let (mark, region) = match rest {
@@ -111,8 +109,7 @@ fn object_of<'t>(text: &[u8], tokens: &'t [Token]) -> Option<Object<'t>> {
     })
 }
 
-/// A declaration without a value, with a flag that is true if the variable is used to compute its own first
-/// value.
+/// A declaration without a value, with a flag that is true if the variable is used to compute its own first value.
 #[derive(Clone, Copy)]
 struct Declared<'t> {
     tokens: &'t [Token],

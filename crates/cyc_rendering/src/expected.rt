@@ -15,12 +15,10 @@ const MOST: usize = 3;
 /// The first token of a construct, and the name of the construct in messages.
 type Candidate = (&'static str, &'static str);
 
-/// A group of constructs that can begin at the same points of a text, in the order in which
-/// messages list them.
+/// A group of constructs that can begin at the same points of a text, in the order in which messages list them.
 #[derive(Clone, Copy)]
 struct Group {
-    /// A token that fits wherever a construct of this group can begin, and where no construct of another
-    /// group can; empty if no token does.
+    /// A token that fits wherever a construct of this group can begin, and where no construct of another group can; empty if no token does.
     token: &'static str,
     candidates: &'static [Candidate],
 }
@@ -177,8 +175,7 @@ impl Trial {
         })
     }
 
-    /// Returns true if the parser does not reject the text at this token when the token follows the
-    /// text.
+    /// Returns true if the parser does not reject the text at this token when the token follows the text.
     fn goes_on(&mut self, token: &str) -> Result<bool, AllocError> {
         self.text.truncate(self.length);
         self.text.extend_from_slice(token.as_bytes())?;

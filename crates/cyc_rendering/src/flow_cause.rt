@@ -1,5 +1,4 @@
-//! Explains why a variable is empty or locked where it is used, by the source position where it
-//! became empty or locked.
+//! Explains why a variable is empty or locked where it is used, by the source position where it became empty or locked.
 use crate::declarations::quoted_length;
 use crate::expected::text_before;
 use crate::reading::tree_of;
@@ -175,8 +174,7 @@ fn advice_on_move(text: &[u8], fault: Fault, span: Span) -> &'static str {
     }
 }
 
-/// Returns the advice on a fault with a known cause, if it is more specific than the advice for the
-/// fault's code.
+/// Returns the advice on a fault with a known cause, if it is more specific than the advice for the fault's code.
 pub fn advice_for(text: &[u8], fault: Fault, cause: Cause) -> Option<&'static str> {
     match (cause.change, fault.code) {
         (Change::Moved, Code::EmptyVariable) => Some(advice_on_move(text, fault, cause.span)),

@@ -28,8 +28,7 @@ pub fn is_between(first: Span, fault: Fault, last: Span) -> bool {
 
 // ---- flow
 
-/// Returns the number of functions up to and including the one that contains a fault, or the number of
-/// all functions if none contains it.
+/// Returns the number of functions up to and including the one that contains a fault, or the number of all functions if none contains it.
 fn count_up_to(functions: &[Function], fault: Fault) -> usize
     ensures { result ≤ length functions.now }
 {
@@ -140,8 +139,7 @@ pub fn tell_readings(
     for _ in 0..MOST_FURTHER {
         let place = text_before(text, fault.line, fault.column).len();
         let Extent { start, end } = extent_of(&starts, text.len(), place);
-        // The remaining text is a suffix of the whole text, so byte offsets are counted from their
-        // common end.
+        // The remaining text is a suffix of the whole text, so byte offsets are counted from their common end.
         let gone = text.len().saturating_sub(left.len());
         let end = end.saturating_sub(gone);
         if is_of_token(fault.code) {

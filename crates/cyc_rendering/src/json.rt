@@ -83,8 +83,7 @@ fn range_at(text: &[u8], span: Span) -> Range {
     range_of(span.line, span.column, token.len())
 }
 
-/// Returns the source range of a fault. The fault of a missing `main` has no token, so its range is
-/// empty.
+/// Returns the source range of a fault. The fault of a missing `main` has no token, so its range is empty.
 fn range_of_fault(text: &[u8], fault: Fault) -> Range {
     let Fault { code, line, column } = fault;
     if code == Code::BadMain && (line, column) == (1, 1) {
@@ -115,8 +114,7 @@ fn in_place(text: &str) -> Option<Change<'_>> {
     })
 }
 
-/// Hints about misspelled operators: the beginning of the hint, the word in the source, and the
-/// operator that replaces the word.
+/// Hints about misspelled operators: the beginning of the hint, the word in the source, and the operator that replaces the word.
 const WORDS: [(&str, &str, &str); 9] = [
     ("write && for and", "and", "&&"),
     ("write || for or", "or", "||"),
@@ -129,8 +127,7 @@ const WORDS: [(&str, &str, &str); 9] = [
     ("delete the word: there is no const", "restrict", ""),
 ];
 
-/// Returns the edit that a hint suggests: a text to insert before a token or to replace the token
-/// by.
+/// Returns the edit that a hint suggests: a text to insert before a token or to replace the token by.
 fn change_by<'a>(hint: &'a str, token: &str) -> Option<Change<'a>> {
     if let Some(rest) = hint.strip_prefix("did you mean `") {
         let name = rest.strip_suffix("`?")?;

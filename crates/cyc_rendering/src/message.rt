@@ -17,14 +17,12 @@ pub struct Message<'a> {
     pub refusal: &'a Refusal,
 }
 
-/// Returns true if the message on a fault shows a source line. The fault of a missing `main` has
-/// none.
+/// Returns true if the message on a fault shows a source line. The fault of a missing `main` has none.
 fn has_line(fault: Fault) -> bool {
     fault.code != Code::BadMain || (fault.line, fault.column) != (1, 1)
 }
 
-/// Returns the advice on a fault, chosen by its cause, or else by its code and the tokens that are
-/// expected.
+/// Returns the advice on a fault, chosen by its cause, or else by its code and the tokens that are expected.
 fn hint_for(text: &[u8], fault: Fault, cause: Option<Cause>, words: &[u8]) -> &'static str {
     let expected = match words.strip_prefix(b"expected ") {
         Some(expected) => expected,
@@ -48,8 +46,7 @@ fn digit_of(byte: u8, base: u32) -> Option<u32> {
     if digit < base { Some(digit) } else { None }
 }
 
-/// Returns the bits of the number in a fault for too large numbers, if it fits 32 bits and no minus
-/// precedes it.
+/// Returns the bits of the number in a fault for too large numbers, if it fits 32 bits and no minus precedes it.
 fn bits_of(text: &[u8], fault: Fault) -> Option<u32> {
     let Fault { code, line, column } = fault;
     if code != Code::NumberTooLarge {
@@ -199,8 +196,7 @@ impl fmt::Display for Summary<'_> {
         if first.is_empty() {
             return write!(f, "{}", AtToken { text, fault });
         }
-        // The token is looked up only if it is shown, since the lookup reads the text up to the
-        // token's line.
+        // The token is looked up only if it is shown, since the lookup reads the text up to the token's line.
         match fault.code {
             Code::MissingReturn => write!(
                 f,

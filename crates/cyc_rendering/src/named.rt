@@ -27,8 +27,7 @@ fn named(code: Code) -> &'static str {
 /// The operators and punctuation of more than one byte.
 const SIGNS: &str = ":=:~&&~||~==~!=~<=~>=~<<~>>~->";
 
-/// Returns the number of bytes of the character that begins a text. A character that is not ASCII includes its
-/// continuation bytes in UTF-8.
+/// Returns the number of bytes of the character that begins a text. A character that is not ASCII includes its continuation bytes in UTF-8.
 fn character_length(text: &[u8]) -> usize {
     match text {
         [0xc0..=0xff, rest @ ..] => {
@@ -39,8 +38,7 @@ fn character_length(text: &[u8]) -> usize {
     }
 }
 
-/// Returns the token at a source position, as far as messages show it. A character constant is
-/// shown by its quote only.
+/// Returns the token at a source position, as far as messages show it. A character constant is shown by its quote only.
 pub(crate) fn token_at(text: &[u8], line: u32, column: u32) -> &[u8] {
     let name = name_at(text, line, column);
     if !name.is_empty() {

@@ -10,8 +10,7 @@ use std::alloc::Global;
 #[derive(Drop)]
 pub struct Refusal {
     pub fault: Fault,
-    /// The lines that explain the violated rule. A hint in the last line replaces the hint for the
-    /// fault's code.
+    /// The lines that explain the violated rule. A hint in the last line replaces the hint for the fault's code.
     pub words: Option<Vec<u8>>,
     /// The source position that the lines mention, if they mention one.
     pub place: Option<Span>,
@@ -20,8 +19,7 @@ pub struct Refusal {
 }
 
 impl Refusal {
-    /// Returns a fault of names, types or regions, with the lines of its explanation and the source position
-    /// that they mention.
+    /// Returns a fault of names, types or regions, with the lines of its explanation and the source position that they mention.
     pub fn explained(fault: Fault, words: Option<Vec<u8>>, place: Option<Span>) -> Refusal {
         Refusal {
             fault,
@@ -41,8 +39,7 @@ impl Refusal {
         }
     }
 
-    /// Returns a flow fault, with the lines that explain it, or with the cause of the variable's
-    /// state.
+    /// Returns a flow fault, with the lines that explain it, or with the cause of the variable's state.
     pub fn of_flow(fault: Fault, words: Option<Vec<u8>>, cause: Option<Cause>) -> Refusal {
         Refusal {
             fault,
@@ -53,8 +50,7 @@ impl Refusal {
     }
 }
 
-/// Returns the name of the function with a result whose end can be reached, if the fault is of this
-/// kind.
+/// Returns the name of the function with a result whose end can be reached, if the fault is of this kind.
 pub fn name_of_ended(alloc: Global, text: &[u8], tree: &Tree, fault: Fault) -> Option<Vec<u8>> {
     if fault.code != Code::MissingReturn {
         return None;

@@ -29,8 +29,7 @@ newest_within (y ∷ ys) x i e = by_test (newest_within ys x i) (nat_eq y x) e
     by_test h true e = let here = same_Some (length ys) i e in omega (arith, here)
     by_test h false e = omega (arith, h e)
 
--- the index that the table stores for a name finds the newest local with the name; the bindings are
--- listed newest first
+-- the index that the table stores for a name finds the newest local with the name; the bindings are listed newest first
 place_in : (rs : List Binding) (x i : ℕ) → newest_place (local_names (map view_binding rs)) x ≡ Some i → option_map view_binding (slice_get (reverse rs) i) ≡ newest (map view_binding rs) x
 place_in [] x i e = cc
 place_in (r ∷ rs) x i e = by_test (place_in rs x i) (nat_eq (view_binding r).name x) e
@@ -56,8 +55,7 @@ place_in (r ∷ rs) x i e = by_test (place_in rs x i) (nat_eq (view_binding r).n
 newest_found : (bs : List Binding) (x i : ℕ) → newest_place (local_names (locals_of bs)) x ≡ Some i → option_map view_binding (slice_get bs i) ≡ newest (locals_of bs) x
 newest_found bs x i e = ap (λ cs. option_map view_binding (slice_get cs i)) (sym (reverse-reverse bs)) ∙ place_in (reverse bs) x i e
 
--- the index that the table stores for a name finds the newest local with the name, as a borrowed
--- binding
+-- the index that the table stores for a name finds the newest local with the name, as a borrowed binding
 pub newest_lent : (bs : List Binding) (x i : ℕ) (r : Option (Bor Binding)) → newest_place (local_names (locals_of bs)) x ≡ Some i → IsItemAt bs i r
     → option_map (λ (b : Bor Binding). view_binding b.now) r ≡ newest (locals_of bs) x
 newest_lent bs x i r e h = seen_through view_binding r ∙ ap (option_map view_binding) (lent bs i r h) ∙ newest_found bs x i e

@@ -45,8 +45,7 @@ pub ascend_from : (a b c : ℕ) (rs : List Region) (i : ℕ) (d : Region) → i 
 ascend_from a b c rs i d lt one rest =
     subst (λ xs. Ascend a xs c) (sym (drop_more rs i d lt)) (ascend_append a (get_or rs i d ∷ []) b (drop (i + 1) rs) c one rest)
 
--- if the regions of the type at index i ascend and those of the types after it do, the regions of
--- the types from index i on ascend
+-- if the regions of the type at index i ascend and those of the types after it do, the regions of the types from index i on ascend
 pub types_from : (a b c : ℕ) (ts : List TyCode) (i : ℕ) (t : TyCode) → i < length ts → t ≡ get_or ts i t → Ascend a (regions_in (view_ty t)) b
     → Ascend b (all_regions (map view_ty (drop (i + 1) ts))) c → Ascend a (all_regions (map view_ty (drop i ts))) c
 types_from a b c ts i t lt is one rest =

@@ -22,8 +22,7 @@ use std::alloc::Global;
 /// reuses them.
 #[derive(Drop)]
 pub struct Tables {
-    /// The region names known at the start of a function's body, except the name of the function's own
-    /// region.
+    /// The region names known at the start of a function's body, except the name of the function's own region.
     pub names: RegionNames,
     taken: NameSet,
     locals: Locals,
@@ -42,8 +41,7 @@ impl Tables {
     }
 }
 
-/// Declares the parameters of a function. The parameters are numbered from 0 and belong to the function's
-/// own region.
+/// Declares the parameters of a function. The parameters are numbered from 0 and belong to the function's own region.
 #[tactic(auto, using(crate::proofs::EntryLemmas::parameters_end))]
 fn declare_parameters(locals: &mut Locals, members: &[Member], types: &[Ty]) -> Result<(), Stop>
     requires { Descends 0 locals.old }
@@ -66,8 +64,7 @@ fn declare_parameters(locals: &mut Locals, members: &[Member], types: &[Ty]) -> 
     Ok(())
 }
 
-/// Returns the regions of a function's body: the function's own region opens while the regions of its
-/// effect are live.
+/// Returns the regions of a function's body: the function's own region opens while the regions of its effect are live.
 fn regions_of(alloc: Global, signature: &Signature) -> Result<Regions, Stop>
     ensures regions { IfOk result (λ o. o ≡ body_regions (view_signature signature.now)) }
     ensures memory { IfErr result (λ e. e ≡ Memory) }

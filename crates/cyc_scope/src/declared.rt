@@ -1,5 +1,4 @@
-//! The functions and globals of a program; a function or global is found by its name in constant
-//! time.
+//! The functions and globals of a program; a function or global is found by its name in constant time.
 
 use crate::meaning::Meaning;
 use crate::routine::Routine;
@@ -23,8 +22,7 @@ pub(crate) struct Entry {
     pub(crate) entity: Entity,
 }
 
-/// The declared functions and globals, in order. If a name is declared twice, the first declaration
-/// counts.
+/// The declared functions and globals, in order. If a name is declared twice, the first declaration counts.
 #[derive(Drop)]
 pub(crate) struct Declared {
     entries: Vec<Entry>,

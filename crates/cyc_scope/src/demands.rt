@@ -22,8 +22,7 @@ pub fn is_name_of(names: &RegionNames, region: Region, name: Ident) -> bool
     }
 }
 
-/// Demands that a region name is declared; in a parameter, demands instead that the name is not the
-/// function's name.
+/// Demands that a region name is declared; in a parameter, demands instead that the name is not the function's name.
 pub fn demand_name(settled: &mut Settled, names: &RegionNames, own: Option<usize>, name: Ident)
     ensures { settled.new.known ≡ noted settled.old.known (name_demanded names.now own (view_name name)) }
 {
@@ -70,8 +69,7 @@ fn is_count(count: Option<usize>, regions: &[Ident]) -> bool
     }
 }
 
-/// Checks the demands on a struct with its region arguments; `span` is where the written type
-/// begins.
+/// Checks the demands on a struct with its region arguments; `span` is where the written type begins.
 pub fn demand_struct(
     settled: &mut Settled,
     structs: &StructNames,
@@ -90,8 +88,7 @@ pub fn demand_struct(
     demand_names(settled, names, own, regions);
 }
 
-/// Checks the demands on the part of a written type before its pointer marks; `span` is where the
-/// written type begins.
+/// Checks the demands on the part of a written type before its pointer marks; `span` is where the written type begins.
 fn demand_base(
     settled: &mut Settled,
     structs: &StructNames,
@@ -140,8 +137,7 @@ fn demand_marks(settled: &mut Settled, names: &RegionNames, own: Option<usize>, 
     }
 }
 
-/// Returns true if the shape of a written type is allowed: a struct only as the target of a thin pointer, and no
-/// pointer to a key.
+/// Returns true if the shape of a written type is allowed: a struct only as the target of a thin pointer, and no pointer to a key.
 fn is_shape(base: &BaseType, marks: &[Pointer]) -> bool
     ensures { result ≡ is_shape (view_base base.now) (map view_pointer marks.now) }
 {

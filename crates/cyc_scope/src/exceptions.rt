@@ -5,8 +5,7 @@ use crate::table::grow;
 use std::alloc::Global;
 use std::marker::Model;
 
-/// An exception that can be thrown and caught: its number, and a flag that is true if it carries an
-/// int.
+/// An exception that can be thrown and caught: its number, and a flag that is true if it carries an int.
 #[derive(Clone, Copy)]
 pub struct Thrown {
     pub number: usize,
@@ -19,8 +18,7 @@ pub(crate) struct Entry {
     pub(crate) has_int: bool,
 }
 
-/// The exceptions of the program in order. If a name is declared twice, the first declaration
-/// counts.
+/// The exceptions of the program in order. If a name is declared twice, the first declaration counts.
 #[derive(Drop)]
 pub(crate) struct Exceptions {
     entries: Vec<Entry>,

@@ -150,8 +150,7 @@ impl Locals {
         }
     }
 
-    /// Returns true if the innermost block, whose region is `region`, declares a local with the
-    /// given name.
+    /// Returns true if the innermost block, whose region is `region`, declares a local with the given name.
     #[tactic(auto, using(crate::proofs::LocalLemmas::declared_lost))]
     pub(crate) fn is_declared_in(&self, region: usize, name: usize) -> bool
         requires { Descends region self.now }

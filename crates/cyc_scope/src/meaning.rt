@@ -18,8 +18,7 @@ pub enum Meaning<'a> {
         target: Lvalue,
         of_type: &'a Ty,
     },
-    /// The name denotes the counter of an array `for`, numbered by the number of enclosing
-    /// `for`s; a counter may not be assigned.
+    /// The name denotes the counter of an array `for`, numbered by the number of enclosing `for`s; a counter may not be assigned.
     Counter {
         level: usize,
     },

@@ -75,8 +75,7 @@ impl Program {
         &self.known
     }
 
-    /// Returns the fields of the struct with the given number, or an empty list if the struct does
-    /// not exist.
+    /// Returns the fields of the struct with the given number, or an empty list if the struct does not exist.
     pub fn fields(&self, number: usize) -> &[Field]
         ensures { map view_field result.now ≡ unwrap_or (slice_get self.now.fields number) [] }
     {
@@ -101,8 +100,7 @@ impl Program {
         self.declared.meaning(name)
     }
 
-    /// Returns true if a name denotes a function with a plain signature, provided that no local has
-    /// the name.
+    /// Returns true if a name denotes a function with a plain signature, provided that no local has the name.
     pub(crate) fn is_plain(&self, name: usize) -> bool
         ensures { IsTrue result → IsPlainRoutine (scopes.meaning_in self.now.declared name) }
     {

@@ -1,5 +1,4 @@
-//! The live regions and the outlives relation. Regions that are live in a function's whole body are recognised by their
-//! numbers.
+//! The live regions and the outlives relation. Regions that are live in a function's whole body are recognised by their numbers.
 ghost use Rattle.std.specs.Prelude.{◌∷◌};
 ghost use Rattle.cyc_types.specs.declared.region.Region.TheVariants.{Heap, Unique};
 ghost use Rattle.cyc_scope.specs.inside.Throughout.{AreThroughout};
@@ -9,8 +8,7 @@ use cyc_types::{Kind, Outlives, Region};
 use std::alloc::{AllocError, Global};
 use std::marker::Model;
 
-/// Returns the largest count such that the effect lists the region variables 1 to that count in
-/// order.
+/// Returns the largest count such that the effect lists the region variables 1 to that count in order.
 fn count_of(effect: &[Region]) -> usize
     ensures { AreThroughout (Heap ∷ Unique ∷ effect.now) result }
 {
@@ -22,8 +20,7 @@ fn count_of(effect: &[Region]) -> usize
     effect.len()
 }
 
-/// The outlives relation at one point of a function's body. Contracts see only the outlives relation, not
-/// its tables.
+/// The outlives relation at one point of a function's body. Contracts see only the outlives relation, not its tables.
 #[derive(Drop)]
 pub(crate) struct Regions {
     outlives: Outlives,
@@ -50,8 +47,7 @@ impl Regions {
     ghost use Rattle.cyc_types.specs.Types.{is_region_among};
     ghost use Rattle.cyc_scope.specs.declared.stop.Stop.TheVariants.{Memory};
 
-    /// Returns the region context without open scopes; the heap, the unique region and the regions
-    /// of the effect are live.
+    /// Returns the region context without open scopes; the heap, the unique region and the regions of the effect are live.
     pub(crate) fn new(
         alloc: Global,
         written: &[(Region, Region)],

@@ -12,8 +12,7 @@ use cyc_types::{Kind, NameSet, Region, RegionNames, StructNames, Ty};
 use std::alloc::Global;
 use std::marker::Model;
 
-/// The size of a scope at some point. The function `leave` removes the names that came into scope
-/// since that point.
+/// The size of a scope at some point. The function `leave` removes the names that came into scope since that point.
 #[derive(Clone, Copy)]
 pub struct Mark {
     /// The numbers of locals, of region names and of open scopes.
@@ -113,8 +112,7 @@ impl<'a> Scope<'a> {
         self.program.known().structs()
     }
 
-    /// Returns the fields of the struct with the given number, or an empty list if the struct does
-    /// not exist.
+    /// Returns the fields of the struct with the given number, or an empty list if the struct does not exist.
     pub fn fields(&self, number: usize) -> &[Field]
         ensures { map view_field result.now ≡ unwrap_or (slice_get self.now.fields number) [] }
     {
@@ -370,8 +368,7 @@ impl<'a> Scope<'a> {
         }
     }
 
-    /// Removes the names that came into scope since the mark was taken. Numbers that were used and region names that
-    /// were taken stay so.
+    /// Removes the names that came into scope since the mark was taken. Numbers that were used and region names that were taken stay so.
     pub fn leave(&mut self, mark: Mark)
         requires { IsInOrder (left_to mark self.old) }
         ensures { self.new ≡ left_to mark self.old }

@@ -1,5 +1,4 @@
--- The proofs of this crate have one folder for each topic. Each file begins with a summary of its
--- contents.
+-- The proofs of this crate have one folder for each topic. Each file begins with a summary of its contents.
 pub mod emission
 pub mod layout
 pub mod effects

@@ -1,5 +1,4 @@
--- the effects of ordinary MIPS instructions on registers and memory, and stretches of a run of the
--- labelled machine
+-- the effects of ordinary MIPS instructions on registers and memory, and stretches of a run of the labelled machine
 pub mod Views
 pub mod Effects
 pub mod Sequences

@@ -1,5 +1,4 @@
--- the proof that the selected code is well-formed, fits the text range, and stands at the counted
--- lines
+-- the proof that the selected code is well-formed, fits the text range, and stands at the counted lines
 pub mod Whole
 pub mod Inside
 pub mod Formed

@@ -98,8 +98,7 @@ impl Emitter {
         }
     }
 
-    /// Emits the lines that move the result of a request to the store (the heap of regions) to
-    /// slots.
+    /// Emits the lines that move the result of a request to the store (the heap of regions) to slots.
     fn answer(&mut self, frame: &Frame, request: Request) -> Result<(), AllocError>
         requires { AreReached frame.now (destination_of request) (answer_count request) }
         ensures { AddsLines result self.old self.new (ordinary (answer_code frame.now request)) }
@@ -141,8 +140,7 @@ impl Emitter {
         self.give(frame, REGIONS, destination)
     }
 
-    /// Emits all lines of a request to the store: loading its arguments, the service call, and
-    /// writing its result.
+    /// Emits all lines of a request to the store: loading its arguments, the service call, and writing its result.
     pub(crate) fn ask(&mut self, frame: &Frame, request: Request) -> Result<(), AllocError>
         requires { IsRequestFound frame.now request }
         ensures { AddsLines result self.old self.new (ask_code frame.now request) }

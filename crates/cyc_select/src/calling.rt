@@ -73,8 +73,7 @@ impl Emitter {
         }
     }
 
-    /// Emits the store of a slot that is in a register only to its word in memory, if the argument
-    /// is passed from memory.
+    /// Emits the store of a slot that is in a register only to its word in memory, if the argument is passed from memory.
     fn spill(
         &mut self,
         caller: &Frame,
@@ -94,8 +93,7 @@ impl Emitter {
         self.ordinary(&[store_slot(caller, made_in(caller, source), source)])
     }
 
-    /// Emits a store for each of `count` slots that is in a register only and is passed as an
-    /// argument from memory.
+    /// Emits a store for each of `count` slots that is in a register only and is passed as an argument from memory.
     pub(crate) fn spills(
         &mut self,
         caller: &Frame,
@@ -186,8 +184,7 @@ impl Emitter {
         Ok(())
     }
 
-    /// Emits the lines that load the slots from `slot` on, which are in memory only, into
-    /// registers.
+    /// Emits the lines that load the slots from `slot` on, which are in memory only, into registers.
     fn load_words(&mut self, frame: &Frame, slot: usize, targets: &[u8]) -> Result<(), AllocError>
         requires { AreReached frame.now slot (length targets.now) }
         ensures { AddsLines result self.old self.new (ordinary (load_words frame.now slot targets.now)) }
@@ -221,8 +218,7 @@ impl Emitter {
         Ok(())
     }
 
-    /// Emits the lines that copy words from slots to slots, loading all words before the first is
-    /// written.
+    /// Emits the lines that copy words from slots to slots, loading all words before the first is written.
     fn move_all(
         &mut self,
         frame: &Frame,
@@ -275,8 +271,7 @@ impl Emitter {
         self.reloads(frame)
     }
 
-    /// Emits the line that saves the return address in the frame, at the entry of a function that
-    /// overwrites the return address register.
+    /// Emits the line that saves the return address in the frame, at the entry of a function that overwrites the return address register.
     fn keep_way(&mut self, frame: &Frame) -> Result<(), AllocError>
         requires { frame.now.return_address ≤ MOST_FRAME_WORDS }
         ensures { AddsLines result self.old self.new (ordinary (way_code frame.now)) }
@@ -311,8 +306,7 @@ impl Emitter {
         Ok(())
     }
 
-    /// Emits the lines at a function's entry: they save registers, then load the parameters that belong in these
-    /// registers.
+    /// Emits the lines at a function's entry: they save registers, then load the parameters that belong in these registers.
     pub(crate) fn saving(&mut self, frame: &Frame) -> Result<(), AllocError>
         requires return_address { frame.now.return_address ≤ MOST_FRAME_WORDS }
         requires few { frame.now.saved ≤ MOST_SAVED }

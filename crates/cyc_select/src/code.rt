@@ -30,8 +30,7 @@ pub enum Line {
     Branch { condition: Condition, label: usize },
     /// Jumps to the line of the label.
     Jump { label: usize },
-    /// Calls a function: writes the address of the next line to register 31 and jumps to the line
-    /// of the label.
+    /// Calls a function: writes the address of the next line to register 31 and jumps to the line of the label.
     Call { label: usize },
     /// Returns from a function: jumps to the line whose address is in register 31.
     Return,
@@ -71,8 +70,7 @@ impl Code {
         &self.lines
     }
 
-    /// Returns the words with which the machine's data range begins: the initial values of the
-    /// globals.
+    /// Returns the words with which the machine's data range begins: the initial values of the globals.
     pub fn globals(&self) -> &[u32]
         ensures value { result.now ≡ self.now.globals }
         ensures code { IsCode self.now }

@@ -27,8 +27,7 @@ pub const THIRD: u8 = 3;
 /// The register that holds the address of the current frame.
 pub const FRAME: u8 = STACK_POINTER;
 
-/// The register that holds the lowest frame address. If the current frame has this address, no further call
-/// is allowed.
+/// The register that holds the lowest frame address. If the current frame has this address, no further call is allowed.
 pub const LOWEST: u8 = 30;
 
 /// The register that holds the address of the newest handler's record, or 0 if no handler is open.
@@ -40,12 +39,10 @@ pub const REGIONS: u8 = 27;
 /// The binary logarithm of the size of a frame in bytes.
 pub const FRAME_SHIFT: u8 = 10;
 
-/// The register that holds the base address of the first globals, which never changes after the
-/// start code.
+/// The register that holds the base address of the first globals, which never changes after the start code.
 pub const GLOBALS: u8 = 28;
 
-/// The base address of the first globals: signed 16-bit offsets from it reach the data range from
-/// its start on.
+/// The base address of the first globals: signed 16-bit offsets from it reach the data range from its start on.
 pub const GLOBALS_MIDDLE: u32 = DATA_BASE + 0x8000;
 
 /// The number of globals that offsets from the base register reach.

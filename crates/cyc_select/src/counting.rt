@@ -170,8 +170,7 @@ fn call_count(caller: &Frame, callee: &Frame, arguments: usize, count: usize) ->
         + copies_count(caller, callee, arguments, count)
 }
 
-/// Returns 1 if the function saves its return address, otherwise 0. The save takes one line at the entry and one at each
-/// return.
+/// Returns 1 if the function saves its return address, otherwise 0. The save takes one line at the entry and one at each return.
 pub(crate) fn way_count(frame: &Frame) -> usize
     ensures value { result ≡ way_count frame.now }
     ensures few { result ≤ 1 }
@@ -316,8 +315,7 @@ fn after_count(plain: &Plain, frames: &[Frame], function: usize, instruction: In
     }
 }
 
-/// Returns true if the instruction at `index` has no lines. Only an instruction that always continues with the next one may be
-/// idle.
+/// Returns true if the instruction at `index` has no lines. Only an instruction that always continues with the next one may be idle.
 pub(crate) fn is_idle(frame: &Frame, index: usize, instruction: Instruction) -> bool
     ensures { result ≡ is_idle frame.now index instruction }
 {
@@ -356,16 +354,14 @@ fn count_of(
     }
 }
 
-/// The line numbers of a function's instructions, and the number of the line after the function's
-/// last one.
+/// The line numbers of a function's instructions, and the number of the line after the function's last one.
 #[derive(Drop)]
 struct Counted {
     lines: Vec<usize>,
     following: usize,
 }
 
-/// Returns the number of the first line of each instruction of a function, if the first instruction
-/// begins at line `here`.
+/// Returns the number of the first line of each instruction of a function, if the first instruction begins at line `here`.
 fn instruction_lines(
     alloc: Global,
     plain: &Plain,
@@ -395,8 +391,7 @@ fn instruction_lines(
     })
 }
 
-/// Returns the line numbers of a function that begins at this line, and the number of the line after the
-/// function's last one.
+/// Returns the line numbers of a function that begins at this line, and the number of the line after the function's last one.
 fn function_lines(
     alloc: Global,
     plain: &Plain,
@@ -429,8 +424,7 @@ pub(crate) struct Numbered {
     pub(crate) following: usize,
 }
 
-/// Returns the line numbers of all functions of a program. Only `number_lines` counts the lines of
-/// instructions.
+/// Returns the line numbers of all functions of a program. Only `number_lines` counts the lines of instructions.
 pub(crate) fn number_lines(
     alloc: Global,
     plain: &Plain,

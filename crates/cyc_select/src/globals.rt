@@ -1,5 +1,4 @@
-//! Access to globals. The first globals are reached from a base register; each other one needs the upper half of its address in a
-//! register.
+//! Access to globals. The first globals are reached from a base register; each other one needs the upper half of its address in a register.
 ghost use Rattle.std.specs.Prelude.{◌≡◌, ◌<◌};
 ghost use Rattle.cyc_select.specs.inside.Slots.{is_near, upper_of_global, reach_code, at_global};
 ghost use Rattle.cyc_select.specs.inside.Operands.{reach_count};
@@ -23,16 +22,14 @@ fn is_near(global: usize) -> bool
     global < NEAR_GLOBALS
 }
 
-/// Returns the number of instructions that load the base address for a global: 0 if a register
-/// holds it.
+/// Returns the number of instructions that load the base address for a global: 0 if a register holds it.
 pub(crate) fn reach_count(global: usize) -> usize
     ensures { result ≡ reach_count global }
 {
     if is_near(global) { 0 } else { 1 }
 }
 
-/// Returns the instruction that loads the upper half of a global's address, to which a sign-extended
-/// offset is added.
+/// Returns the instruction that loads the upper half of a global's address, to which a sign-extended offset is added.
 fn upper_of_global(global: usize) -> Instr
     requires { global < MOST_GLOBALS }
     ensures { result ≡ upper_of_global global }

@@ -35,8 +35,7 @@ fn load_record(target: u8, offset: u16) -> Instr
 }
 
 impl Emitter {
-    /// Emits the lines that fill the fields of a handler's record, except the line at which an
-    /// exception arrives.
+    /// Emits the lines that fill the fields of a handler's record, except the line at which an exception arrives.
     fn recorded(&mut self, frame: &Frame, first: usize) -> Result<(), AllocError>
         requires { AreReached frame.now first RECORD_WORDS }
         ensures { AddsLines result self.old self.new (ordinary (recorded_code frame.now first)) }
@@ -47,8 +46,7 @@ impl Emitter {
         ])
     }
 
-    /// Emits the lines that store an exception's tag and value in the record of the handler that it
-    /// reaches.
+    /// Emits the lines that store an exception's tag and value in the record of the handler that it reaches.
     fn landed(&mut self, frame: &Frame, first: usize) -> Result<(), AllocError>
         requires { AreReached frame.now first RECORD_WORDS }
         ensures { AddsLines result self.old self.new (ordinary (store_slot frame.now ARGUMENT first ∷ store_slot frame.now SECOND_ARGUMENT (suc first) ∷ [])) }
@@ -69,8 +67,7 @@ impl Emitter {
         self.reloads(frame)
     }
 
-    /// Emits the lines that fill the other words of a handler's record and make it the newest
-    /// record.
+    /// Emits the lines that fill the other words of a handler's record and make it the newest record.
     fn opened(&mut self, frame: &Frame, first: usize) -> Result<(), AllocError>
         requires { AreReached frame.now first RECORD_WORDS }
         ensures { AddsLines result self.old self.new (ordinary (opened_code frame.now first)) }

@@ -198,8 +198,7 @@ fn given_register(frame: &Frame, instruction: Instruction) -> Option<u8>
     }
 }
 
-/// Returns the register of the slot that an instruction computes, if the frame permits this instruction's first line
-/// to fill delay slots.
+/// Returns the register of the slot that an instruction computes, if the frame permits this instruction's first line to fill delay slots.
 fn own_register(frame: &Frame, target: usize, instruction: Instruction) -> Option<u8>
     ensures { result ≡ own_register frame.now target instruction }
 {
@@ -279,8 +278,7 @@ fn copied_if(condition: Condition, own: Option<u8>, first: Option<Instr>) -> Opt
     }
 }
 
-/// Returns the line hoisted before a branch with this test: the first line of the target instruction, if it may
-/// stand before the branch.
+/// Returns the line hoisted before a branch with this test: the first line of the target instruction, if it may stand before the branch.
 pub(crate) fn hoisted(
     frame: &Frame,
     code: &[Instruction],

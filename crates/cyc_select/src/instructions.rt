@@ -91,8 +91,7 @@ pub(crate) fn load_word(frame: &Frame, target: u8, slot: usize) -> Instr
     load(target, offset_of(frame.first_slot + slot))
 }
 
-/// Returns the instruction that loads a slot's word into a register, from the slot's register or from the
-/// current frame.
+/// Returns the instruction that loads a slot's word into a register, from the slot's register or from the current frame.
 pub(crate) fn load_slot(frame: &Frame, target: u8, slot: usize) -> Instr
     requires { IsReached frame.now slot }
     ensures { result ≡ load_slot frame.now target slot }
@@ -174,8 +173,7 @@ pub(crate) fn load_upper(target: u8, word: u32) -> Instr
     }
 }
 
-/// Returns the instruction that adds the lower half of a word to a register that holds the upper
-/// half.
+/// Returns the instruction that adds the lower half of a word to a register that holds the upper half.
 pub(crate) fn or_lower(target: u8, word: u32) -> Instr
     ensures { result ≡ or_lower target word }
 {

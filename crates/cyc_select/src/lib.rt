@@ -1,5 +1,4 @@
-//! Instruction selection translates the plain program (three-address code) to labelled machine
-//! code.
+//! Instruction selection translates the plain program (three-address code) to labelled machine code.
 #![tactic(auto)]
 
 mod asking;

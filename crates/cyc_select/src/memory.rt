@@ -27,8 +27,7 @@ fn address_register(frame: &Frame, address: Operand, offset: u32) -> u8
     }
 }
 
-/// Returns the offset that a load or store instruction contains: 0 if the offset is too large for
-/// it.
+/// Returns the offset that a load or store instruction contains: 0 if the offset is too large for it.
 fn near_half(offset: u32) -> u16
     ensures { result ≡ near_half offset }
 {
@@ -39,8 +38,7 @@ fn near_half(offset: u32) -> u16
     }
 }
 
-/// Returns the instruction that loads a word of memory into a register or stores one from a
-/// register.
+/// Returns the instruction that loads a word of memory into a register or stores one from a register.
 fn at_address(frame: &Frame, op: MemoryOp, target: u8, address: Operand, offset: u32) -> Instr
     ensures { result ≡ at_address frame.now op target address offset }
 {
@@ -65,8 +63,7 @@ pub(crate) fn address_count(frame: &Frame, address: Operand, offset: u32) -> usi
 }
 
 impl Emitter {
-    /// Emits the lines that compute an address in a register, without an offset that fits the load
-    /// or store instruction.
+    /// Emits the lines that compute an address in a register, without an offset that fits the load or store instruction.
     fn address(&mut self, frame: &Frame, address: Operand, offset: u32) -> Result<(), AllocError>
         requires { IsFound frame.now address }
         ensures { AddsLines result self.old self.new (ordinary (address_code frame.now address offset)) }

@@ -109,8 +109,7 @@ pub(crate) fn shift_amount(operand: Operand) -> Option<u8>
     }
 }
 
-/// Returns the amount of the left shift that multiplies by an operand, if the operand is a constant power
-/// of two.
+/// Returns the amount of the left shift that multiplies by an operand, if the operand is a constant power of two.
 pub(crate) fn power_of(operand: Operand) -> Option<u8>
     ensures { result ≡ power_of operand }
 {

@@ -41,8 +41,7 @@ pub(crate) fn value_register(frame: &Frame, slot: usize) -> Option<u8>
     }
 }
 
-/// Returns true if a slot's value is also in its word of the frame, so that its home includes
-/// memory.
+/// Returns true if a slot's value is also in its word of the frame, so that its home includes memory.
 pub(crate) fn is_kept(frame: &Frame, slot: usize) -> bool
     ensures { result ≡ is_kept frame.now slot }
 {
@@ -81,8 +80,7 @@ fn home_coming(callee: &Frame, slot: usize) -> Home
     coming_home(home(callee, slot))
 }
 
-/// Returns the home of a parameter that arrives in memory and is loaded into a register at the
-/// function's entry.
+/// Returns the home of a parameter that arrives in memory and is loaded into a register at the function's entry.
 fn arriving_home(home: Home) -> Home
     ensures { result ≡ arriving_home home }
 {
@@ -124,8 +122,7 @@ fn is_kept_coming(callee: &Frame, slot: usize) -> bool
     }
 }
 
-/// Returns the register through which an argument is passed: the one in which it arrives, or a
-/// temporary.
+/// Returns the register through which an argument is passed: the one in which it arrives, or a temporary.
 pub(crate) fn comes_by(callee: &Frame, slot: usize) -> u8
     ensures { result ≡ made_in (coming callee.now) slot }
 {
@@ -200,8 +197,7 @@ pub(crate) fn give_count(frame: &Frame, slot: usize) -> usize
     }
 }
 
-/// Returns the number of lines that store an argument in the callee's frame: 0 if it does not
-/// arrive there.
+/// Returns the number of lines that store an argument in the callee's frame: 0 if it does not arrive there.
 pub(crate) fn keep_coming_count(callee: &Frame, slot: usize) -> usize
     ensures value { result ≡ keep_count (coming callee.now) slot }
     ensures few { result ≤ 1 }
@@ -522,8 +518,7 @@ impl Emitter {
         Ok(())
     }
 
-    /// Emits the lines that load parameters that arrived in memory into their callee-saved
-    /// registers.
+    /// Emits the lines that load parameters that arrived in memory into their callee-saved registers.
     pub(crate) fn arrivals(&mut self, frame: &Frame) -> Result<(), AllocError>
         requires { AreReached frame.now 0 (length frame.now.homes) }
         ensures { AddsLines result self.old self.new (ordinary (arrivals frame.now)) }

@@ -1,5 +1,4 @@
-//! Emits the lines of operators and tests, and of other instructions that access only the
-//! function's own slots.
+//! Emits the lines of operators and tests, and of other instructions that access only the function's own slots.
 ghost use Rattle.std.specs.Prelude.{◌≡◌, ◌+◌, ◌*◌, ◌<◌, ◌≤◌, ◌^◌, [], ◌∷◌, ◌++◌, OnOk};
 ghost use Rattle.cyc_select.specs.inside.Instructions.{small, syscall, arithmetic_of, immediate_of, shift_of, shift_by_of, multiply_divide_of, move_from_of};
 ghost use Rattle.cyc_select.specs.inside.Slots.{give_code};
@@ -340,8 +339,7 @@ impl Emitter {
         }
     }
 
-    /// Emits a branch that is taken if a test holds, with the hoisted line, if any, before the
-    /// branch.
+    /// Emits a branch that is taken if a test holds, with the hoisted line, if any, before the branch.
     pub(crate) fn branch_where(
         &mut self,
         frame: &Frame,
@@ -367,8 +365,7 @@ impl Emitter {
         }
     }
 
-    /// Emits the lines that make the dividend and the divisor available in registers and load -1
-    /// into a third one.
+    /// Emits the lines that make the dividend and the divisor available in registers and load -1 into a third one.
     fn dividend_and_divisor(
         &mut self,
         frame: &Frame,
@@ -383,8 +380,7 @@ impl Emitter {
         self.ordinary(&[add_immediate(THIRD, ZERO, minus(1))])
     }
 
-    /// Emits the lines that divide one register by another and write the quotient or the remainder
-    /// to a slot.
+    /// Emits the lines that divide one register by another and write the quotient or the remainder to a slot.
     fn quotient(
         &mut self,
         frame: &Frame,

@@ -158,8 +158,7 @@ fn multiply_divide_plan(
     }
 }
 
-/// Returns the plan of a product: a shift if one factor is a power of two, otherwise a
-/// multiplication.
+/// Returns the plan of a product: a shift if one factor is a power of two, otherwise a multiplication.
 fn product_plan(left: Operand, right: Operand) -> Plan
     ensures { result ≡ product_plan left right }
 {
@@ -177,8 +176,7 @@ fn product_plan(left: Operand, right: Operand) -> Plan
     }
 }
 
-/// Returns the comparison that holds for the exchanged operands exactly if this one holds for the
-/// operands in order.
+/// Returns the comparison that holds for the exchanged operands exactly if this one holds for the operands in order.
 fn mirrored(comparison: Comparison) -> Comparison
     ensures { result ≡ mirrored comparison }
 {
@@ -207,8 +205,7 @@ fn zero_plan(operand: Operand, holds: bool) -> Plan
     }
 }
 
-/// Returns the plan that tests two words for equality, or for difference if `holds` is false, by
-/// testing their difference for 0.
+/// Returns the plan that tests two words for equality, or for difference if `holds` is false, by testing their difference for 0.
 fn equal_plan(left: Operand, right: Operand, holds: bool) -> Plan
     ensures { result ≡ equal_plan left right holds }
 {
@@ -230,8 +227,7 @@ fn equal_plan(left: Operand, right: Operand, holds: bool) -> Plan
     )
 }
 
-/// Returns the plan that tests that the left word is less than the right one, or that it is not
-/// less.
+/// Returns the plan that tests that the left word is less than the right one, or that it is not less.
 fn less_plan(left: Operand, right: Operand, outcome: Outcome) -> Plan
     ensures { result ≡ less_plan left right outcome }
 {
@@ -258,8 +254,7 @@ fn less_unsigned_plan(left: Operand, right: Operand, outcome: Outcome) -> Plan
     )
 }
 
-/// Returns the plan that tests that the left word is at most the right one: it is less than the right
-/// word's successor.
+/// Returns the plan that tests that the left word is at most the right one: it is less than the right word's successor.
 fn at_most_plan(left: Operand, right: Operand, holds: bool) -> Plan
     ensures { result ≡ at_most_plan left right holds }
 {
@@ -278,8 +273,7 @@ fn at_most_plan(left: Operand, right: Operand, holds: bool) -> Plan
     )
 }
 
-/// Returns the plan of a comparison whose operands were exchanged, if possible, so that the left
-/// one is no constant.
+/// Returns the plan of a comparison whose operands were exchanged, if possible, so that the left one is no constant.
 fn compared_plan(comparison: Comparison, left: Operand, right: Operand) -> Plan
     ensures { result ≡ compared_plan comparison left right }
 {
@@ -297,8 +291,7 @@ fn compared_plan(comparison: Comparison, left: Operand, right: Operand) -> Plan
     }
 }
 
-/// Returns true if the operands of a comparison should be exchanged: the left one is a constant, and the comparison
-/// can be mirrored.
+/// Returns true if the operands of a comparison should be exchanged: the left one is a constant, and the comparison can be mirrored.
 fn is_mirrored(comparison: Comparison, left: Operand) -> bool
     ensures { result ≡ is_mirrored comparison left }
 {
@@ -400,8 +393,7 @@ fn operator_plan(operator: BinaryOperator, left: Operand, right: Operand) -> Pla
     }
 }
 
-/// Returns true if the operands of an operator should be exchanged: the left one is a constant, and the
-/// operator commutes.
+/// Returns true if the operands of an operator should be exchanged: the left one is a constant, and the operator commutes.
 fn is_swapped(operator: BinaryOperator, left: Operand) -> bool
     ensures { result ≡ is_swapped operator left }
 {
@@ -439,8 +431,7 @@ fn sign_of(comparison: Comparison) -> Option<BranchZeroOp>
     }
 }
 
-/// Returns a test of the operand's sign if a branch on the sign is given, otherwise the test
-/// `other`.
+/// Returns a test of the operand's sign if a branch on the sign is given, otherwise the test `other`.
 fn sign_or(sign: Option<BranchZeroOp>, operand: Operand, other: Test) -> Test
     ensures { result ≡ sign_or sign operand other }
 {
@@ -450,8 +441,7 @@ fn sign_or(sign: Option<BranchZeroOp>, operand: Operand, other: Test) -> Test
     }
 }
 
-/// Returns the test of an order comparison. A comparison with 0 tests the sign of the other
-/// operand.
+/// Returns the test of an order comparison. A comparison with 0 tests the sign of the other operand.
 fn order_test(comparison: Comparison, left: Operand, right: Operand) -> Test
     ensures { result ≡ order_test comparison left right }
 {

@@ -128,8 +128,7 @@ fn selected(alloc: Global, plain: &Plain, frames: &Frames) -> Result<Code, Alloc
 /// The only error that `select` returns is lack of memory.
 pub fn select(alloc: Global, plain: &Plain, frames: &Frames) -> Result<Code, Fault>
     requires { AreFrames plain.now frames.now }
-    // Each line of the selected code belongs to one instruction of the program or to the start code. The code
-    // behaves as the program does.
+    // Each line of the selected code belongs to one instruction of the program or to the start code. The code behaves as the program does.
     ensures selected { IfOk result (λ code. IsCodeOf plain.now code) }
     // The data range of the selected code begins with the program's globals.
     ensures globals { IfOk result (λ code. code.globals ≡ plain.now.globals) }

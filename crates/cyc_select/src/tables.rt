@@ -16,8 +16,7 @@ use cyc_plain::{GREATEST_VALUE, MOST_FRAME_WORDS, Plain};
 pub struct FunctionLines {
     /// The number of the function's first line.
     pub first: usize,
-    /// The number of the first line of each instruction. An instruction without lines has the number of the next
-    /// line.
+    /// The number of the first line of each instruction. An instruction without lines has the number of the next line.
     pub lines: Vec<usize>,
 }
 

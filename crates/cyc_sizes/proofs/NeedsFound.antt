@@ -46,8 +46,7 @@ OperationsLeft os t first i need left = max need (operations_need (operations_of
 abbrev pub ItemsLeft : List ItemCode → (i need : ℕ) → Type 0
 ItemsLeft js i need = max need (items_need (items_of (drop i js))) ≡ items_need (items_of js)
 
--- Says that the words kept by the items so far, plus the words kept by the remaining items, are the
--- words kept by the complete block.
+-- Says that the words kept by the items so far, plus the words kept by the remaining items, are the words kept by the complete block.
 abbrev pub ItemsKeptLeft : List ItemCode → (i words : ℕ) → Type 0
 ItemsKeptLeft js i words = words + kept_by_items (items_of (drop i js)) ≡ kept_by_items (items_of js)
 
@@ -59,8 +58,7 @@ ClausesLeft cs i need = max need (clauses_need (clauses_of (drop i cs) NoClauses
 abbrev pub ClausesKeptLeft : List Clause → (i words : ℕ) → Type 0
 ClausesKeptLeft cs i words = words + kept_by_clauses (clauses_of (drop i cs) NoClauses) ≡ kept_by_clauses (clauses_of cs NoClauses)
 
--- The need of clauses with a `default` clause is the maximum of its need and the need of the other
--- clauses.
+-- The need of clauses with a `default` clause is the maximum of its need and the need of the other clauses.
 pub clauses_need_with : (cs : List Clause) (default : Clauses) → clauses_need (clauses_of cs default) ≡ max (clauses_need (clauses_of cs NoClauses)) (clauses_need default)
 clauses_need_with [] default = omega arith
 clauses_need_with (c ∷ cs) default = omega (arith, clauses_need_with cs default)

@@ -57,8 +57,7 @@ pub first_without_comma : (cs : Arguments) → arguments_weight cs ≡ more_argu
 first_without_comma NoArguments = omega arith
 first_without_comma (MoreArguments c cs) = omega arith
 
--- The tokens counted so far plus those of an operand with its comma exceed the tokens of the list
--- by at most one.
+-- The tokens counted so far plus those of an operand with its comma exceed the tokens of the list by at most one.
 module _ (cs : List ConvertedCode) (i weight : ℕ) (c : ConvertedCode) (inside : i < length cs) (at : c ≡ get_or cs i c) where
   pub argument_left : ArgumentsLeft cs i weight → weight + (1 + expression_weight (view_expression c.value)) ≤ 1 + arguments_weight (arguments_of cs)
   argument_left left =
@@ -66,8 +65,7 @@ module _ (cs : List ConvertedCode) (i weight : ℕ) (c : ConvertedCode) (inside 
       let found = ap (λ (ds : List ConvertedCode). weight + more_arguments_weight (arguments_of ds)) (sym here) ∙ left in
       omega (arith, found, first_without_comma (arguments_of cs))
 
--- Each parameter is spelled as a type and a name, and all parameters except the first have a comma
--- before them.
+-- Each parameter is spelled as a type and a name, and all parameters except the first have a comma before them.
 more_parameters : (ts : List TyCode) → sum_of (λ _. 1 + 2) (map view_ty ts) ≡ 3 * length ts
 more_parameters [] = omega arith
 more_parameters (t ∷ ts) = omega (arith, more_parameters ts)

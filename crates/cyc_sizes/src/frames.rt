@@ -1,5 +1,4 @@
-//! This file counts the number of words that the frame of a function may need, on its typed tree
-//! only.
+//! This file counts the number of words that the frame of a function may need, on its typed tree only.
 ghost use Rattle.std.specs.Prelude.{◌≡◌, ◌+◌, ◌≤◌, map, option_map};
 ghost use Rattle.cyc_types.specs.Types.{words_of};
 ghost use Rattle.cyc_types.specs.TypedTrees.{NoClauses, type_of_place, type_of};
@@ -192,8 +191,7 @@ fn expression_need(value: &Expr) -> usize
     }
 }
 
-/// Returns the frame words that a memory access through a pointer needs, whose value has `own`
-/// words.
+/// Returns the frame words that a memory access through a pointer needs, whose value has `own` words.
 #[cycle(need)]
 fn dereference_need(place: &Dereference, own: usize) -> usize
     requires { dereference_need (view_dereference place.now) own ≤ most_frame_count }
@@ -225,8 +223,7 @@ fn handle_need(placement: &Placement) -> usize
     }
 }
 
-/// Returns the frame words that an initial value needs after a region handle of `handle` words; the pointer to the
-/// object has `own` words.
+/// Returns the frame words that an initial value needs after a region handle of `handle` words; the pointer to the object has `own` words.
 #[cycle(need)]
 fn initial_value_need(initial: &Initial, handle: usize, own: usize) -> usize
     requires { initial_value_need (view_initial initial.now) handle own ≤ most_frame_count }
@@ -250,8 +247,7 @@ fn initial_value_need(initial: &Initial, handle: usize, own: usize) -> usize
     }
 }
 
-/// Returns the frame words that operands and their result need: `first` words precede all operands, and the result
-/// has `own` words.
+/// Returns the frame words that operands and their result need: `first` words precede all operands, and the result has `own` words.
 #[cycle(need)]
 fn operands_need(operands: &[Converted], first: usize, own: usize) -> usize
     requires { operands_need (arguments_of operands.now) first own ≤ most_frame_count }
@@ -266,8 +262,7 @@ fn operands_need(operands: &[Converted], first: usize, own: usize) -> usize
     need.max(before + own)
 }
 
-/// Returns the frame words that an operator of a chain of this type needs, if its left operand has
-/// `left` words.
+/// Returns the frame words that an operator of a chain of this type needs, if its left operand has `left` words.
 #[cycle(need)]
 fn operation_need(operation: &Operation, of_type: &Ty, left: usize) -> usize
     requires { operation_need operation.now (view_ty of_type.now) left ≤ most_frame_count }

@@ -1,5 +1,4 @@
-//! This crate computes sizes of a typed program on its tree: the words of a function's frame, and the tokens of the
-//! program's spelling.
+//! This crate computes sizes of a typed program on its tree: the words of a function's frame, and the tokens of the program's spelling.
 //!
 //! The crate `cyc_meaning` defines the frame count, which a run's frame limit uses; the crate `cyc_types` defines the weight, which
 //! bounds the length of an image.

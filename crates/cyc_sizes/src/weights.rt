@@ -18,8 +18,7 @@ use cyc_types::typed::{
     Operation, Placement, Side, Stmt, UnaryOperator,
 };
 
-/// Returns the number of tokens of a unary operator; the conversion of a char to an int is not
-/// written.
+/// Returns the number of tokens of a unary operator; the conversion of a char to an int is not written.
 fn unary_weight(operator: UnaryOperator) -> usize
     ensures { result ≡ unary_weight operator }
 {
@@ -198,8 +197,7 @@ fn thrown_weight(value: &Option<Expr>) -> usize
     }
 }
 
-/// Returns the number of tokens of the local for an exception's int in a clause, with its
-/// parentheses.
+/// Returns the number of tokens of the local for an exception's int in a clause, with its parentheses.
 fn caught_weight(number: Option<usize>) -> usize
     ensures { result ≡ caught_weight number }
 {
@@ -315,8 +313,7 @@ fn default_weight(default: &Option<Body>) -> usize
     }
 }
 
-/// Returns the number of tokens of `=` and the value of a global, if the value must have been
-/// written.
+/// Returns the number of tokens of `=` and the value of a global, if the value must have been written.
 fn constant_weight(value: Constant) -> usize
     ensures { result ≡ constant_weight (view_constant value) }
 {
@@ -338,8 +335,7 @@ fn globals_weight(globals: &[Global]) -> usize
     weight
 }
 
-/// Returns the number of tokens of a function. Each parameter is a type and a name, with a comma before each
-/// parameter except the first.
+/// Returns the number of tokens of a function. Each parameter is a type and a name, with a comma before each parameter except the first.
 fn function_weight(function: &Function) -> usize
     requires { function_weight (view_function function.now) ≤ max_tokens }
     ensures { result ≡ function_weight (view_function function.now) }

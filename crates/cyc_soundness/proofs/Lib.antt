@@ -1,12 +1,10 @@
--- The proofs have one folder for each topic; the header of each proof file states the contents of
--- the file.
+-- The proofs have one folder for each topic; the header of each proof file states the contents of the file.
 mod types
 mod guard
 mod flow
 mod states
 mod steps
--- These modules prove the soundness theorem, for the class and for programs of texts, which the
--- crates above cite.
+-- These modules prove the soundness theorem, for the class and for programs of texts, which the crates above cite.
 mod Whole
 pub mod FormedLemmas
 -- examples

@@ -139,8 +139,7 @@ ones vs = map (λ (v : GlobalVariable). 1) vs
 abbrev global_of : GlobalVariable → ObjectType
 global_of v = global_type (at as_heap v.of_type)
 
--- The types of a struct's cells, if as many lifetimes are given as the struct has region
--- parameters.
+-- The types of a struct's cells, if as many lifetimes are given as the struct has region parameters.
 abbrev cells_of : List Life → StructType → Option (List RunTy)
 cells_of ls s = if length ls == s.parameters then Some (map (at (lives_among ls)) s.fields) else None
 

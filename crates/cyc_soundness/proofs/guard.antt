@@ -1,8 +1,7 @@
 -- These modules are about tests on numbers, and the flow states of the rules.
 pub mod Bools
 pub mod States
--- These modules define the relation of a guard to a flow state, and prove that the rules preserve
--- the relation.
+-- These modules define the relation of a guard to a flow state, and prove that the rules preserve the relation.
 pub mod Fitting
 pub mod Numbers
 pub mod Followed

@@ -17,8 +17,7 @@ fn words_of(alloc: Global, text: &[u8]) -> Option<u32> {
     Some(header.memory_size / 4)
 }
 
-/// Returns the number of code words if the program's steps have a bound; otherwise the number is
-/// not needed.
+/// Returns the number of code words if the program's steps have a bound; otherwise the number is not needed.
 pub fn words_by(alloc: Global, text: &[u8], bounds: &Bounds) -> Option<u32> {
     match bounds.steps {
         StepBound::Steps { .. } => words_of(alloc, text),
@@ -65,8 +64,7 @@ impl<'a> Needs<'a> {
         }
     }
 
-    /// Returns the source position at which the body of a function first calls the function named
-    /// `callee`.
+    /// Returns the source position at which the body of a function first calls the function named `callee`.
     fn call_of(&self, caller: &Function, callee: &[u8]) -> Option<Span> {
         let tokens = tokens_from(&self.bounded.tokens, caller.span).get(1..)?;
         for (place, token) in tokens.iter().enumerate() {

@@ -43,8 +43,7 @@ pub fn check_file(
     }
 }
 
-/// Rejects an image file that is the same as the source file, because the image would replace the
-/// source.
+/// Rejects an image file that is the same as the source file, because the image would replace the source.
 fn refuse_one_file(rt: &HostRuntime, source: &str, image: &str) -> Result<(), Answer> {
     if !is_one_file(rt, source, image) {
         return Ok(());
@@ -56,8 +55,7 @@ fn refuse_one_file(rt: &HostRuntime, source: &str, image: &str) -> Result<(), An
     Err(Answer::Usage)
 }
 
-/// A further output file of a compilation: its description for the user, and the option that names
-/// it.
+/// A further output file of a compilation: its description for the user, and the option that names it.
 #[derive(Clone, Copy)]
 struct Beside<'a> {
     what: &'static str,
@@ -132,8 +130,7 @@ fn refuse_files(rt: &HostRuntime, source: &str, outputs: Outputs<'_>) -> Result<
     Ok(())
 }
 
-/// Returns the run limits that follow from a program's bounds, if both the calls and the pages have
-/// a bound.
+/// Returns the run limits that follow from a program's bounds, if both the calls and the pages have a bound.
 fn limits_by(bounds: &Bounds) -> Option<GivenLimits> {
     match (&bounds.calls, &bounds.pages) {
         (CallBound::Calls { count: calls }, PageBound::Pages { count: pages }) => {
@@ -163,8 +160,7 @@ fn tell_needs(rt: &HostRuntime, source: Source<'_>) -> Answer {
     }
 }
 
-/// Returns the run limits that follow from a program's own bounds, or reports why the program has
-/// no bounds.
+/// Returns the run limits that follow from a program's own bounds, or reports why the program has no bounds.
 fn own_limits(rt: &HostRuntime, source: Source<'_>) -> Result<GivenLimits, Answer> {
     match bounds(rt.alloc(), source.text) {
         Ok(needed) => match limits_by(&needed) {
@@ -252,8 +248,7 @@ impl Made {
         self.compiled.compilation.image.as_slice()
     }
 
-    /// Returns the bytes of the file of source positions, which maps the image's code to positions in
-    /// the program.
+    /// Returns the bytes of the file of source positions, which maps the image's code to positions in the program.
     pub fn places(&self) -> &[u8] {
         self.places.as_bytes()
     }
@@ -283,8 +278,7 @@ fn make_placed(rt: &HostRuntime, source: Source<'_>, limits: GivenLimits) -> Res
     }
 }
 
-/// Compiles a program with the option `--places FILE`; the file of source positions is written
-/// after the image.
+/// Compiles a program with the option `--places FILE`; the file of source positions is written after the image.
 fn compile_with_file(
     rt: &HostRuntime,
     source: Source<'_>,
@@ -297,8 +291,7 @@ fn compile_with_file(
     write_whole(rt, path, made.places())
 }
 
-/// Performs the first half of the command `exec SOURCE`: compiles the program to an image, which
-/// will run with the given limits.
+/// Performs the first half of the command `exec SOURCE`: compiles the program to an image, which will run with the given limits.
 pub fn make_file(
     rt: &HostRuntime,
     source: &str,
@@ -393,8 +386,7 @@ fn refuse_output(rt: &HostRuntime, output: Option<&str>) -> Result<(), Answer> {
     Err(Answer::Usage)
 }
 
-/// Runs the command `format SOURCE`. With `is_check`, the command only reports if the file is
-/// formatted.
+/// Runs the command `format SOURCE`. With `is_check`, the command only reports if the file is formatted.
 pub fn format_file(
     rt: &HostRuntime,
     source: &str,

@@ -5,8 +5,7 @@ use cyc_places::Part;
 use std::alloc::{AllocError, Global};
 use std::fmt::Display;
 
-/// Returns the other file that contains a line of the joined text, and the line's number in that file,
-/// if the line belongs to another file.
+/// Returns the other file that contains a line of the joined text, and the line's number in that file, if the line belongs to another file.
 fn home_of<'a>(parts: &[Part<'a>], line: u32) -> Option<(&'a str, u32)> {
     let after = parts.partition_point(|part| part.first <= line);
     let part = parts.get(after.checked_sub(1)?)?;
@@ -26,8 +25,7 @@ fn home_in<'a, 't>(
     Some((name, line, rest))
 }
 
-/// A message under construction: some pieces are copied, and the source positions between them are
-/// rewritten.
+/// A message under construction: some pieces are copied, and the source positions between them are rewritten.
 #[derive(Drop)]
 struct Pieces<'a> {
     alloc: Global,
@@ -101,8 +99,7 @@ impl Pieces<'_> {
     }
 }
 
-/// Returns the message for the user about a text whose program is in the file `name`, with
-/// positions in other files rewritten.
+/// Returns the message for the user about a text whose program is in the file `name`, with positions in other files rewritten.
 pub fn words_by_homes(
     alloc: Global,
     said: &str,
@@ -126,8 +123,7 @@ pub fn words_by_homes(
     Ok(pieces.made)
 }
 
-/// Returns the file of the source position that follows the given words in a JSON object, as JSON, if it is
-/// not the program's file.
+/// Returns the file of the source position that follows the given words in a JSON object, as JSON, if it is not the program's file.
 fn file_after(
     alloc: Global,
     object: &str,

@@ -1,5 +1,4 @@
-//! The commands that take a source file: they check the file, compile it, report its needs, or
-//! format it.
+//! The commands that take a source file: they check the file, compile it, report its needs, or format it.
 #![tactic(auto)]
 
 pub use commands::{

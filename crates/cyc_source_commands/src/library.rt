@@ -22,8 +22,7 @@ struct Declaration {
     is_reached: bool,
 }
 
-/// The facts known about a name: its declarations, and a flag that is true once the name was
-/// followed.
+/// The facts known about a name: its declarations, and a flag that is true once the name was followed.
 #[derive(Clone, Copy)]
 struct Known {
     /// The library declaration that declares the name, if any.
@@ -37,8 +36,7 @@ struct Known {
 #[derive(Clone, Copy)]
 pub enum Clash {
     Memory,
-    /// Two libraries declare the same name; `token` is the index of the name's token in the second
-    /// library.
+    /// Two libraries declare the same name; `token` is the index of the name's token in the second library.
     Twice {
         first: usize,
         second: usize,
@@ -72,8 +70,7 @@ pub fn spelled<'a>(text: &'a [u8], token: &Token) -> &'a [u8] {
     text.get(token.start..token.end).unwrap_or(&[])
 }
 
-/// Returns by how much a token increases the nesting depth of brackets; a closing bracket
-/// returns -1.
+/// Returns by how much a token increases the nesting depth of brackets; a closing bracket returns -1.
 fn deeper(kind: TokenKind) -> i64 {
     match kind {
         TokenKind::Sign(Sign::LeftParen | Sign::LeftBracket | Sign::LeftBrace) => 1,
@@ -82,8 +79,7 @@ fn deeper(kind: TokenKind) -> i64 {
     }
 }
 
-/// Returns true if the first tokens of a declaration belong to a function; of the other declarations, only exceptions contain
-/// parentheses.
+/// Returns true if the first tokens of a declaration belong to a function; of the other declarations, only exceptions contain parentheses.
 fn is_function(tokens: &[Token]) -> bool {
     let mut has_bracket = false;
     for token in tokens {
@@ -117,8 +113,7 @@ fn end_of_declaration(tokens: &[Token]) -> Option<usize> {
     None
 }
 
-/// Returns true if a token of an exception declaration is the name of an exception, that is, follows
-/// a brace or a semicolon.
+/// Returns true if a token of an exception declaration is the name of an exception, that is, follows a brace or a semicolon.
 fn is_constructor(tokens: &[Token], place: usize) -> bool {
     match place.checked_sub(1).and_then(|before| tokens.get(before)) {
         Some(token) => matches!(
@@ -137,8 +132,7 @@ fn ends_name(kind: TokenKind) -> bool {
     )
 }
 
-/// Returns true if the tokens declare a struct, rather than a function or global with a struct
-/// type.
+/// Returns true if the tokens declare a struct, rather than a function or global with a struct type.
 fn is_struct(tokens: &[Token]) -> bool {
     matches!(
         tokens,
@@ -150,8 +144,7 @@ fn is_struct(tokens: &[Token]) -> bool {
     )
 }
 
-/// Returns the index of the name among the tokens of a function or global declaration: the last token before its
-/// parentheses or its value.
+/// Returns the index of the name among the tokens of a function or global declaration: the last token before its parentheses or its value.
 fn place_of_name(tokens: &[Token]) -> usize {
     let mut found: usize = 0;
     for (place, token) in tokens.iter().enumerate() {
@@ -358,8 +351,7 @@ impl Shelf<'_> {
         Some(number)
     }
 
-    /// If both the program and a library declare a name, returns the position of the program's declaration
-    /// and the library.
+    /// If both the program and a library declare a name, returns the position of the program's declaration and the library.
     fn taken(&self, name: usize) -> Option<(Span, usize)> {
         let known = self.known.get(name)?;
         let declaration = self.declarations.get(known.declared_by?)?;
@@ -414,8 +406,7 @@ impl Shelf<'_> {
                 }
             }
         }
-        // Each name is followed to its declaration once, so the number of iterations is at most the
-        // number of tokens.
+        // Each name is followed to its declaration once, so the number of iterations is at most the number of tokens.
         for _ in 0..u64::MAX {
             let Some(name) = names.pop() else {
                 return Ok(());

@@ -1,5 +1,4 @@
-//! Reads the text of a program: the text of its file, followed by the library declarations that it
-//! needs.
+//! Reads the text of a program: the text of its file, followed by the library declarations that it needs.
 use crate::library::{Clash, Joined, Library, Shelf, spelled};
 use crate::telling::{Source, tell_refusal, tell_words};
 use cyc_cli::{FileName, Shown};
@@ -18,8 +17,7 @@ fn tokens_of(alloc: Global, text: &[u8]) -> Result<Vec<Token>, Fault> {
     Ok(tokens)
 }
 
-/// Reads a library from a file. A fault in the library's grammar is reported with the library's own
-/// name.
+/// Reads a library from a file. A fault in the library's grammar is reported with the library's own name.
 fn read_library<'a>(rt: &HostRuntime, name: &'a str, is_json: bool) -> Result<Library<'a>, Answer> {
     let text = read_text(rt, name)?;
     match tokens_of(rt.alloc(), &text) {
@@ -55,8 +53,7 @@ fn file_of<'s>(shelf: &'s Shelf<'_>, library: usize) -> &'s str {
     }
 }
 
-/// Reports that the program declares a name, at position `own`, that a needed library declaration uses as the
-/// library's name.
+/// Reports that the program declares a name, at position `own`, that a needed library declaration uses as the library's name.
 fn tell_taken(rt: &HostRuntime, source: Source<'_>, own: Span, words: String) -> Answer {
     let fault = Fault {
         code: Code::DeclaredTwice,
@@ -131,8 +128,7 @@ fn join<'a>(
     shelf: &mut Shelf<'a>,
     is_json: bool,
 ) -> Result<Joined<'a>, Answer> {
-    // If the program's text violates the grammar, the text is returned without libraries, so the
-    // fault is reported for the text as it is.
+    // If the program's text violates the grammar, the text is returned without libraries, so the fault is reported for the text as it is.
     let Ok(tokens) = tokens_of(rt.alloc(), &text) else {
         return Ok(Joined::alone(rt.alloc(), text));
     };
@@ -155,8 +151,7 @@ fn join<'a>(
     }
 }
 
-/// Returns the text of the program in a file, joined with the declarations that it needs of the
-/// given libraries.
+/// Returns the text of the program in a file, joined with the declarations that it needs of the given libraries.
 pub(crate) fn read_program<'a>(
     rt: &HostRuntime,
     name: &str,

@@ -1,5 +1,4 @@
-//! Reports the findings about a program: as messages to the user on standard error, or as JSON objects on
-//! standard output.
+//! Reports the findings about a program: as messages to the user on standard error, or as JSON objects on standard output.
 ghost use Rattle.std.specs.Prelude.{◌≡◌, ◌⊎◌};
 ghost use Rattle.cyc_host.specs.inside.Answer.{answer_of_fault};
 ghost use Rattle.cyc_host.specs.declared.answer.Answer.TheVariants.{WriteFault};
@@ -24,13 +23,11 @@ pub(crate) struct Source<'a> {
     pub(crate) text: &'a [u8],
     /// The parts of the text that come from other files.
     pub(crate) parts: &'a [Part<'a>],
-    /// If true, findings are printed as JSON objects on standard output; if false, as messages to
-    /// the user on standard error.
+    /// If true, findings are printed as JSON objects on standard output; if false, as messages to the user on standard error.
     pub(crate) is_json: bool,
 }
 
-/// Returns a message about a source file, in which each source position names the file that
-/// contains it.
+/// Returns a message about a source file, in which each source position names the file that contains it.
 fn words_of<D: Display + Drop>(
     rt: &HostRuntime,
     source: Source<'_>,
@@ -95,8 +92,7 @@ fn report_after(rt: &HostRuntime, source: Source<'_>, first: Fault) {
     }
 }
 
-/// Returns the answer for a rejected program, and prints the message for the user on standard
-/// error.
+/// Returns the answer for a rejected program, and prints the message for the user on standard error.
 pub(crate) fn report_refusal(rt: &HostRuntime, source: Source<'_>, fault: Fault) -> Answer
     // The text of the message does not affect the answer.
     ensures { result ≡ answer_of_fault fault }
@@ -157,8 +153,7 @@ fn print_all(rt: &HostRuntime, source: Source<'_>, first: Fault) -> io::Result<(
     output.flush()
 }
 
-/// Returns the answer after JSON objects were printed. An object may be missing only if memory ran
-/// out.
+/// Returns the answer after JSON objects were printed. An object may be missing only if memory ran out.
 fn answer_printed(answer: Answer, printed: io::Result<()>) -> Answer
     ensures { (result ≡ answer) ⊎ (result ≡ WriteFault) }
 {
@@ -168,8 +163,7 @@ fn answer_printed(answer: Answer, printed: io::Result<()>) -> Answer
     }
 }
 
-/// Returns the answer for a rejected program, and prints its faults as JSON objects on standard
-/// output.
+/// Returns the answer for a rejected program, and prints its faults as JSON objects on standard output.
 fn print_refusals(rt: &HostRuntime, source: Source<'_>, fault: Fault) -> Answer
     ensures { (result ≡ answer_of_fault fault) ⊎ (result ≡ WriteFault) }
 {
@@ -180,8 +174,7 @@ fn print_refusals(rt: &HostRuntime, source: Source<'_>, fault: Fault) -> Answer
     }
 }
 
-/// Prints the warnings about an accepted program as JSON objects, at most as many as are shown to a
-/// user.
+/// Prints the warnings about an accepted program as JSON objects, at most as many as are shown to a user.
 fn print_warnings(rt: &HostRuntime, source: Source<'_>, found: &[Found]) -> io::Result<()> {
     let mut output = Output::new(rt);
     for found in found.iter().take(MOST_WARNINGS) {
@@ -231,8 +224,7 @@ pub(crate) fn tell_words(
     answer
 }
 
-/// Reports the warnings about an accepted program. Returns an error if the warnings could not be
-/// written.
+/// Reports the warnings about an accepted program. Returns an error if the warnings could not be written.
 pub(crate) fn tell_warnings(
     rt: &HostRuntime,
     source: Source<'_>,

@@ -22,8 +22,7 @@ pub fn widen_heap(alloc: Global) {
     let _: Result<Vec<u8>, AllocError> = Vec::with_capacity(alloc, LARGEST);
 }
 
-/// Checks a source text: its tokens, its grammar, its types and its flow. Returns the results of the phases, which are
-/// never freed.
+/// Checks a source text: its tokens, its grammar, its types and its flow. Returns the results of the phases, which are never freed.
 pub fn check(alloc: Global, text: &[u8]) -> Result<ManuallyDrop<Phases>, Fault>
     ensures answer { AnswersCheck text.now result }
     // A text with a fault is never accepted.
@@ -45,8 +44,7 @@ pub fn compile(alloc: Global, text: &[u8], limits: GivenLimits) -> Result<Compil
     compile_with_tokens(alloc, text, limits.carried())
 }
 
-/// Compiles a source text to an image, and also returns the position in the text from which each
-/// word of the image originates.
+/// Compiles a source text to an image, and also returns the position in the text from which each word of the image originates.
 pub fn compile_placed(alloc: Global, text: &[u8], limits: GivenLimits) -> Result<Placed, Fault>
     // A text with a fault is never compiled.
     ensures refuses { (fault : Fault) → HasFaultAtLast text.now fault

@@ -1,5 +1,4 @@
-//! This file checks the requirements of the statements themselves, after their expressions are
-//! checked.
+//! This file checks the requirements of the statements themselves, after their expressions are checked.
 ghost use Rattle.std.specs.Prelude.{◌&&◌, not, [], ◌∷◌, None, Ok, option_map};
 ghost use Rattle.cyc_words.specs.declared.fault.Code.TheVariants as codes;
 ghost use Rattle.cyc_syntax.specs.inside.TreeView.{place_of_span, view_name, view_expression};
@@ -49,8 +48,7 @@ fn conversion_wanted(scope: &Scope<'_>, value: Given<'_>, to: &Ty, span: Span) -
     settled.end()
 }
 
-/// Checks that a function has no result if it contains, at this source position, a `return` without
-/// a value.
+/// Checks that a function has no result if it contains, at this source position, a `return` without a value.
 pub fn no_value_wanted(scope: &Scope<'_>, span: Span) -> Result<(), Stop>
     ensures { Ends result (settled None (demand codes.TypeMismatch (place_of_span span) (is_left_out scope.now.result) ∷ [])) }
 {
@@ -76,8 +74,7 @@ pub fn returned(
     Ok(Some(converted(value, of_type)))
 }
 
-/// Checks that the contents of two lvalues may be swapped; the first lvalue begins at this source
-/// position.
+/// Checks that the contents of two lvalues may be swapped; the first lvalue begins at this source position.
 fn swap_wanted(left: &Found, right: &Found, span: Span) -> Result<(), Stop>
     ensures { Ends result (settled None (demand codes.TypeMismatch (place_of_span span)
         (ty_eq (type_of_side (typed_view.view_side left.now.side)) (type_of_side (typed_view.view_side right.now.side))
@@ -108,8 +105,7 @@ fn swap_of(
     boxed(alloc, typed::Stmt::Swap { span, left, right })
 }
 
-/// Returns the checked swap of the contents of two lvalues; the first lvalue begins at this source
-/// position.
+/// Returns the checked swap of the contents of two lvalues; the first lvalue begins at this source position.
 pub fn swapped(
     alloc: Global,
     span: Span,
@@ -147,8 +143,7 @@ fn thrown_wanted(
     settled.end()
 }
 
-/// Returns the node that throws the exception with this name at this source position, with the
-/// given value.
+/// Returns the node that throws the exception with this name at this source position, with the given value.
 pub fn thrown(
     scope: &Scope<'_>,
     span: Span,
@@ -166,8 +161,7 @@ pub fn thrown(
     throw_of(scope.alloc(), span, known.number, value)
 }
 
-/// Returns the number of the exception of a `catch` clause with or without an int; the exceptions of the
-/// earlier clauses are in `before`.
+/// Returns the number of the exception of a `catch` clause with or without an int; the exceptions of the earlier clauses are in `before`.
 pub fn caught(
     scope: &Scope<'_>,
     before: &NameSet,

@@ -47,8 +47,7 @@ pub fn is_region_new(scope: &Scope<'_>, name: Ident) -> Result<(), Stop>
     settled.end()
 }
 
-/// Checks that the name of a region is new in its function, and that the name of a local is new in
-/// its block.
+/// Checks that the name of a region is new in its function, and that the name of a local is new in its block.
 fn are_new(scope: &Scope<'_>, region: Ident, local: Ident) -> Result<(), Stop>
     ensures { Ends result (settled None (new_name_demanded scope.now (view_name region) ∷ new_demanded scope.now (view_name local) ∷ [])) }
 {
@@ -76,8 +75,7 @@ fn is_local_new(scope: &Scope<'_>, name: Ident) -> Result<(), Stop>
     settled.end()
 }
 
-/// Checks that the name of a local is new, and that its initial value, which is at this source position, can be converted to
-/// its type.
+/// Checks that the name of a local is new, and that its initial value, which is at this source position, can be converted to its type.
 fn is_initialised(
     scope: &Scope<'_>,
     name: Ident,
@@ -131,8 +129,7 @@ fn is_opened(
 
 // ---- locals
 
-/// Returns the region that the type of a local with this initial value gets if the type names no
-/// region.
+/// Returns the region that the type of a local with this initial value gets if the type names no region.
 fn left_out_of(value: Given<'_>) -> Region
     ensures { result ≡ left_out_of (view_given value.entry) }
 {
@@ -359,8 +356,7 @@ fn opened(scope: &Scope<'_>, region: Ident, handle: Ident, key: Ident) -> Result
     }
 }
 
-/// Returns the typed item that opens the dynamic region of a key, and adds the region's handle to
-/// the scope.
+/// Returns the typed item that opens the dynamic region of a key, and adds the region's handle to the scope.
 pub fn open_dynamic(
     scope: &mut Scope<'_>,
     region: Ident,
@@ -391,8 +387,7 @@ fn is_local(variable: Lvalue) -> bool
     }
 }
 
-/// Returns true if this is the type of the alias of a unique pointer, with the region `own` as the region of the
-/// alias.
+/// Returns true if this is the type of the alias of a unique pointer, with the region `own` as the region of the alias.
 fn is_alias_type(written: &Ty, of_type: &Ty, own: Region) -> bool
     ensures { result ≡ tests.ty_eq (view_ty written.now) (with_region_of own (view_ty of_type.now)) }
 {
@@ -432,8 +427,7 @@ fn is_aliased(
     settled.end()
 }
 
-/// Returns the written type of an alias of a variable of this type; an omitted region becomes the
-/// region of the alias.
+/// Returns the written type of an alias of a variable of this type; an omitted region becomes the region of the alias.
 fn alias_type(scope: &Scope<'_>, written: &WrittenType, of_type: &Ty) -> Result<Ty, AllocError>
     ensures { IfOk result (λ t. view_ty t ≡ formation.type_written scope.now.structs scope.now.names (tests.region_of (view_ty of_type.now))
         (view_type written.now)) }
@@ -447,8 +441,7 @@ fn alias_type(scope: &Scope<'_>, written: &WrittenType, of_type: &Ty) -> Result<
     )
 }
 
-/// Returns the alias of the variable with this name; the region of the alias is already in scope and has
-/// the number `own`.
+/// Returns the alias of the variable with this name; the region of the alias is already in scope and has the number `own`.
 fn aliased(
     scope: &Scope<'_>,
     own: usize,

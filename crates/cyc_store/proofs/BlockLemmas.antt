@@ -1,5 +1,4 @@
--- This file is about allocated and freed blocks: an allocated block is live as requested, and a freed or
--- closed block is not live.
+-- This file is about allocated and freed blocks: an allocated block is live as requested, and a freed or closed block is not live.
 use Rattle.std.proofs.Common.{◌≡◌, ℕ, ◌∷◌, Option, None, Some, true, refl, sym, ap, subst, ◌∙◌, inl, inr}
 use Rattle.std.specs.Prelude.{is_some, if◌then◌else◌}
 use Rattle.std.proofs.lemmas.Bool.{cases_eq}

@@ -1,5 +1,4 @@
--- A store with a layout in pages has a choice for each call that is not refused, after which the store has a layout
--- again.
+-- A store with a layout in pages has a choice for each call that is not refused, after which the store has a layout again.
 use Rattle.std.proofs.Common.{◌≡◌, ℕ, zero, suc, ◌+◌, ◌*◌, ◌^◌, ◌<◌, ◌≤◌, Bool, true, false, List, [], ◌∷◌, length, Option, None, Some, refl, sym, ap, subst, ◌∙◌, inl, inr, arith}
 use Rattle.std.specs.Prelude.{◌⊎◌, ◌-◌, nat_le, is_some, slice_index, if◌then◌else◌}
 use Rattle.std.proofs.lemmas.Bool.{cases_lt, cases_eq, and_parts, leb-true}

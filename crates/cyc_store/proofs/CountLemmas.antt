@@ -1,5 +1,4 @@
--- This file is about counts of blocks, the pages of classes, and the number of pages that a store
--- needs.
+-- This file is about counts of blocks, the pages of classes, and the number of pages that a store needs.
 use Rattle.std.proofs.Common.{◌≡◌, ℕ, zero, suc, ◌+◌, ◌-◌, ◌*◌, ◌/◌, ◌^◌, ◌<◌, ◌≤◌, max, List, [], ◌∷◌, ◌++◌, length, refl, sym, ap, subst, ◌∙◌, inl, inr, arith, get_or-set_same, get_or-set_other, length-set, zero-add}
 use Rattle.std.specs.Prelude.{nat_le, slice_index}
 use Rattle.std.proofs.Math.Nat.{div-mul-le_self, pow-le-pow_right, le-max_left, le-max_right}

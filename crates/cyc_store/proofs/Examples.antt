@@ -26,8 +26,7 @@ abbrev filled : StoreState
 filled =
     then_do (then_do (then_do (then_do open_one (Allocate 3 1000) 0 (at 1 0)) (Allocate 3 24) 0 (at 1 1000)) (Allocate 3 1) 0 (at 2 0)) (Allocate 3 1000) 0 (at 2 1)
 
--- The heap and the new region need one page each, then the region needs two pages, and then no
--- more.
+-- The heap and the new region need one page each, then the region needs two pages, and then no more.
 demand_of_new : demand new ≡ 1
 demand_of_new = refl
 

@@ -213,8 +213,7 @@ module _ (t : PageTable) (lexicals : List ℕ) (classes : List ClassSlots) (b : 
             reach : (p m o : ℕ) → p < m → m ≤ o → p < o
             reach p m o less more = omega (arith, less, more)
 
-        -- After a page is taken, the rows of the new page and of the region's first page are
-        -- written.
+        -- After a page is taken, the rows of the new page and of the region's first page are written.
         pub draws-kept : (c : Blocks) → c ≡ blocks_of (made_in (plain_store b) h (new_block page)) → (v : PageTable) → v.most ≡ u.most → v.words.items ≡ u.words.items
             → v.live.items ≡ u.live.items → v.free ≡ u.free
             → v.rows.items ≡ set (set u.rows.items page (next_row n rooted.chain.newest.page)) root (longer_row (row_at (set u.rows.items page (next_row n rooted.chain.newest.page)) root) page)

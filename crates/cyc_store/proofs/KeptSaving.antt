@@ -1,5 +1,4 @@
--- Writing a word of a live block preserves the invariant of a store on a table of pages: the links of dead slots are in
--- other words.
+-- Writing a word of a live block preserves the invariant of a store on a table of pages: the links of dead slots are in other words.
 use Rattle.std.proofs.Common.{◌≡◌, ℕ, ◌+◌, ◌*◌, ◌^◌, ◌<◌, true, false, List, [], ◌∷◌, length, None, refl, sym, ap, subst, ◌∙◌, length-set}
 use Rattle.std.specs.Prelude.{◌==◌, if◌then◌else◌, is_some, slice_index, slice_index_or, set}
 use Rattle.std.specs.List.{AllByRecursion}

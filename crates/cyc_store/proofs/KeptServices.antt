@@ -1,5 +1,4 @@
--- Each call preserves the invariant of a store on a table of pages, and yields an answer that the
--- store relation allows.
+-- Each call preserves the invariant of a store on a table of pages, and yields an answer that the store relation allows.
 use Rattle.std.proofs.Common.{◌≡◌, ◌≢◌, ℕ, suc, ◌+◌, ◌-◌, ◌*◌, ◌/◌, ◌%◌, ◌^◌, ◌<◌, ◌≤◌, Bool, true, false, List, [], ◌∷◌, ◌++◌, length, None, refl, sym, ap, subst, ◌∙◌, inl, inr, arith, get_or-set_same, get_or-set_other, length-set}
 use Rattle.std.specs.Prelude.{◌==◌, ◌⊎◌, ◌&&◌, nat_le, if◌then◌else◌, slice_index, slice_index_or, set}
 use Rattle.std.specs.List.{AllByRecursion}
@@ -161,8 +160,7 @@ module _ (t : PageTable) (lexicals : List ℕ) (classes : List ClassSlots) (b : 
           less : (n m : ℕ) → (m ≤ n → ⊥) → n < m
           less n m not = elim (cases_lt n m) [ inl is ↦ is | inr over ↦ absurd (not over) ]
 
-  -- If no used page is free, then the words of the table are exactly those of the pages that the
-  -- store needs.
+  -- If no used page is free, then the words of the table are exactly those of the pages that the store needs.
   pub kept-used : length t.rows.items ≤ t.free → length t.words.items ≡ PAGE_WORDS * demand s
   kept-used past = k.whole.words ∙ ap (λ n. PAGE_WORDS * n) (counted (length t.rows.items) t.most (length k.layout.free) (demand s) k.tied.few fresh k.laid.paged.count)
     where

@@ -1,5 +1,4 @@
--- Cutting a page into slots, and allocating a unique block in a slot, preserve the invariant of a store on a table of
--- pages.
+-- Cutting a page into slots, and allocating a unique block in a slot, preserve the invariant of a store on a table of pages.
 use Rattle.std.proofs.Common.{◌≡◌, ℕ, zero, suc, ◌+◌, ◌-◌, ◌*◌, ◌/◌, ◌^◌, ◌<◌, ◌≤◌, true, false, List, [], ◌∷◌, ◌++◌, length, refl, sym, ap, subst, ◌∙◌, inl, inr, arith, length-set}
 use Rattle.std.specs.Prelude.{is_some, slice_index, slice_index_or, set}
 use Rattle.std.specs.List.{AllByRecursion}
@@ -31,8 +30,7 @@ use Rattle.cyc_store.proofs.KeptServices.{held-same, Rewrites, rewritten-table, 
 
 -- ---- the first dead slot
 
--- The first dead slot of a class is a slot of the class, and the remaining dead slots are represented after
--- it is removed.
+-- The first dead slot of a class is a slot of the class, and the remaining dead slots are represented after it is removed.
 pub record IsFirst (word : ℕ → ℕ) (class : ℕ) (dead : List ℕ) (next : ℕ × ClassSlots) : Type 0 where
   pub rest : List ℕ
   pub first : dead ≡ next.0 ∷ rest
@@ -144,8 +142,7 @@ module _ (t : PageTable) (lexicals : List ℕ) (classes : List ClassSlots) (b : 
         stock = record { chain = chain; all = refl; linked = subst (λ n. IsChain (table_of t).word (slice_index t.words.items n) chain) (sym linked.0) linked.1 };
       }
 
-  -- If no dead slot has contained a block before, then the dead slots are those that were never
-  -- used.
+  -- If no dead slot has contained a block before, then the dead slots are those that were never used.
   fresh-dead : slots.dead ≡ NONE → dead ≡ slots_from (2 ^ class) slots.fresh slots.left
   fresh-dead none = by stock-is.chain stock-is.all stock-is.linked
     where

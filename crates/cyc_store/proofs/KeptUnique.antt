@@ -102,8 +102,7 @@ module _ (t : PageTable) (lexicals : List ℕ) (classes : List ClassSlots) (b : 
         few : (d p e : ℕ) → d < p → e ≡ suc d → e ≤ p
         few d p e less next = omega (arith, less, next)
 
-    -- If cutting a page into slots fails, then the request for a block is refused for the reason of
-    -- that failure.
+    -- If cutting a page into slots fails, then the request for a block is refused for the reason of that failure.
     pub unique-refused : (why : No) (u : StoreState) → (why ≡ no.Full) ⊎ (why ≡ no.Memory) → (why ≡ no.Full → IsSpent s) → (why ≡ no.Memory → demand s < t.most) → u ≡ s
         → Responds true s (Allocate UNIQUE n) (refused why) u
     unique-refused why u (inl full) spent wants same = subst (λ w. Responds true s (Allocate UNIQUE n) (refused w) u) (sym full)

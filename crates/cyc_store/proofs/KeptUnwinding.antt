@@ -26,8 +26,7 @@ pub step-by : (m : ℕ) (r : Home) (rs : List Home) → is_lexical r.sort ≡ fa
 step-by zero r rs not = cond-false (is_lexical r.sort) (down_to zero rs) (r ∷ down_to zero rs) not
 step-by (suc m) r rs not = cond-false (is_lexical r.sort) (r ∷ down_to m rs) (r ∷ down_to (suc m) rs) not
 
--- Closing until n regions stay open, and then until fewer stay open, equals closing to the lower
--- number at once.
+-- Closing until n regions stay open, and then until fewer stay open, equals closing to the lower number at once.
 pub down_to-lower : (m n : ℕ) (rs : List Home) → m ≤ n → down_to m (down_to n rs) ≡ down_to m rs
 down_to-lower zero zero [] few = refl
 down_to-lower zero (suc n) [] few = refl
@@ -58,8 +57,7 @@ down_to-all m (r ∷ rs) few = by m few (cases_Bool (is_lexical r.sort)) (λ k a
 
 -- ---- the newest lexical region
 
--- The last handle of the list names the newest lexical region; closing this region is closing until
--- one region less is open.
+-- The last handle of the list names the newest lexical region; closing this region is closing until one region less is open.
 record IsNewest (rs : List Home) (older : List ℕ) (h : ℕ) : Type 0 where
   pub region : Home
   pub named : lookup handle_of rs h ≡ Some region
@@ -82,8 +80,7 @@ newest-is [] left h distinct is = absurd (empty left is)
     empty (x ∷ xs) e = cc
 newest-is (r ∷ rs) left h distinct is = by left is (cases_Bool (is_lexical r.sort)) (λ xs e. newest-is rs xs h distinct.1 e)
   where
-    -- If a further lexical region follows, then the last handle does not name the newest lexical
-    -- region.
+    -- If a further lexical region follows, then the last handle does not name the newest lexical region.
     following : (xs : List ℕ) → IsNewest rs xs h → (r.handle ≡ h → ⊥)
     following xs rest e = never_none_and_some (subst (λ n. lookup handle_of rs n ≡ None) e distinct.0) rest.named
 

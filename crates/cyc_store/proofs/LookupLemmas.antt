@@ -1,5 +1,4 @@
--- This file is about lists that are indexed by key: lookups after an element is appended, changed
--- or removed.
+-- This file is about lists that are indexed by key: lookups after an element is appended, changed or removed.
 use Rattle.std.proofs.Common.{◌≡◌, ℕ, List, [], ◌∷◌, ◌++◌, None, Some, refl, sym, ap, subst, ◌∙◌, inl, inr}
 use Rattle.std.specs.Prelude.{◌==◌, ◌⊎◌, if◌then◌else◌}
 use Rattle.std.proofs.lemmas.Bool.{cases_eq, cond-false, ne_eqb}
@@ -25,8 +24,7 @@ module _ {A : Type 0} (key : A → ℕ) where
   pub lookup-there : (x : A) (xs : List A) (n : ℕ) → (key x ≡ n → ⊥) → lookup key (x ∷ xs) n ≡ lookup key xs n
   lookup-there x xs n other = when_other (key x) n (Some x) (lookup key xs n) other
 
-  -- If a key is not found in a list, then it is not the key of the first element, and it is not
-  -- found in the remaining elements.
+  -- If a key is not found in a list, then it is not the key of the first element, and it is not found in the remaining elements.
   pub lookup-none : (x : A) (xs : List A) (n : ℕ) → lookup key (x ∷ xs) n ≡ None → (key x ≡ n → ⊥) × (lookup key xs n ≡ None)
   lookup-none x xs n none = (other, sym (lookup-there x xs n other) ∙ none)
     where

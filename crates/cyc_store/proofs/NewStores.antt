@@ -1,5 +1,4 @@
--- A new store satisfies the invariant: it contains 32-bit words, and it needs only the heap's first
--- page.
+-- A new store satisfies the invariant: it contains 32-bit words, and it needs only the heap's first page.
 use Rattle.std.proofs.Common.{◌≡◌, ℕ, sym, ap, subst}
 use Rattle.cyc_store.specs.State.{AreWords, StoreState, demand, IsNew}
 

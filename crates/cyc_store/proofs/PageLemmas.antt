@@ -1,5 +1,4 @@
--- Blocks that are laid out in pages are disjoint, and their pages are those that the page count of
--- the store includes.
+-- Blocks that are laid out in pages are disjoint, and their pages are those that the page count of the store includes.
 use Rattle.std.proofs.Common.{◌≡◌, ℕ, suc, ◌+◌, ◌*◌, ◌<◌, ◌≤◌, ◌%◌, Bool, true, false, List, [], ◌∷◌, ◌++◌, None, Some, refl, sym, ap, subst, ◌∙◌, inl, inr, arith}
 use Rattle.std.specs.Prelude.{nat_le, nat_lt, if◌then◌else◌}
 use Rattle.std.proofs.Math.Nat.{add-mul-mod_self_left}
@@ -181,8 +180,7 @@ laid-changed pages h (r ∷ rs) b laid new = elim (cases_eq r.handle h) [
       (laid.0, laid-changed pages h rs b laid.1 new)
 ]
 
--- Allocating a block past the fill mark of a page, and moving the mark past the block, preserves
--- the layout.
+-- Allocating a block past the fill mark of a page, and moving the mark past the block, preserves the layout.
 pub laid-made : (pages : Pages) (rs : List Home) (page h word size : ℕ) → pages.owner page ≡ Some h → pages.filled page ≤ word → 0 < size → AreLaid pages rs
     → AreLaid (filled_to pages page (word + size)) (changed handle_of (with_block (record { address = page_start page + 4 * word; size = size })) rs h)
 laid-made pages rs page h word size owned past some laid =

@@ -66,16 +66,14 @@ module _ (m : Mark) (size : ℕ) where
 -- ---- one block more
 
 module _ (s : StoreState) (pages : Pages) (free : List ℕ) (paged : IsPaged s pages free) (h : ℕ) (r : Home) (named : lookup handle_of s.regions h ≡ Some r) where
-  -- If the newest page of a region has room, then an allocation does not raise the number of pages
-  -- that the store needs.
+  -- If the newest page of a region has room, then an allocation does not raise the number of pages that the store needs.
   pub demand-stays : (b : Block) → (mark_of r).filled + b.size ≤ PAGE_WORDS → demand (made_in s h b) ≡ demand s
   demand-stays b room =
       balance_same (demand (made_in s h b)) (demand s) (region_pages (sizes_of r.blocks)) (region_pages (sizes_of r.blocks ++ b.size ∷ []))
       (demand-changed s.regions h r b s.classes named)
       (pages-next r b.size ∙ (ap (λ (m : Mark). m.pages) (mark-stays (mark_of r) b.size room) ∙ sym (pages-mark r)))
 
-  -- If the newest page of a region has no room, then an allocation raises the number of pages that
-  -- the store needs by one.
+  -- If the newest page of a region has no room, then an allocation raises the number of pages that the store needs by one.
   pub demand-grows : (b : Block) → PAGE_WORDS < (mark_of r).filled + b.size → demand (made_in s h b) ≡ suc (demand s)
   demand-grows b past =
       balance_one_more (demand (made_in s h b)) (demand s) (region_pages (sizes_of r.blocks)) (region_pages (sizes_of r.blocks ++ b.size ∷ []))
@@ -89,8 +87,7 @@ module _ (s : StoreState) (pages : Pages) (free : List ℕ) (paged : IsPaged s p
       beyond : (n d p e : ℕ) → n ≡ 0 → n + d ≡ p → e ≡ suc d → p < e
       beyond n d p e none count grows = omega (arith, none, count, grows)
 
-  -- A block that is allocated in the newest page of its region lies in the store's range and is
-  -- disjoint from all blocks.
+  -- A block that is allocated in the newest page of its region lies in the store's range and is disjoint from all blocks.
   pub stays-placed : (b : Block) (newest : HasNewest pages r) → b.address ≡ page_start newest.page + 4 * (mark_of r).filled
       → (mark_of r).filled + b.size ≤ PAGE_WORDS → 0 < b.size → IsPlaced s.pages b × IsApart (homes s) b
   stays-placed b newest at room some = (
@@ -110,8 +107,7 @@ module _ (s : StoreState) (pages : Pages) (free : List ℕ) (paged : IsPaged s p
         some = some;
       }
 
--- A block that is allocated at the start of a new page lies in the store's range and is disjoint
--- from all blocks.
+-- A block that is allocated at the start of a new page lies in the store's range and is disjoint from all blocks.
 pub drawn-placed : (s : StoreState) (pages : Pages) (page : ℕ) (free : List ℕ) → IsPaged s pages (page ∷ free) → (h : ℕ) (b : Block)
     → b.address ≡ page_start page → 0 < b.size → b.size ≤ PAGE_WORDS → IsPlaced s.pages b × IsApart (homes s) b
 drawn-placed s pages page free paged h b at some room = (

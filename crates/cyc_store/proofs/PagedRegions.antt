@@ -61,8 +61,7 @@ chain-filled pages page words h q owned other chain = record {
   many = chain.many;
 }
 
--- The page chains of all regions are preserved when a page's fill mark moves and its region gets
--- one more block.
+-- The page chains of all regions are preserved when a page's fill mark moves and its region gets one more block.
 chains-made : (pages : Pages) (rs : List Home) (h page words : ℕ) (r : Home) (b : Block) → lookup handle_of rs h ≡ Some r
     → pages.owner page ≡ Some h → HasChain (filled_to pages page words) (with_block b r)
     → ((g : ℕ) (q : Home) → (g ≡ h → ⊥) → lookup handle_of rs g ≡ Some q → HasChain pages q)

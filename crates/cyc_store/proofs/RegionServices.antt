@@ -1,5 +1,4 @@
--- Opening a region, allocating a block in a region, and closing a region preserve the layout of a
--- store.
+-- Opening a region, allocating a block in a region, and closing a region preserve the layout of a store.
 use Rattle.std.proofs.Common.{◌≡◌, ◌≢◌, ℕ, ◌+◌, ◌*◌, ◌<◌, ◌≤◌, true, List, [], ◌∷◌, ◌++◌, length, Option, None, Some, refl, sym, ap, subst, ◌∙◌, inl, inr, arith}
 use Rattle.std.specs.Prelude.{◌⊎◌}
 use Rattle.std.specs.List.{AllByRecursion}

@@ -1,5 +1,4 @@
--- This file is about the result of each call: a sound store stays sound for every choice of the
--- store.
+-- This file is about the result of each call: a sound store stays sound for every choice of the store.
 use Rattle.std.proofs.Common.{◌≡◌, ℕ, suc, ◌+◌, ◌-◌, ◌*◌, ◌/◌, ◌<◌, ◌≤◌, ◌%◌, max, Bool, true, false, List, [], ◌∷◌, ◌++◌, length, Option, None, Some, refl, sym, ap, subst, ◌∙◌, inl, inr, arith}
 use Rattle.std.specs.Prelude.{◌==◌, ◌⊎◌, nat_le, is_some, if◌then◌else◌, slice_index}
 use Rattle.std.proofs.Math.Nat.{add-mul-mod_self_left, div-eq_of_lt-le, max-eq_left}
@@ -242,8 +241,7 @@ not-refused s (CloseDynamic h) c why e = cc
 not-refused s (Allocate h n) c why e = cc
 not-refused s (Free f) c why e = cc
 
--- If a call is refused, then the refusal is the one that the rules determine, and the store is
--- unchanged.
+-- If a call is refused, then the refusal is the one that the rules determine, and the store is unchanged.
 pub refused-exact : (s t : StoreState) (call : Call) (why : Refusal) → Serves s call (Refused why) t → (refusal s call ≡ Some why) × (t ≡ s)
 refused-exact s t call why serves = by (refusal s call) serves
   where
@@ -301,8 +299,7 @@ serves-classes s t call a c sound serves = by (refusal s call) serves
     by None (choice, _, _, is) = subst (λ (u : StoreState). slice_index s.classes c ≤ slice_index u.classes c) (sym is) (served-classes s call choice c sound.classes)
     by (Some why) (_, is) = subst (λ (u : StoreState). slice_index s.classes c ≤ slice_index u.classes c) (sym is) (at_most_itself (slice_index s.classes c))
 
--- A call leaves the pages of a class unchanged, or raises them to the number that its live blocks
--- need.
+-- A call leaves the pages of a class unchanged, or raises them to the number that its live blocks need.
 made-greatest : (s : StoreState) (h : ℕ) (b : Block) (c : ℕ) → length s.classes ≡ 11
     → (slice_index (made s h b).classes c ≡ slice_index s.classes c)
     ⊎ (slice_index (made s h b).classes c ≡ max (slice_index s.classes c) (pages_for c (live_in c (made s h b).unique)))

@@ -1,5 +1,4 @@
--- This file computes the pages that a class of unique blocks needs, by counting the slots of the
--- class.
+-- This file computes the pages that a class of unique blocks needs, by counting the slots of the class.
 use Rattle.std.proofs.Common.{◌≡◌, ℕ, zero, suc, ◌+◌, ◌-◌, ◌*◌, ◌/◌, ◌^◌, ◌<◌, ◌≤◌, max, List, [], ◌∷◌, length, None, Some, refl, sym, ap, subst, ◌∙◌, inl, inr, arith}
 use Rattle.std.specs.Prelude.{slice_index, set}
 use Rattle.std.proofs.Math.Nat.{mul-le-mul_right, suc-mul, div-mul-le_self, mul-div_cancel, max-eq_left, max-eq_right}
@@ -27,8 +26,7 @@ class-power (suc (suc (suc (suc (suc (suc (suc (suc (suc zero))))))))) bound = r
 class-power (suc (suc (suc (suc (suc (suc (suc (suc (suc (suc zero)))))))))) bound = refl
 class-power (suc (suc (suc (suc (suc (suc (suc (suc (suc (suc (suc class))))))))))) bound = absurd (omega (arith, bound))
 
--- If n blocks of a class fit into a number of pages, then the class needs at most this number of
--- pages.
+-- If n blocks of a class fit into a number of pages, then the class needs at most this number of pages.
 pub pages-within : (class n pages : ℕ) → class ≤ greatest_class → n ≤ pages * blocks_in_page class → pages_for class n ≤ pages
 pages-within class n pages bound few = below (blocks_in_page class) (blocks-some class bound) few
   where

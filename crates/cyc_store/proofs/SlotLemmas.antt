@@ -1,5 +1,4 @@
--- This file proves that slots of unique blocks are disjoint, and determines the live words of a
--- store with a layout.
+-- This file proves that slots of unique blocks are disjoint, and determines the live words of a store with a layout.
 use Rattle.std.proofs.Common.{◌≡◌, ℕ, ◌+◌, ◌*◌, ◌^◌, ◌<◌, ◌≤◌, true, List, [], ◌∷◌, Option, None, Some, refl, sym, ap, subst, ◌∙◌, inl, inr, arith}
 use Rattle.std.proofs.lemmas.Bool.{cases_Bool}
 use Rattle.std.proofs.lemmas.Nat.{pow_pos}

@@ -1,5 +1,4 @@
--- Allocating a unique block in an empty slot, and freeing a unique block, preserve the layout of a
--- store.
+-- Allocating a unique block in an empty slot, and freeing a unique block, preserve the layout of a store.
 use Rattle.std.proofs.Common.{◌≡◌, ◌≢◌, ℕ, suc, ◌+◌, ◌*◌, ◌^◌, ◌<◌, ◌≤◌, true, List, [], ◌∷◌, ◌++◌, length, Option, Some, refl, sym, ap, subst, ◌∙◌, inl, inr, arith}
 use Rattle.std.specs.Prelude.{◌==◌, if◌then◌else◌}
 use Rattle.std.specs.List.{AllByRecursion}
@@ -62,8 +61,7 @@ classes-apart owner class_at c d w one other = (slots-one owner class_at c d w w
 
 -- ---- page invariants under a change of the unique blocks
 
--- If the regions, the pages and the number of needed pages are unchanged, then the layout in pages
--- is preserved.
+-- If the regions, the pages and the number of needed pages are unchanged, then the layout in pages is preserved.
 pub paged-unique : (s : StoreState) (pages : Pages) (free : List ℕ) (unique : List Block) (classes : List ℕ) (memory : Memory) → IsPaged s pages free
     → AreLaidIn pages UNIQUE unique → demand_of (sizes_in s.regions) classes ≡ demand s
     → IsPaged (record s { unique = unique; classes = classes; memory = memory }) pages free

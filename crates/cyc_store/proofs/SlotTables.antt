@@ -1,5 +1,4 @@
--- This file is about a table of pages after the live marks of a slot are written, and words
--- together with them.
+-- This file is about a table of pages after the live marks of a slot are written, and words together with them.
 use Rattle.std.proofs.Common.{◌≡◌, ℕ, ◌+◌, ◌*◌, ◌/◌, ◌%◌, ◌^◌, ◌<◌, ◌≤◌, Bool, false, List, length, Option, sym, ap, subst, ◌∙◌, inl, inr, arith, get_or-set_same, get_or-set_other}
 use Rattle.std.specs.Prelude.{◌==◌, if◌then◌else◌, slice_index, slice_index_or, set}
 use Rattle.std.specs.List.{AllByRecursion}
@@ -43,8 +42,7 @@ pub marked-table : (t v : PageTable) (first count : ℕ) (mark : Bool) (words : 
 marked-table t v first count mark words most_is words_is live_is free_is rows_is =
     read-table t v words (with_marks (table_of t) first count mark).live most_is words_is (fun_ext live_is) free_is rows_is
 
--- If the words of the dead slots of a class are unchanged, then the representation of the class's
--- slots is unchanged.
+-- If the words of the dead slots of a class are unchanged, then the representation of the class's slots is unchanged.
 pub stock-words : (word also : ℕ → ℕ) (slots : ClassSlots) (class : ℕ) (dead : List ℕ) → AllByRecursion (λ x. also x ≡ word x) dead → IsStocked word slots class dead
     → IsStocked also slots class dead
 stock-words word also slots class dead same old = record {

@@ -1,5 +1,4 @@
--- Filling a slot, freeing a unique block, and cutting a taken page into slots preserve the table's
--- layout.
+-- Filling a slot, freeing a unique block, and cutting a taken page into slots preserve the table's layout.
 use Rattle.std.proofs.Common.{◌≡◌, ◌≢◌, ℕ, ◌+◌, ◌*◌, ◌/◌, ◌^◌, ◌<◌, ◌≤◌, Bool, List, [], None, Some, refl, sym, ap, subst, ◌∙◌, inl, inr, arith}
 use Rattle.std.specs.Prelude.{◌==◌, ◌⊎◌, if◌then◌else◌, is_some}
 use Rattle.std.specs.List.{AllByRecursion}
@@ -53,8 +52,7 @@ module _ (t : Table) (lexicals : List ℕ) (classes : ℕ → ClassSlots) (b : B
   abbrev after_marks : Table
   after_marks = record (with_marks t word (2 ^ class) mark) { word = words }
 
-  -- A word of the slot lies in the slot's page, and the slot that contains it begins at the slot's
-  -- first word.
+  -- A word of the slot lies in the slot's page, and the slot that contains it begins at the slot's first word.
   slot-page : (p n : ℕ) → n < 1024 → word ≤ PAGE_WORDS * p + n → PAGE_WORDS * p + n < word + 2 ^ class → p ≡ slot.page
   slot-page p n few low high = one p slot.page n (slot.number * 2 ^ class) (2 ^ class) word slot.at slot.fits few low high
     where

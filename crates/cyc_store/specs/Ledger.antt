@@ -6,8 +6,7 @@ use Rattle.cyc_store.specs.declared.change.Change.{Change}
 use Rattle.cyc_store.specs.declared.change.Change.TheVariants.{OpenedLexical, OpenedDynamic, Closed, Made, Stocked, MadeUnique, Freed}
 use Rattle.cyc_store.specs.declared.range.TheConstants.{STORE_BASE, PAGE_WORDS}
 
--- The blocks of a store: the open regions, the live unique blocks, and the number of pages of each
--- size class.
+-- The blocks of a store: the open regions, the live unique blocks, and the number of pages of each size class.
 pub record Blocks : Type 0 where
   pub regions : List Home
   pub unique : List Block
@@ -52,8 +51,7 @@ pub record Stored : Type 0 where
 abbrev pub held_of : Stored → StoreState
 held_of s = store_of s.pages s.words s.blocks
 
--- Says that every used page is owned by a region or class, so the array grows before another page
--- is taken.
+-- Says that every used page is owned by a region or class, so the array grows before another page is taken.
 abbrev pub IsUsedUp : Stored → Type 0
 IsUsedUp s = length s.words ≡ PAGE_WORDS * demand (held_of s)
 

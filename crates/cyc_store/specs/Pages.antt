@@ -69,8 +69,7 @@ pub record Mark : Type 0 where
   pub pages : ℕ
   pub filled : ℕ
 
--- The fill mark of a region, that is, its pages and the filled words of the last page, after a
--- further block is allocated.
+-- The fill mark of a region, that is, its pages and the filled words of the last page, after a further block is allocated.
 abbrev pub next_mark : Mark → (size : ℕ) → Mark
 next_mark m size =
     if nat_le (m.filled + size) PAGE_WORDS then record { pages = m.pages; filled = m.filled + size }
@@ -80,13 +79,11 @@ abbrev pub mark_from : Mark → List ℕ → Mark
 mark_from m [] = m
 mark_from m (size ∷ sizes) = mark_from (next_mark m size) sizes
 
--- The fill mark of a region: the number of its pages and the number of filled words of its last
--- page.
+-- The fill mark of a region: the number of its pages and the number of filled words of its last page.
 abbrev pub mark_of : Home → Mark
 mark_of r = mark_from (record { pages = 1; filled = 0 }) (sizes_of r.blocks)
 
--- The newest page of a region, which the region owns and which is filled as the region's blocks
--- require.
+-- The newest page of a region, which the region owns and which is filled as the region's blocks require.
 pub record HasNewest (pages : Pages) (r : Home) : Type 0 where
   pub page : ℕ
   pub owned : pages.owner page ≡ Some r.handle
@@ -105,8 +102,7 @@ pub record IsFree (count : ℕ) (pages : Pages) (page : ℕ) : Type 0 where
   pub owner : pages.owner page ≡ None
   pub below : page < count
 
--- Says that the blocks of a store have a layout in pages, and that the free pages are those that the store
--- does not need.
+-- Says that the blocks of a store have a layout in pages, and that the free pages are those that the store does not need.
 pub record IsPaged (s : StoreState) (pages : Pages) (free : List ℕ) : Type 0 where
   pub laid : AreLaid pages (homes s)
   pub filled : AreFilled pages

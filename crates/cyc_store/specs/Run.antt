@@ -1,5 +1,4 @@
--- This file defines lists of calls to a store, in order. The form of lists of calls is this
--- project's own choice.
+-- This file defines lists of calls to a store, in order. The form of lists of calls is this project's own choice.
 use Rattle.std.specs.Prelude.{◌≡◌, ℕ, Bool, List, [], ◌∷◌, Option, is_some}
 use Rattle.cyc_words.specs.Word.{IsWord}
 use Rattle.cyc_store.specs.State.{StoreState, word_at, saved}

@@ -65,8 +65,7 @@ answer s (Free address) c = Done
 
 -- ---- refusals
 
--- The number of pages that a store needs depends only on sizes, so the choice of a store does not
--- decide if the store is full.
+-- The number of pages that a store needs depends only on sizes, so the choice of a store does not decide if the store is full.
 abbrev pub any_choice : StoreState → Choice
 any_choice s = record { handle = 0; address = 0; memory = s.memory }
 

@@ -50,8 +50,7 @@ pub record Block : Type 0 where
 abbrev pub address_of : Block → ℕ
 address_of b = b.address
 
--- The sort of a region: the heap, a lexical region, a dynamic region, or the region of the unique
--- blocks.
+-- The sort of a region: the heap, a lexical region, a dynamic region, or the region of the unique blocks.
 pub data Sort : Type 0 where
   Heap : Sort
   Lexical : Sort
@@ -71,15 +70,13 @@ handle_of r = r.handle
 abbrev pub empty_home : (handle : ℕ) → Sort → Home
 empty_home handle sort = record { handle = handle; sort = sort; blocks = [] }
 
--- The content of a store. A store lists its open regions, and the lexical regions among them, in the order
--- of their opening.
+-- The content of a store. A store lists its open regions, and the lexical regions among them, in the order of their opening.
 pub record StoreState : Type 0 where
   pub pages : ℕ
   pub regions : List Home
   -- the live unique blocks
   pub unique : List Block
-  -- For each class of unique blocks, the number of pages that its largest number of live blocks so
-  -- far needs.
+  -- For each class of unique blocks, the number of pages that its largest number of live blocks so far needs.
   pub classes : List ℕ
   pub memory : Memory
 
@@ -87,8 +84,7 @@ pub record StoreState : Type 0 where
 abbrev pub homes : StoreState → List Home
 homes s = record { handle = UNIQUE; sort = Uniques; blocks = s.unique } ∷ s.regions
 
--- A new store, which contains only the empty heap; the size classes are those of 1, 2, 4 and so on up to 1,024
--- words.
+-- A new store, which contains only the empty heap; the size classes are those of 1, 2, 4 and so on up to 1,024 words.
 abbrev pub start : (pages : ℕ) → Memory → StoreState
 start pages memory = record {
   pages = pages;
@@ -184,8 +180,7 @@ abbrev pub lexical_count : List Home → ℕ
 lexical_count [] = 0
 lexical_count (r ∷ rs) = if is_lexical r.sort then suc (lexical_count rs) else lexical_count rs
 
--- The regions after lexical regions are closed: the oldest `mark` lexical regions stay open, and so do all
--- regions that are not lexical.
+-- The regions after lexical regions are closed: the oldest `mark` lexical regions stay open, and so do all regions that are not lexical.
 abbrev pub down_to : (mark : ℕ) → List Home → List Home
 down_to mark [] = []
 down_to zero (r ∷ rs) = if is_lexical r.sort then down_to zero rs else r ∷ down_to zero rs

@@ -27,8 +27,7 @@ pub record IsSame (old new : PageTable) : Type 0 where
   pub rows : new.rows.items ≡ old.rows.items
   pub free : new.free ≡ old.free
 
--- Says that a page is taken: the first free page, or else a new page after all others. Pages after the last one read as if
--- they existed.
+-- Says that a page is taken: the first free page, or else a new page after all others. Pages after the last one read as if they existed.
 pub record Draws (old new : PageTable) (page : ℕ) : Type 0 where
   pub most : new.most ≡ old.most
   pub whole : IsWhole new

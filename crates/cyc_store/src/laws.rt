@@ -63,8 +63,7 @@ pub fn classes_never_fall()
         → slice_index t.classes class ≡ max (slice_index s.classes class) (pages_for class (live_in class t.unique)) }
 {}
 
-/// A word that is written is read back, and every other word stays. A call preserves every word that is live both before and after
-/// it.
+/// A word that is written is read back, and every other word stays. A call preserves every word that is live both before and after it.
 pub fn words_hold()
     ensures same { (s : StoreState) (address word old : ℕ) → word_at s address ≡ Some old → word_at (saved s address word) address ≡ Some word }
     ensures other { (s : StoreState) (address word other : ℕ) → other ≢ address → word_at (saved s address word) other ≡ word_at s other }
@@ -72,16 +71,14 @@ pub fn words_hold()
         → holder (homes s) address ≡ Some h → holder (homes t) address ≡ Some h → word_at t address ≡ word_at s address }
 {}
 
-/// A unique block has the size of its class, which is at least the requested size; any other block has exactly
-/// the requested size.
+/// A unique block has the size of its class, which is at least the requested size; any other block has exactly the requested size.
 pub fn blocks_have_room()
     ensures unique { (words : ℕ) → room UNIQUE words ≡ 2 ^ class_of words }
     ensures enough { (words : ℕ) → words ≤ page_words → words ≤ 2 ^ class_of words }
     ensures asked { (handle words : ℕ) → handle ≢ UNIQUE → room handle words ≡ words }
 {}
 
-/// The pages of a region are filled in order; a block that does not fit in the rest of the last page begins the next
-/// page.
+/// The pages of a region are filled in order; a block that does not fit in the rest of the last page begins the next page.
 pub fn pages_are_filled()
     ensures page { PAGE_WORDS ≡ page_words }
     ensures empty { region_pages [] ≡ 1 }

@@ -14,8 +14,7 @@ pub fn size_of(class: u32) -> u32
     1 << class
 }
 
-/// Returns the class of a block with this many words: the exponent of the least power of two that
-/// is at least as large.
+/// Returns the class of a block with this many words: the exponent of the least power of two that is at least as large.
 pub fn class_of(words: u32) -> u32
     requires { words ≤ 1024 }
     ensures { result ≡ class_of words }

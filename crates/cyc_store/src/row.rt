@@ -16,8 +16,7 @@ pub enum Role {
     Lexical,
     /// The first page of a dynamic region.
     Dynamic,
-    /// The page is cut into slots for unique blocks of one class, which is the exponent of their
-    /// number of words.
+    /// The page is cut into slots for unique blocks of one class, which is the exponent of their number of words.
     Slots(u32),
 }
 
@@ -27,8 +26,7 @@ pub struct Row {
     pub role: Role,
     /// For a page of a region, the number of its filled words.
     pub filled: u32,
-    /// The next page in the chain to which this page belongs: an older page of its region, or a
-    /// free page.
+    /// The next page in the chain to which this page belongs: an older page of its region, or a free page.
     pub next: u32,
     /// For a region's first page, the region's newest page.
     pub newest: u32,
@@ -39,8 +37,7 @@ pub struct Row {
 /// The empty slots of one class.
 #[derive(Clone, Copy)]
 pub struct ClassSlots {
-    /// The first of the empty slots that contained a block before. The first word of each of these slots is
-    /// the number of the next one.
+    /// The first of the empty slots that contained a block before. The first word of each of these slots is the number of the next one.
     pub dead: u32,
     /// The first of the empty slots that never contained a block; these slots are consecutive in one page. The
     /// field after it is their number.

@@ -38,9 +38,8 @@ pub trait Store {
     fn close_dynamic(&mut self, handle: u32) -> Result<(), BadHandle>
         ensures { Responds GROWS (held self.old) (CloseDynamic handle) (done_unless services.BadHandle result) (held self.new) };
 
-    /// Allocates a block of this many words, with arbitrary contents, in the region with this handle, and returns the address of the
-    /// block. In the unique region the block has the size of its class, which is the least power of two that is at least the
-    /// requested size.
+    /// Allocates a block of this many words, with arbitrary contents, in the region with this handle, and returns the address of the block.
+    /// In the unique region the block has the size of its class, which is the least power of two that is at least the requested size.
     fn alloc(&mut self, handle: u32, words: u32) -> Result<u32, No>
         ensures { Responds GROWS (held self.old) (Allocate handle words) (allocated result) (held self.new) };
 
@@ -48,8 +47,7 @@ pub trait Store {
     fn free(&mut self, address: u32) -> Result<(), NotABlock>
         ensures { Responds GROWS (held self.old) (Free address) (done_unless services.NotABlock result) (held self.new) };
 
-    /// Returns the word at an address, if the address is that of a word in a live block; such a word lies in
-    /// the store's pages.
+    /// Returns the word at an address, if the address is that of a word in a live block; such a word lies in the store's pages.
     fn load(&self, address: u32) -> Option<u32>
         ensures word { result ≡ word_at (held self.now) address }
         ensures inside { IsSome result → (STORE_BASE ≤ address) × (address < STORE_BASE + 4 * (PAGE_WORDS * (held self.now).pages)) };

@@ -1,5 +1,4 @@
--- A cut divides a text into its longest pieces (tokens, spaces and comments): at most one exists,
--- and a cut can be extended at its end.
+-- A cut divides a text into its longest pieces (tokens, spaces and comments): at most one exists, and a cut can be extended at its end.
 use Rattle.std.proofs.Common.{◌≡◌, ◌≢◌, ℕ, ◌⊎◌, inl, inr, ⊎_elim, List, [], ◌∷◌, ◌++◌, refl, sym, ap, subst, ◌∙◌, append_assoc, append-nil, arith}
 use Rattle.cyc_words.proofs.Lists.{same_fronts}
 use Rattle.cyc_syntax.specs.Tokens.{Token}
@@ -21,8 +20,7 @@ one_part p q after other e read also =
     let piece = one_piece p.piece q.piece q.bytes (subst (Spells p.piece) bytes.0 read.spelled) also.spelled in
     ((λ i. record { piece = piece i; bytes = bytes.0 i }), bytes.1)
 
--- `GoesOn` says that the parts `qs` extend the parts `ps`: the further parts cut the text that `ps`
--- leaves.
+-- `GoesOn` says that the parts `qs` extend the parts `ps`: the further parts cut the text that `ps` leaves.
 abbrev pub GoesOn : List Part → List Part → List ℕ → List ℕ → Type 0
 GoesOn ps qs r s = (more : List Part) × (qs ≡ ps ++ more) × IsCut more r s
 

@@ -141,8 +141,7 @@ module _ (texts : List (List ℕ)) (text : List ℕ) (first : ℕ → Option ℕ
           (λ is_not. off t is_not ∙ index.apart t missing)
           (cases_Bool (bytes_eq text t))
 
-      -- If the key of the new text was stored already, the first text with this key is a different
-      -- text.
+      -- If the key of the new text was stored already, the first text with this key is a different text.
       is_other : bytes_eq (get_or texts number []) text ≡ false
       is_other =
           ⊎_elim
@@ -172,8 +171,7 @@ module _ (texts : List (List ℕ)) (text : List ℕ) (first : ℕ → Option ℕ
           ∙ sym (number_if-other texts text t (bytes_eq-apart_turned text t is_not)))
           (cases_Bool (bytes_eq text t))
 
--- After an insertion into the map of keys, a lookup finds the inserted number for the inserted key
--- and the old result for every other key.
+-- After an insertion into the map of keys, a lookup finds the inserted number for the inserted key and the old result for every other key.
 pub firsts_after : (m n : BTreeMap ℕ ℕ) (key number : ℕ) → tree.Updates nat_cmp m n key (Some number)
     → (k : ℕ) → first_in n k ≡ cond (is_eq (nat_cmp key k)) (Some number) (first_in m k)
 firsts_after m n key number updates k = updates.0 k

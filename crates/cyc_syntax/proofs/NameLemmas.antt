@@ -1,5 +1,4 @@
--- A text keeps its number when further texts are added to the list of names, and the number determines
--- the text.
+-- A text keeps its number when further texts are added to the list of names, and the number determines the text.
 use Rattle.std.proofs.Common.{zero, get_or, fold, ⊎_elim, ◌≡◌, ◌≢◌, ℕ, suc, ◌<◌, true, false, Some, List, [], ◌∷◌, ◌++◌, length, slice_get, sym, ap, subst, ◌∙◌, arith}
 use Rattle.std.specs.Str.{bytes_eq}
 use Rattle.std.proofs.lemmas.Bool.{true≢false, cases_Bool, cond-true, cond-false, cases_lt, or_left, or_right, or_cases, or_parts}

@@ -1,5 +1,4 @@
--- The bytes that can begin a piece (a token, a space or a comment). A byte string spells at most
--- one piece.
+-- The bytes that can begin a piece (a token, a space or a comment). A byte string spells at most one piece.
 use Rattle.std.proofs.Common.{eqb, unwrap_or, ◌≡◌, ◌≢◌, ℕ, Bool, true, false, ◌||◌, cond, Option, Some, None, ⊎_elim, List, [], ◌∷◌, ◌++◌, drop, refl, sym, ap, ◌∙◌, arith}
 use Rattle.std.specs.Prelude.{codes}
 use Rattle.std.specs.List.{starts_with}

@@ -85,8 +85,7 @@ abbrev mutual
   IsExpression most (Prefixed p o e) = IsExpression unary_level e
   IsExpression most (New p i) = IsInitial i
   IsExpression most (RegionNew p h i) = IsExpression assignment_level h × IsInitial i
-  -- The operators of a chain all have one precedence level, and its operands have lower levels,
-  -- which bind tighter.
+  -- The operators of a chain all have one precedence level, and its operands have lower levels, which bind tighter.
   IsExpression most (Binary e os) = (below : ℕ) × (below < most) × (below < binary_level) × IsExpression below e × IsSomeOperation os × AreOperations below os
   IsExpression most (Assign a b) = (assignment_level ≤ most) × IsExpression binary_level a × IsExpression assignment_level b
 
@@ -127,8 +126,7 @@ abbrev mutual
 abbrev pub IsExpressionOrNone : Option Expression → Type 0
 IsExpressionOrNone v = IfSome v (λ e. IsExpression assignment_level e)
 
--- Returns true if a statement ends in an `if` without an `else`. An `else` after it would belong to
--- this `if`.
+-- Returns true if a statement ends in an `if` without an `else`. An `else` after it would belong to this `if`.
 abbrev pub wants_else : Statement → Bool
 wants_else (Block b) = false
 wants_else (Labelled l b) = false
@@ -152,8 +150,7 @@ abbrev mutual
   IsStatement (Evaluate e) = IsExpression assignment_level e
   IsStatement (Swap a b) = IsExpression unary_level a × IsExpression unary_level b
   IsStatement (If p c s) = IsExpression assignment_level c × IsStatement s
-  -- An `else` belongs to the nearest `if`, so the first branch of an `if` with `else` must not end in
-  -- an `if` without `else`.
+  -- An `else` belongs to the nearest `if`, so the first branch of an `if` with `else` must not end in an `if` without `else`.
   IsStatement (IfElse p c s t) = IsExpression assignment_level c × IsStatement s × (wants_else s ≡ false) × IsStatement t
   IsStatement (While p c s) = IsExpression assignment_level c × IsStatement s
   IsStatement (Return p v) = IsExpressionOrNone v
@@ -205,8 +202,7 @@ AreDeclarations (d ∷ ds) = IsDeclaration d × AreDeclarations ds
 
 -- ---- when symbols spell a tree
 
--- `IsLeaf` says that a symbol is the token of a leaf, at the leaf's source position if the leaf has
--- one.
+-- `IsLeaf` says that a symbol is the token of a leaf, at the leaf's source position if the leaf has one.
 pub record IsLeaf (leaf : Leaf) (symbol : Symbol) : Type 0 where
   pub terminal : symbol.terminal ≡ leaf.terminal
   pub place : IfSome leaf.place (λ p. symbol.place ≡ p)
@@ -217,8 +213,7 @@ IsSpelled [] (symbol ∷ symbols) = ⊥
 IsSpelled (leaf ∷ leaves) [] = ⊥
 IsSpelled (leaf ∷ leaves) (symbol ∷ symbols) = IsLeaf leaf symbol × IsSpelled leaves symbols
 
--- THE GRAMMAR: `HasTree` says that this tree, a program of at least one declaration, is a parse of
--- these symbols.
+-- THE GRAMMAR: `HasTree` says that this tree, a program of at least one declaration, is a parse of these symbols.
 pub record HasTree (symbols : List Symbol) (tree : List Declaration) : Type 0 where
   pub nonempty : IsNonempty tree
   pub formed : AreDeclarations tree

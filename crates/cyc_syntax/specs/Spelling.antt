@@ -118,15 +118,13 @@ abbrev pub is_name : List ℕ → Bool
 is_name [] = false
 is_name (b ∷ bs) = is_letter b && list_all is_name_byte bs
 
--- Returns true if bytes form a decimal number: one digit, or a digit from 1 to 9 followed by
--- digits.
+-- Returns true if bytes form a decimal number: one digit, or a digit from 1 to 9 followed by digits.
 abbrev pub is_decimal : List ℕ → Bool
 is_decimal [] = false
 is_decimal (b ∷ []) = is_digit b
 is_decimal (b ∷ c ∷ bs) = is_between 49 57 b && list_all is_digit (c ∷ bs)
 
--- Returns true if bytes form a hexadecimal number: `0x` or `0X`, followed by at least one
--- hexadecimal digit.
+-- Returns true if bytes form a hexadecimal number: `0x` or `0X`, followed by at least one hexadecimal digit.
 abbrev pub is_hexadecimal : List ℕ → Bool
 is_hexadecimal [] = false
 is_hexadecimal (b ∷ []) = false
@@ -140,8 +138,7 @@ digit_value b = if is_digit b then b - 48 else (if is_between 97 102 b then b - 
 abbrev pub number_in : ℕ → List ℕ → ℕ
 number_in base digits = fold (λ n d. n * base + digit_value d) 0 digits
 
--- Returns true if a byte may appear unescaped in a character constant: it is printable, and neither
--- a quote nor a backslash.
+-- Returns true if a byte may appear unescaped in a character constant: it is printable, and neither a quote nor a backslash.
 abbrev pub is_plain : ℕ → Bool
 is_plain b = is_between 32 126 b && not (b == 39) && not (b == 92)
 

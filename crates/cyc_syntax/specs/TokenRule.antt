@@ -37,16 +37,14 @@ abbrev pub bytes_of : List Part → List ℕ
 bytes_of [] = []
 bytes_of (p ∷ ps) = p.bytes ++ bytes_of ps
 
--- Returns the token of a part that starts after the bytes `front`, or no token if the part is a
--- space or a comment.
+-- Returns the token of a part that starts after the bytes `front`, or no token if the part is a space or a comment.
 abbrev pub part_tokens : List ℕ → Piece → List Token
 part_tokens front (Lexeme k) = record { kind = k; line = line_after front; column = column_after front } ∷ []
 part_tokens front Space = []
 part_tokens front Comment = []
 part_tokens front OpenComment = []
 
--- Returns the tokens among the parts with their source positions, if the bytes `front` precede the
--- parts.
+-- Returns the tokens among the parts with their source positions, if the bytes `front` precede the parts.
 abbrev pub tokens_of : List ℕ → List Part → List Token
 tokens_of front [] = []
 tokens_of front (p ∷ ps) = part_tokens front p.piece ++ tokens_of (front ++ p.bytes) ps
@@ -55,8 +53,7 @@ tokens_of front (p ∷ ps) = part_tokens front p.piece ++ tokens_of (front ++ p.
 abbrev pub HasTokens : List ℕ → List Token → Type 0
 HasTokens text tokens = (parts : List Part) × IsCut parts text [] × (tokens_of [] parts ≡ tokens)
 
--- The limits of this project on a text: the number of bytes, the number of tokens, and the largest
--- number.
+-- The limits of this project on a text: the number of bytes, the number of tokens, and the largest number.
 abbrev pub max_bytes : ℕ
 max_bytes = 1048576
 
@@ -80,8 +77,7 @@ pub record IsWithinLimits (tokens : List Token) : Type 0 where
   pub count : length tokens ≤ max_tokens
   pub numbers : All (λ t. IsSmall t.kind) tokens
 
--- `LiesIn` says that a token of the code is located in the text: its source position is that of its first
--- byte, and its bytes spell it.
+-- `LiesIn` says that a token of the code is located in the text: its source position is that of its first byte, and its bytes spell it.
 pub record LiesIn (text : List ℕ) (t : CodeToken) : Type 0 where
   pub starts : t.start < t.end
   pub ends : t.end ≤ length text

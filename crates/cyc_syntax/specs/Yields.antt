@@ -27,8 +27,7 @@ use Rattle.cyc_syntax.specs.Trees.{Chained, Prefixed, New, RegionNew, Binary, As
 use Rattle.cyc_syntax.specs.Trees.{Statement, Block, Labelled, Empty, Evaluate, Swap, If, IfElse, While, Return, Break, Continue, Throw, Try, Body, Braces, Items, NoItems, MoreItems, Item, Execute, Local, Region, Alias, DynamicRegion, Clauses}
 use Rattle.cyc_syntax.specs.Trees.{NoClauses, Default, Case, Member, Constructor, GlobalValue, Positive, Negative, Byte, NullPointer, Constraint, ParameterList, Void, Listed, Parameters, Declaration, StructType, Exceptions, Global, Function}
 
--- A leaf of a syntax tree. A leaf has the source position of its token if the tree stores this
--- position.
+-- A leaf of a syntax tree. A leaf has the source position of its token if the tree stores this position.
 pub record Leaf : Type 0 where
   pub terminal : Terminal
   pub place : Option Place
@@ -270,8 +269,7 @@ has_int d true = sign d signs.LeftParen ⨾ word (suc d) words.Int ⨾ sign (suc
 abbrev pub constructor : ℕ → Constructor → Yield
 constructor d c = identifier d c.name ⨾ has_int d c.has_int ⨾ sign d signs.Semicolon
 
--- A minus sign before the number increases the nesting of a global's initial value, like a prefix
--- operator.
+-- A minus sign before the number increases the nesting of a global's initial value, like a prefix operator.
 abbrev pub global_value : ℕ → GlobalValue → Yield
 global_value d (Positive p n) = sign d signs.Assign ⨾ at (suc d) (terminals.Number n) p
 global_value d (Negative p n) = sign d signs.Assign ⨾ at (suc d) (Mark signs.Minus) p ⨾ record { terminal = terminals.Number n; place = None; nesting = suc (suc d); item = 0 } ∷ []

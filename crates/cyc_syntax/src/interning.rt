@@ -13,8 +13,7 @@ pub struct Name {
     pub number: usize,
 }
 
-/// The interned texts, each once, in the order of their first occurrence. The number of a text is its index,
-/// from 0.
+/// The interned texts, each once, in the order of their first occurrence. The number of a text is its index, from 0.
 // A text is looked up by its key, a number. The author of a program may choose many names with equal keys. Both lookups, by key and by
 // text, use ordered maps, so each takes logarithmic time, whatever names the author chooses.
 #[derive(Drop)]
@@ -37,8 +36,7 @@ impl Model for Names {
     ghost invariant = { λ n. IsIndexOf (map (λ v. v.items) n.texts.items) (first_in n.firsts) (other_in n.others) };
 }
 
-/// Returns the key of a text: its bytes as the digits of a number, modulo 2^64. Texts of at most seven bytes have distinct
-/// keys.
+/// Returns the key of a text: its bytes as the digits of a number, modulo 2^64. Texts of at most seven bytes have distinct keys.
 fn key_of(text: &[u8]) -> u64
     ensures { result ≡ index.key_of text.now }
 {
@@ -50,8 +48,7 @@ fn key_of(text: &[u8]) -> u64
 }
 
 impl Names {
-    /// Returns an empty set of names. The empty set allocates no memory before the first name is
-    /// interned.
+    /// Returns an empty set of names. The empty set allocates no memory before the first name is interned.
     pub fn new(alloc: Global) -> Result<Names, AllocError>
         ensures empty { IfOk result (λ names. names ≡ []) }
         ensures succeeds { IsOk result }

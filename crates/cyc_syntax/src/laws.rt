@@ -15,8 +15,7 @@ pub fn one_number_each()
         → (number_of texts a ≡ number_of texts b) ↔ (a ≡ b) }
 {}
 
-/// A text keeps its number when further texts are added to the list of names, and the number
-/// determines the text.
+/// A text keeps its number when further texts are added to the list of names, and the number determines the text.
 pub fn numbers_are_kept()
     ensures kept { (texts : List (List ℕ)) (a b : List ℕ) → IsTrue (is_among a texts)
         → number_of (with_text texts b) a ≡ number_of texts a }

@@ -42,8 +42,7 @@ pub enum BaseType {
     Key { region: Ident },
 }
 
-/// A type as written: its pointer signs apply from left to right, and the last sign is that of the
-/// outermost pointer.
+/// A type as written: its pointer signs apply from left to right, and the last sign is that of the outermost pointer.
 #[derive(Drop)]
 pub struct WrittenType {
     pub span: Span,
@@ -159,8 +158,7 @@ pub enum Expr {
         region: Box<Expr>,
         value: Box<Initial>,
     },
-    /// Operands joined by operators of one precedence level, which associate to the left. A chain has at least
-    /// one operator.
+    /// Operands joined by operators of one precedence level, which associate to the left. A chain has at least one operator.
     Binary {
         first: Box<Expr>,
         rest: Vec<Operation>,
@@ -196,8 +194,7 @@ pub enum Initial {
     Plain {
         value: Expr,
     },
-    /// A struct initializer: the struct's name, its region arguments, and the values of its fields,
-    /// of which there is at least one.
+    /// A struct initializer: the struct's name, its region arguments, and the values of its fields, of which there is at least one.
     Fields {
         name: Ident,
         regions: Vec<Ident>,

@@ -49,8 +49,7 @@ stopped_at stops.Spent budget count w end (none, all) over = absurd (let same : 
 input_reported : (reported : Option (List ℕ)) (input bytes : List ℕ) → reported ≡ Some input → Tells reported bytes → bytes ≡ input
 input_reported reported input bytes is tells = sym (let same : input ≡ bytes = subst (λ (o : Option (List ℕ)). Tells o bytes) is tells in same)
 
--- If the input bytes of a reader were known, the bytes that it still has are known and are exactly
--- the remaining ones.
+-- If the input bytes of a reader were known, the bytes that it still has are known and are exactly the remaining ones.
 reported_rest : (reported new : Option (List ℕ)) (input rest : List ℕ) → reported ≡ Some input → Leaves reported new rest → new ≡ Some rest
 reported_rest None new input rest is leaves = absurd (let e : None ≡ Some input = is in cc)
 reported_rest (Some reported) None input rest is leaves = absurd leaves

@@ -1,5 +1,4 @@
-//! The product's functions in one crate: they translate a text to a typed tree or an image, run an image, and list an
-//! image.
+//! The product's functions in one crate: they translate a text to a typed tree or an image, run an image, and list an image.
 #![tactic(auto)]
 
 pub mod laws;

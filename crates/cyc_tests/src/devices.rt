@@ -12,8 +12,7 @@ pub struct FailsOnce {
 }
 
 impl FailsOnce {
-    /// Returns a device that succeeds for `calls_before` calls, fails at the next call and then succeeds
-    /// again.
+    /// Returns a device that succeeds for `calls_before` calls, fails at the next call and then succeeds again.
     pub fn new(calls_before: usize) -> FailsOnce {
         FailsOnce {
             calls_before,

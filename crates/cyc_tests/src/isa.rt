@@ -20,8 +20,7 @@ fn hexadecimal(text: &str) -> Option<u32> {
     u32::from_str_radix(text, 16).ok()
 }
 
-/// Asserts that the instruction word of a row is displayed as the row's text, and that this text is
-/// encoded as the word.
+/// Asserts that the instruction word of a row is displayed as the row's text, and that this text is encoded as the word.
 fn expect_vector<A: Abort>(rt: &A, alloc: Global, row: &str) -> Option<()> {
     let (address, rest) = row.split_once(' ')?;
     let (word, text) = rest.split_once(' ')?;

@@ -1,5 +1,4 @@
-//! This file tests the store on a pool of pages when its serial numbers reach their last value,
-//! which happens in no run.
+//! This file tests the store on a pool of pages when its serial numbers reach their last value, which happens in no run.
 
 use crate::expect::expect;
 use cyc_pagestore::PageStore;
@@ -38,8 +37,7 @@ fn open_pair(store: &mut PageStore, number: u32) -> Option<Pair> {
     None
 }
 
-/// Returns true if the first words of both blocks of a pair contain this number or, without a number, if both
-/// words are not live.
+/// Returns true if the first words of both blocks of a pair contain this number or, without a number, if both words are not live.
 fn has_number(store: &PageStore, pair: Pair, number: Option<u32>) -> bool {
     store.load(pair.first) == number && store.load(pair.second) == number
 }
@@ -53,8 +51,7 @@ fn open_four(store: &mut PageStore) -> Option<[Pair; 4]> {
     Some([one, two, three, kept])
 }
 
-/// Closes a region. Returns true if the words of the closed region are dead, and the words of another region are
-/// unchanged.
+/// Closes a region. Returns true if the words of the closed region are dead, and the words of another region are unchanged.
 fn is_closed(store: &mut PageStore, pair: Pair, other: Pair, number: u32) -> bool {
     let closed = store.close_dynamic(pair.handle).is_ok();
     closed && has_number(store, pair, None) && has_number(store, other, Some(number))
@@ -88,8 +85,7 @@ fn stale_words_stay_dead(rt: HostRuntime) {
     expect(&rt, right == Some(true), "past the last serial");
 }
 
-/// Returns true if one bit of a page of a pool can be set and cleared; stores set many bits at a
-/// time.
+/// Returns true if one bit of a page of a pool can be set and cleared; stores set many bits at a time.
 fn bit_is_set(alloc: Global, pages: u32) -> Option<bool> {
     if pages > 65_536 {
         return None;

@@ -1,5 +1,4 @@
-//! This file tests which region outlives which, against tables written by hand, while scopes open
-//! and close.
+//! This file tests which region outlives which, against tables written by hand, while scopes open and close.
 
 use crate::expect::{expect, expect_text};
 use cyc_types::{Kind, Outlives, Region};
@@ -14,8 +13,7 @@ const C: Region = Region::Variable(2);
 
 const D: Region = Region::Variable(3);
 
-/// Asserts which regions the heap, the unique region, A, B, C and D outlive, each in turn; the regions are listed
-/// in this order.
+/// Asserts which regions the heap, the unique region, A, B, C and D outlive, each in turn; the regions are listed in this order.
 fn expect_table<R: Abort>(rt: &R, alloc: Global, outlives: &Outlives, want: &str) -> Option<()> {
     let regions = [Region::Heap, Region::Unique, A, B, C, D];
     let mut got = String::new(alloc);

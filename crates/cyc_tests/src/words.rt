@@ -13,8 +13,7 @@ fn expect_byte<A: Abort, I: ByteIn>(rt: &A, input: &mut I, want: Option<u8>) {
     }
 }
 
-/// The inner reader and writer would succeed again after their failure, but they are not called
-/// again.
+/// The inner reader and writer would succeed again after their failure, but they are not called again.
 #[test]
 fn a_failure_stays(rt: HostRuntime) {
     let mut input = Reader::new(FailsOnce::new(2));

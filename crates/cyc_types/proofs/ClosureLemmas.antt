@@ -1,5 +1,4 @@
--- The boolean tests of the specification file `Closure` return true exactly if one region outlives
--- another.
+-- The boolean tests of the specification file `Closure` return true exactly if one region outlives another.
 use Rattle.std.proofs.Common.{◌≡◌, ◌≢◌, ◌⊎◌, inl, inr, true, not, ◌&&◌, ◌||◌, List, [], ◌∷◌, refl, sym, ◌∙◌, subst}
 use Rattle.std.specs.Prelude.{Contains}
 use Rattle.std.proofs.lemmas.Bool.{or_cases, or_left, or_right, and_parts, and_from, cases_Bool, true≢false, false_from_ne_true, not-true, not_from_false}
@@ -46,8 +45,7 @@ above-trans (p ∷ ps) a b d h k =
           ]
     ]
 
--- adding a pair (a, b) of regions to a list of pairs adds no path if a path from a to b already
--- exists
+-- adding a pair (a, b) of regions to a list of pairs adds no path if a path from a to b already exists
 pub above-known : (p : Region × Region) (ps : List (Region × Region)) → above ps p.0 p.1 ≡ true → (a b : Region) → above (p ∷ ps) a b ≡ above ps a b
 above-known p ps h a b =
     elim (cases_Bool (above ps a b)) [
@@ -85,8 +83,7 @@ above-sound c (p ∷ ps) pairs a b h =
           through a p.0 b (rest a p.0 u.0) (through p.0 p.1 b (pairs p.0 p.1 (Contains-head p ps)) (rest p.1 b u.1))
     ]
 
--- if pairs form a path from a to b, and a path from b into a list of regions, then a path leads
--- from a into the list
+-- if pairs form a path from a to b, and a path from b into a list of regions, then a path leads from a into the list
 pub above_one_of-up : (w : List (Region × Region)) (rs : List Region) (a b : Region) →
     above w a b ≡ true → above_one_of w rs b ≡ true → above_one_of w rs a ≡ true
 above_one_of-up w [] a b h k = k
@@ -128,8 +125,7 @@ module _ (w : List (Region × Region)) (live : List Region) where
       (and_from (is_outlived_by_live s.kind && above_one_of w (live_regions live e) a) (leads w live e s.region b)
       (and_from (is_outlived_by_live s.kind) (above_one_of w (live_regions live e) a) k u) r)
 
-  -- a path between two regions either uses only the function's constraints, or its first region has
-  -- a path of constraints to a live region
+  -- a path between two regions either uses only the function's constraints, or its first region has a path of constraints to a live region
   pub leads-cases : (opened : List Scope) (a b : Region) → leads w live opened a b ≡ true →
       (above w a b ≡ true) ⊎ (above_one_of w (live_regions live opened) a ≡ true)
   leads-cases [] a b h = inl h
@@ -217,8 +213,7 @@ module _ (c : RegionContext) (no_unique : names_no_unique c.written ≡ true) (n
             ]
       ]
 
-  -- `is_outliving` returns true for a and b if b is not the unique region and a path leads from a
-  -- to b or from a to the heap
+  -- `is_outliving` returns true for a and b if b is not the unique region and a path leads from a to b or from a to the heap
   outliving-from : (a b : Region) → b ≢ Unique →
       ((leads c.written c.live c.opened a b ≡ true) ⊎ (leads c.written c.live c.opened a Heap ≡ true)) → is_outliving c a b ≡ true
   outliving-from a b n h =

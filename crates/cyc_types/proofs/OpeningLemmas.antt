@@ -1,5 +1,4 @@
--- Lemmas: the position at which a region's oldest scope was opened decides liveness and the
--- outlives relation.
+-- Lemmas: the position at which a region's oldest scope was opened decides liveness and the outlives relation.
 use Rattle.std.proofs.Common.{◌≡◌, ◌⊎◌, inl, inr, ℕ, zero, suc, ◌+◌, ◌<◌, ◌≤◌, Bool, true, false, ◌&&◌, ◌||◌, not, List, [], ◌∷◌, ◌++◌, reverse, length, take, refl, ap, sym, ◌∙◌, subst, arith}
 use Rattle.std.specs.List.{list_any}
 use Rattle.std.proofs.lemmas.Bool.{or_cases, or_left, or_right, and_parts, and_from, false_from_ne_true, cases_lt, true_from_ne_false}
@@ -42,8 +41,7 @@ any-at p n i scopes lt within e =
 
 -- ---- live regions, and the regions that lead to live regions
 
--- if a region has no path to any other region and is not in a list of regions, it has no path to a
--- region in the list
+-- if a region has no path to any other region and is not in a list of regions, it has no path to a region in the list
 not-above : (w : List (Region × Region)) (rs : List Region) (a : Region) → ((b : Region) → above w a b ≡ region_eq a b) →
     is_region_among a rs ≡ false → above_one_of w rs a ≡ true → ⊥
 not-above w rs a alone apart h =
@@ -76,8 +74,7 @@ above-among w rs below a e = same_tests (above_one_of w rs a) (list_any (λ r. n
     (subst (λ z. not (region_eq z Unique) ≡ true) (sym same) u.0)
     (e q.0 ∙ any-from (λ y. region_eq y q.0) below r.0 r.1 (eq_true_at r.0 q.0 (sym same)))))
 
--- if a list of regions contains a region other than the unique region, that region has a path (of
--- length 0) into the list
+-- if a list of regions contains a region other than the unique region, that region has a path (of length 0) into the list
 pub above-itself : (w : List (Region × Region)) (rs : List Region) (a : Region) → not (region_eq a Unique) ≡ true →
     is_region_among a rs ≡ true → above_one_of w rs a ≡ true
 above-itself w rs a n h =
@@ -104,8 +101,7 @@ module _ (live : List Region) (scopes : List Scope) where
 
 module _ (w : List (Region × Region)) (live : List Region) (openings : List ℕ) (scopes : List Scope) (n : ℕ)
     (order : IsInOrder w live openings scopes n) where
-  -- a region that was not live at the function's start is not live among the `count` oldest scopes if
-  -- none of these opened it
+  -- a region that was not live at the function's start is not live among the `count` oldest scopes if none of these opened it
   pub live-missed : (count : ℕ) (r : Region) → count ≤ n → is_region_among r live ≡ false →
       (opening_of openings r < count → region_eq (scope_at scopes (opening_of openings r)).region r ≡ false) →
       is_region_among r (live_before live scopes count) ≡ false
@@ -132,8 +128,7 @@ module _ (w : List (Region × Region)) (live : List Region) (openings : List ℕ
       (λ h. true_from_ne_false (region_eq (scope_at scopes (opening_of openings r)).region r)
       (λ f. never_true_and_false h (live-missed count r le never_live (λ l. f))))
 
-  -- a path between two regions either uses only the function's constraints, or crosses exactly one
-  -- scope
+  -- a path between two regions either uses only the function's constraints, or crosses exactly one scope
   by-one-scope : (k : ℕ) (a b : Region) → k ≤ n → leads w live (reverse (take k scopes)) a b ≡ true →
       (above w a b ≡ true) ⊎ ((i : ℕ) × (i < n) × (is_outlived_by_live (scope_at scopes i).kind ≡ true)
       × ((scope_at scopes i).region ≡ b) × (above_one_of w (live_before live scopes i) a ≡ true))
@@ -157,8 +152,7 @@ module _ (w : List (Region × Region)) (live : List Region) (openings : List ℕ
             ]
       ]
 
-  -- if the live regions outlive a scope's region, the table stores that scope as the oldest scope of
-  -- its region
+  -- if the live regions outlive a scope's region, the table stores that scope as the oldest scope of its region
   its-own : (i : ℕ) → i < n → is_outlived_by_live (scope_at scopes i).kind ≡ true → opening_of openings (scope_at scopes i).region ≡ i
   its-own i lt k =
       let o = order.each i lt in
@@ -174,8 +168,7 @@ module _ (w : List (Region × Region)) (live : List Region) (openings : List ℕ
 -- ---- paths if all scopes are in order
 module _ (w : List (Region × Region)) (live : List Region) (openings : List ℕ) (scopes : List Scope)
     (order : IsInOrder w live openings scopes (length scopes)) where
-  -- a path leads from a to b over b's scope if the live regions outlive b and a has a path to a
-  -- region live before that scope
+  -- a path leads from a to b over b's scope if the live regions outlive b and a has a path to a region live before that scope
   pub leads-there : (a b : Region) → opening_of openings b < length scopes →
       (scope_at scopes (opening_of openings b)).region ≡ b →
       is_outlived_by_live (scope_at scopes (opening_of openings b)).kind ≡ true →
@@ -185,8 +178,7 @@ module _ (w : List (Region × Region)) (live : List Region) (openings : List ℕ
       (subst (λ z. leads w live (reverse (take (opening_of openings b) scopes)) z b ≡ true) (sym e)
       (leads-refl w live (reverse (take (opening_of openings b) scopes)) b))
 
-  -- if no path of constraints leads from a to b, and none leads over the scope that opened b, then
-  -- no path leads from a to b
+  -- if no path of constraints leads from a to b, and none leads over the scope that opened b, then no path leads from a to b
   pub leads-nowhere : (a b : Region) → above w a b ≡ false →
       (opening_of openings b < length scopes → (scope_at scopes (opening_of openings b)).region ≡ b →
       is_outlived_by_live (scope_at scopes (opening_of openings b)).kind ≡ true →
@@ -261,8 +253,7 @@ module _ (w : List (Region × Region)) (live : List Region) where
         (o.each i lt);
   }
 
-  -- storing the opening position of a region that is not live keeps the scopes in the order that
-  -- `IsInOrder` requires
+  -- storing the opening position of a region that is not live keeps the scopes in the order that `IsInOrder` requires
   pub in_order-noted : (openings noted : List ℕ) (scopes : List Scope) (n : ℕ) (region : Region) → IsInOrder w live openings scopes n →
       is_region_among region (live_before live scopes (length scopes)) ≡ false →
       ((r : Region) → region_eq region r ≡ false → opening_of noted r ≡ opening_of openings r) →
@@ -314,8 +305,7 @@ module _ (w : List (Region × Region)) (live : List Region) where
               (subst (λ (z : Scope). is_outlived_by_live z.kind ≡ true → is_region_among z.region (live_before live scopes (length scopes)) ≡ false) it fresh);
         }
 
-    -- if the region of a newly opened scope is already live, the scopes including the new one are
-    -- in order
+    -- if the region of a newly opened scope is already live, the scopes including the new one are in order
     pub in_order-known : is_outlived_by_live s.kind ≡ false → is_region_among s.region (live_before live scopes (length scopes)) ≡ true →
         IsInOrder w live openings (scopes ++ s ∷ []) (length scopes + 1)
     in_order-known not_outlived known = in_order-next
@@ -339,8 +329,7 @@ module _ (w : List (Region × Region)) (live : List Region) where
         (λ k. absurd (never_true_and_false k not_outlived))
         (λ k. absurd (never_true_and_false k not_outlived))
 
-    -- if the region of a newly opened scope is not yet live, the scopes including the new one are
-    -- in order
+    -- if the region of a newly opened scope is not yet live, the scopes including the new one are in order
     pub in_order-new : opening_of openings s.region ≡ length scopes →
         (is_outlived_by_live s.kind ≡ true → (b : Region) → above w s.region b ≡ region_eq s.region b) →
         is_region_among s.region (live_before live scopes (length scopes)) ≡ false →

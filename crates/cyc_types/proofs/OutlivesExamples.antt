@@ -13,8 +13,7 @@ nested = record {
   opened = record { region = Variable 3; kind = Lexical } ∷ record { region = Variable 2; kind = Dynamic } ∷ [];
 }
 
--- example: a region that outlives a live region also outlives the lexical region opened after that
--- live region
+-- example: a region that outlives a live region also outlives the lexical region opened after that live region
 through_the_live_region : is_outliving nested (Variable 0) (Variable 3) ≡ true
 through_the_live_region = refl
 

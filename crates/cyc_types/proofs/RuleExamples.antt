@@ -56,8 +56,7 @@ one e = MoreExpressions e NoExpressions
 abbrev only : Item → Items
 only i = MoreItems i NoItems
 
--- the declaration of `int main(){ .. }` with the given body items, whose closing brace is at the
--- given column
+-- the declaration of `int main(){ .. }` with the given body items, whose closing brace is at the given column
 abbrev main_of : Items → ℕ → Declaration
 main_of is q = Function (Some (int 1)) (main 5) (parameters []) (Braces (at 11) is (at q))
 

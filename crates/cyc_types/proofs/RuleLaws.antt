@@ -25,8 +25,7 @@ from_err f g {A} e = ap (λ (r : Checked A). elim r [ Ok x ↦ f | Err h ↦ h ]
 pub ok_is_no_err : {A : Type 0} (a : A) (f : Fault) → ◌≡◌ {A = Checked A} (Ok a) (Err f) → ⊥
 ok_is_no_err a f e = absurd (cc)
 
--- says that a checker's result is correct: a success satisfies the predicate `holds`, and a fault
--- satisfies the predicate `fails`
+-- says that a checker's result is correct: a success satisfies the predicate `holds`, and a fault satisfies the predicate `fails`
 pub data Judges {A : Type 0} (holds : A → Type 0) (fails : Fault → Type 0) : Checked A → Type 0 where
   good : {a : A} → holds a → Judges holds fails (Ok a)
   bad : {f : Fault} → fails f → Judges holds fails (Err f)
@@ -105,8 +104,7 @@ pub data Settles (ds : List Demand) : Option Fault → Type 0 where
   none_broken : AllKept ds → Settles ds None
   broken : {f : Fault} → IsFaultOf ds f → Settles ds (Some f)
 
--- the possible results of a fold over demands that starts with a known fault: the known fault, or a
--- demand's fault with a lower code
+-- the possible results of a fold over demands that starts with a known fault: the known fault, or a demand's fault with a lower code
 data From (e : Fault) (ds : List Demand) : Option Fault → Type 0 where
   same : AreNotBelow (number_of e.code) ds → From e ds (Some e)
   lower : {f : Fault} → IsFaultOf ds f → number_of f.code < number_of e.code → From e ds (Some f)

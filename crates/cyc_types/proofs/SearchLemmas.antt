@@ -16,8 +16,7 @@ use Rattle.cyc_types.specs.Outlives.{RegionContext, OutlivesIn, live_regions, is
 use Rattle.cyc_types.specs.Closure.{above, above_one_of, above_one_opened, leads, is_outliving, is_above_known, HasNoUnique}
 use Rattle.cyc_types.proofs.ClosureLemmas.{newest-from, outliving-sound, outliving-complete}
 
--- a region has a path to a live region exactly if it has a path to the region of an open scope or
--- to a region live before any scope
+-- a region has a path to a live region exactly if it has a path to the region of an open scope or to a region live before any scope
 pub live-split : (w : List (Region × Region)) (live : List Region) (scopes : List Scope) (a : Region) →
     above_one_of w (live_regions live (reverse scopes)) a ≡ (above_one_opened w scopes a || above_one_of w live a)
 live-split w live scopes a =
@@ -26,8 +25,7 @@ live-split w live scopes a =
     (any-map (λ r. not (region_eq r Unique) && above w a r) (λ (s : Scope). s.region) (reverse scopes)
     ∙ any-reverse (λ (s : Scope). not (region_eq s.region Unique) && above w a s.region) scopes)
 
--- in the order from newest to oldest, the first i + 1 scopes are the scope at index i followed by
--- the first i scopes
+-- in the order from newest to oldest, the first i + 1 scopes are the scope at index i followed by the first i scopes
 pub reverse-take_more : (scopes : List Scope) (i : ℕ) (d : Scope) → i < length scopes →
     reverse (take (i + 1) scopes) ≡ get_or scopes i d ∷ reverse (take i scopes)
 reverse-take_more scopes i d h = ap reverse (take_more scopes i d h) ∙ reverse-append (take i scopes) (get_or scopes i d ∷ [])
@@ -44,8 +42,7 @@ module _ (w : List (Region × Region)) (live : List Region) where
       subst (λ z. leads w live z a b ≡ true) (sym (reverse-append (take n scopes) (drop n scopes)) ∙ ap reverse (take-append-drop n scopes))
       (leads-grows (reverse (drop n scopes)) (reverse (take n scopes)) a b h)
 
-  -- a path leads from a to b over the scope at index i if a reaches a region live before that
-  -- scope, and the scope's region reaches b
+  -- a path leads from a to b over the scope at index i if a reaches a region live before that scope, and the scope's region reaches b
   pub leads-found : (scopes : List Scope) (i : ℕ) (d : Scope) (a b : Region) → i < length scopes →
       is_outlived_by_live (get_or scopes i d).kind ≡ true →
       above_one_of w (live_regions live (reverse (take i scopes))) a ≡ true →
@@ -71,8 +68,7 @@ module _ (w : List (Region × Region)) (live : List Region) where
       passed false true false r e = refl
       passed false false u r e = refl
 
-  -- if a path leads over the scope at index i to b, every region that was live before this scope
-  -- has a path to b
+  -- if a path leads over the scope at index i to b, every region that was live before this scope has a path to b
   pub leads-taken : (scopes : List Scope) (i : ℕ) (d : Scope) (known : Bool) (x b : Region) → i < length scopes →
       is_outlived_by_live (get_or scopes i d).kind ≡ true →
       leads w live (reverse (take i scopes)) (get_or scopes i d).region b ≡ true →
@@ -101,8 +97,7 @@ module _ (w : List (Region × Region)) (live : List Region) where
       taken p false u r q known e k s within = cc
       taken p true u false q known e k s within = cc
 
-  -- a region with a path to the regions live before one scope also has a path to the regions live
-  -- before the next scope
+  -- a region with a path to the regions live before one scope also has a path to the regions live before the next scope
   pub live-more : (scopes : List Scope) (i : ℕ) (d : Scope) (x : Region) → i < length scopes →
       above_one_of w (live_regions live (reverse (take i scopes))) x ≡ true →
       above_one_of w (live_regions live (reverse (take (i + 1) scopes))) x ≡ true
@@ -148,16 +143,14 @@ module _ (w : List (Region × Region)) (live : List Region) (scopes : List Scope
     bound = before.bound;
   }
 
--- if the context mentions no unique region, the boolean test `is_outliving` decides the outlives
--- relation
+-- if the context mentions no unique region, the boolean test `is_outliving` decides the outlives relation
 pub outliving_iff : (c : RegionContext) (a b : Region) (r : Bool) → HasNoUnique c → r ≡ is_outliving c a b → IsTrue r ↔ OutlivesIn c a b
 outliving_iff c a b r apart s = (
   λ h. outliving-sound c apart.written apart.opened a b (sym s ∙ h),
   λ h. s ∙ outliving-complete c apart.written apart.opened a b h,
 )
 
--- a region is live exactly if it is in the list of regions live at the start or is the region of an
--- open scope
+-- a region is live exactly if it is in the list of regions live at the start or is the region of an open scope
 pub live_among : (r : Region) (live : List Region) (scopes : List Scope) →
     is_region_among r (live_regions live (reverse scopes)) ≡ (is_region_among r live || list_any (λ (s : Scope). region_eq s.region r) scopes)
 live_among r live scopes =

@@ -1,5 +1,4 @@
--- Lemmas about the table of outlives constraints: its loop invariants, and that the table is
--- transitively closed after the loops.
+-- Lemmas about the table of outlives constraints: its loop invariants, and that the table is transitively closed after the loops.
 use Rattle.std.proofs.Common.{◌≡◌, inl, inr, ℕ, zero, suc, ◌+◌, ◌<◌, true, false, ◌&&◌, ◌||◌, List, [], ◌∷◌, ◌++◌, length, get_or, set, take, refl, ap, sym, ◌∙◌, subst, arith, add-one}
 use Rattle.std.proofs.lemmas.Bool.{or_left, or_right, true≢false, false_from_ne_true, cases_Bool}
 use Rattle.std.proofs.lemmas.List.{take_more, map-append}
@@ -49,8 +48,7 @@ open-leads (c ∷ cs) h a b =
 same_pair : (p q : Region × Region) → p.0 ≡ q.0 → p.1 ≡ q.1 → p ≡ q
 same_pair (a, b) (x, y) l m = cc
 
--- after the loop adds an entry for the next constraint, the table lists one more pair; the new
--- entry has not been closed yet
+-- after the loop adds an entry for the next constraint, the table lists one more pair; the new entry has not been closed yet
 pub push_open : (cs : List Constraint) (w : List (Region × Region)) (i : ℕ) (d : Region × Region) (c : Constraint) (new : List Constraint) →
     i < length w → written_in cs ≡ take i w → AreOpen cs → new ≡ cs ++ c ∷ [] →
     c.longer ≡ (get_or w i d).0 → c.shorter ≡ (get_or w i d).1 → c.outlived ≡ [] →

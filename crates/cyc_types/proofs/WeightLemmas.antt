@@ -23,8 +23,7 @@ pub else_lighter : (t : typed.Statement) (n : ℕ) → else_weight t n ≤ 1 + n
 else_lighter typed.Empty n = omega arith
 else_lighter t n = omega arith
 
--- the weight of a statement in an `else` branch is at most one token more than the weight that the
--- branch adds to the `if`
+-- the weight of a statement in an `else` branch is at most one token more than the weight that the branch adds to the `if`
 pub else_written : (t : typed.Statement) → statement_weight t ≤ 1 + else_weight t (statement_weight t)
 else_written typed.Empty = omega arith
 else_written t = omega arith

@@ -9,24 +9,20 @@ use Rattle.cyc_types.specs.declared.constraints.Constraint.{Constraint}
 use Rattle.cyc_types.specs.Types.{region_eq, is_region_among}
 use Rattle.cyc_types.specs.Outlives.{RegionContext, live_regions, is_outlived_by_live, names_no_unique}
 
--- returns true if a path of pairs leads from region a to region b; the path either avoids the first
--- pair or uses it
+-- returns true if a path of pairs leads from region a to region b; the path either avoids the first pair or uses it
 abbrev pub above : List (Region × Region) → Region → Region → Bool
 above [] a b = region_eq a b
 above (p ∷ ps) a b = above ps a b || (above ps a p.0 && above ps p.1 b)
 
--- returns true if a path of pairs leads from region a to a region in the list; the unique region
--- does not count
+-- returns true if a path of pairs leads from region a to a region in the list; the unique region does not count
 abbrev pub above_one_of : List (Region × Region) → List Region → Region → Bool
 above_one_of written regions a = list_any (λ r. not (region_eq r Unique) && above written a r) regions
 
--- returns true if a path of pairs leads from region a to the region of a scope in the list; the unique
--- region does not count
+-- returns true if a path of pairs leads from region a to the region of a scope in the list; the unique region does not count
 abbrev pub above_one_opened : List (Region × Region) → List Scope → Region → Bool
 above_one_opened written scopes a = list_any (λ s. not (region_eq s.region Unique) && above written a s.region) scopes
 
--- returns true if a path of the pairs and the open scopes (newest first) leads from region a to
--- region b
+-- returns true if a path of the pairs and the open scopes (newest first) leads from region a to region b
 abbrev pub leads : List (Region × Region) → List Region → List Scope → Region → Region → Bool
 leads written live [] a b = above written a b
 leads written live (s ∷ earlier) a b =
@@ -39,8 +35,7 @@ abbrev pub is_above_known : List (Region × Region) → List Region → List Sco
 is_above_known written live scopes None a = false
 is_above_known written live scopes (Some k) a = above_one_of written (live_regions live (reverse (take k scopes))) a
 
--- returns true if region a outlives region b, provided that no constraint and no scope mentions the
--- unique region
+-- returns true if region a outlives region b, provided that no constraint and no scope mentions the unique region
 abbrev pub is_outliving : RegionContext → Region → Region → Bool
 is_outliving c a b =
     region_eq a b
@@ -76,7 +71,6 @@ pub record HasNoUnique (c : RegionContext) : Type 0 where
   pub written : names_no_unique c.written ≡ true
   pub opened : names_no_unique_scope c.opened ≡ true
 
--- builds the region context from the three fields of an `Outlives`: constraints, live regions and
--- scopes
+-- builds the region context from the three fields of an `Outlives`: constraints, live regions and scopes
 abbrev pub context_of : List Constraint → List Region → List Scope → RegionContext
 context_of constraints live scopes = record { written = written_in constraints; live = live; opened = reverse scopes }

@@ -5,8 +5,7 @@ use Rattle.cyc_types.specs.declared.region.Region.TheVariants as regions
 use Rattle.cyc_types.specs.Types.{Ty, Int, Handle, Key}
 use Rattle.cyc_types.specs.TypedTrees.{Statement, Block, If, While, Try, Items, NoItems, MoreItems, Execute, Declare, DeclareRegion, OpenRegion, DeclareAlias, DeclareKey, Clauses, NoClauses, Default, Case}
 
--- the type of the local that receives a caught exception's int; the list is empty if the clause
--- receives no int
+-- the type of the local that receives a caught exception's int; the list is empty if the clause receives no int
 abbrev pub caught_types : Option ℕ → List Ty
 caught_types None = []
 caught_types (Some n) = Int ∷ []
@@ -34,8 +33,7 @@ abbrev mutual
   clause_types (Default r js) = item_types js
   clause_types (Case e n r js cs) = caught_types n ++ (item_types js ++ clause_types cs)
 
--- the number of regions that a statement declares; an `open` of a key declares no region, since the
--- region belongs to its key
+-- the number of regions that a statement declares; an `open` of a key declares no region, since the region belongs to its key
 abbrev mutual
   pub declared_regions : Statement → ℕ
   declared_regions (Block r js) = suc (item_regions js)

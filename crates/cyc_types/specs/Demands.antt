@@ -1,6 +1,6 @@
 -- A record of demands states a condition for each kind of node of a typed tree that any such record restricts. Nodes of all other kinds
 -- satisfy the demands if their parts satisfy them. Each form of the language has one line in this file, shared by all records of demands.
--- The choice of demands as records is this project's own.
+-- Demands as records are this project's own choice.
 use Rattle.std.specs.Prelude.{ℕ, List, [], ◌∷◌, Option, Some, None}
 use Rattle.cyc_types.specs.declared.typed.PointerOperator.{PointerOperator}
 use Rattle.cyc_types.specs.TypedTrees.{Expression, Number, Load, AddressOfCell, NumberOfElements, FreeUnique, FreeKey, Call, Unary, Binary, Assign, Store, New, Dereference, Target, Member, Element, Placement, OnHeap, AsUnique}

@@ -1,4 +1,4 @@
--- The ranges of the numbers in a typed tree that later passes require. The choice of ranges is this project's own.
+-- The ranges of the numbers in a typed tree that later passes require. The ranges are this project's own choice.
 use Rattle.std.specs.Prelude.{◌≡◌, ℕ, suc, ◌+◌, ◌<◌, List, [], ◌∷◌, Option, Some, map, length, slice_get}
 use Rattle.cyc_types.specs.declared.typed.Callee.{Callee}
 use Rattle.cyc_types.specs.declared.typed.Callee.TheVariants as callees

@@ -30,22 +30,19 @@ is_outlived_by_live Lexical = true
 is_outlived_by_live Dynamic = false
 is_outlived_by_live Alias = false
 
--- says that b is the region of an open block or lexical scope, and that a was live when that scope
--- opened
+-- says that b is the region of an open block or lexical scope, and that a was live when that scope opened
 abbrev pub IsLiveAtOpening : List Region → List Scope → Region → Region → Type 0
 IsLiveAtOpening live [] a b = ⊥
 IsLiveAtOpening live (s ∷ earlier) a b =
     ((is_outlived_by_live s.kind ≡ true) × (b ≡ s.region) × (a ≢ Unique) × Contains (live_regions live earlier) a)
     ⊎ IsLiveAtOpening live earlier a b
 
--- says that a pair of regions is a generator of the outlives relation: a constraint, a scope's
--- pair, or the heap over any region
+-- says that a pair of regions is a generator of the outlives relation: a constraint, a scope's pair, or the heap over any region
 abbrev pub IsGiven : RegionContext → Region → Region → Type 0
 IsGiven c a b =
     ((a ≡ Heap) × (b ≢ Unique)) ⊎ (Contains c.written (a, b) ⊎ IsLiveAtOpening c.live c.opened a b)
 
--- THE OUTLIVES RELATION: the least reflexive and transitive relation that contains the pairs of
--- `IsGiven`
+-- THE OUTLIVES RELATION: the least reflexive and transitive relation that contains the pairs of `IsGiven`
 pub data OutlivesIn (c : RegionContext) : Region → Region → Type 0 where
   itself : (a : Region) → OutlivesIn c a a
   given : (a b : Region) → IsGiven c a b → OutlivesIn c a b

@@ -46,8 +46,7 @@ abbrev pub AreNotBelow : ℕ → List Demand → Type 0
 AreNotBelow n [] = Unit {0}
 AreNotBelow n (d ∷ ds) = ((d.kept ≡ true) ⊎ (n ≤ number_of d.code)) × AreNotBelow n ds
 
--- says that a fault is that of the broken demand with the lowest code; if several have that code, the
--- first one
+-- says that a fault is that of the broken demand with the lowest code; if several have that code, the first one
 abbrev pub IsFaultOf : List Demand → Fault → Type 0
 IsFaultOf ds f =
     (before : List Demand) × (d : Demand) × (after : List Demand) × (ds ≡ before ++ (d ∷ after)) × (d.kept ≡ false)

@@ -1,5 +1,4 @@
--- The mathematical view of the code's typed trees; the view omits the memory layout. The view of typed trees is this project's own
--- choice.
+-- The mathematical view of the code's typed trees; the view omits the memory layout. The view of typed trees is this project's own choice.
 use Rattle.std.specs.Prelude.{List, [], ◌∷◌, map, Option, None, Some, option_map}
 use Rattle.cyc_syntax.specs.Symbols.{place_of_span}
 use Rattle.cyc_types.specs.TypeView.{view_ty, view_value_type}

@@ -1,6 +1,5 @@
 -- Typed trees as mathematical values, for the rules and all later definitions. In a typed tree, names are resolved to numbers, each
--- conversion is an explicit node, and parentheses are removed. A node stores its source position if a later pass may report a fault
--- there.
+-- conversion is an explicit node, and parentheses are removed. A node stores its source position if a later pass may report a fault there.
 --
 -- The meaning of a typed tree depends neither on an environment of names nor on the types of operands. A typed tree has distinct nodes
 -- for the different uses of a variable (copy, move, peek), and for the kinds of an operator's operands. (The form of typed trees is this
@@ -35,15 +34,13 @@ mutual
     NullPointer : Expression
     -- the constant `heap_region`
     HeapRegion : Expression
-    -- the counter variable of an array `for`, numbered by the number of enclosing `for`s; a counter
-    -- is not assignable
+    -- the counter variable of an array `for`, numbered by the number of enclosing `for`s; a counter is not assignable
     Counter : (level : ℕ) → Expression
     -- reads a variable and leaves its value in place
     Copy : Lvalue → Ty → Expression
     -- reads a local that is a unique pointer or a key; the read leaves the local empty
     Move : Place → (number : ℕ) → Ty → Expression
-    -- reads a unique pointer in a local only to dereference or compare it; the local keeps the
-    -- pointer
+    -- reads a unique pointer in a local only to dereference or compare it; the local keeps the pointer
     Peek : Place → (number : ℕ) → Ty → Expression
     -- reads the memory cell that a pointer expression denotes
     Load : Dereference → Expression
@@ -59,15 +56,13 @@ mutual
     -- a function call, with the type of its result if the function returns one
     Call : Callee → Arguments → ValueType → Expression
     Unary : UnaryOperator → Expression → Expression
-    -- a chain of operands joined by left-associative operators, with the type of each intermediate
-    -- result
+    -- a chain of operands joined by left-associative operators, with the type of each intermediate result
     Binary : Expression → Operations → Ty → Expression
     -- An assignment to a variable or to a memory cell, with the type of the assignment's value. An assignment of a unique pointer or
     -- a key has no value.
     Assign : Lvalue → Converted → ValueType → Expression
     Store : Dereference → Converted → ValueType → Expression
-    -- `new` or `rnew`: allocates a new object; the node stores the type of the pointer to the
-    -- object
+    -- `new` or `rnew`: allocates a new object; the node stores the type of the pointer to the object
     New : Placement → Initial → Ty → Expression
 
   -- A memory cell reached through a pointer, with the type of its content.
@@ -115,8 +110,7 @@ mutual
     ThenTest : LogicalOperator → Expression → Operations → Operations
     -- an operation whose left operand is a pointer or `NULL`
     ThenPointer : PointerOperator → Expression → Operations → Operations
-    -- an operation whose left operand is a peek of a local; the local must not change while the right operand is
-    -- evaluated
+    -- an operation whose left operand is a peek of a local; the local must not change while the right operand is evaluated
     ThenPointerPeek : (number : ℕ) → PointerOperator → Expression → Operations → Operations
 
 abbrev pub type_of_place : Dereference → Ty
@@ -199,13 +193,11 @@ mutual
     -- declares a dynamic region, and the local that holds its key
     DeclareKey : (region number : ℕ) → Item
 
-  -- The clauses of a `catch`, each with the region of its items. A default clause is always the
-  -- last.
+  -- The clauses of a `catch`, each with the region of its items. A default clause is always the last.
   pub data Clauses : Type 0 where
     NoClauses : Clauses
     Default : (region : ℕ) → Items → Clauses
-    -- a `catch` clause for the exception with this number, with the local that receives the
-    -- exception's int, if any
+    -- a `catch` clause for the exception with this number, with the local that receives the exception's int, if any
     Case : (tag : ℕ) → (number : Option ℕ) → (region : ℕ) → Items → Clauses → Clauses
 
 -- ---- programs
@@ -223,8 +215,7 @@ pub record GlobalVariable : Type 0 where
 pub record StructType : Type 0 where
   -- the number of region parameters of a struct
   pub parameters : ℕ
-  -- the types of the struct's fields, in order; in these types, region parameter n is region
-  -- variable n
+  -- the types of the struct's fields, in order; in these types, region parameter n is region variable n
   pub fields : List Ty
 
 -- the signature of a function, as its callers know it
@@ -234,8 +225,7 @@ pub record Signature : Type 0 where
   pub parameters : List Ty
   -- the result type of a function; `None` for `void`
   pub result : Option Ty
-  -- the regions that must be live at a call, and the pairs of regions of which the first must
-  -- outlive the second
+  -- the regions that must be live at a call, and the pairs of regions of which the first must outlive the second
   pub effect : List Region
   pub constraints : List (Region × Region)
 
@@ -253,8 +243,7 @@ pub record Function : Type 0 where
   pub result : Option Ty
   -- the number of regions that the function's parameters name
   pub variables : ℕ
-  -- the regions that must be live at a call, and the pairs of regions of which the first must
-  -- outlive the second
+  -- the regions that must be live at a call, and the pairs of regions of which the first must outlive the second
   pub effect : List Region
   pub constraints : List (Region × Region)
   -- the types of the locals that the function's body declares
@@ -274,8 +263,7 @@ first_exception = 5
 -- a typed program; structs, globals and functions are numbered by their positions in these lists
 pub record Program : Type 0 where
   pub structs : List StructType
-  -- for each exception that the program declares, true if it carries an int; the first has the
-  -- number `first_exception`
+  -- for each exception that the program declares, true if it carries an int; the first has the number `first_exception`
   pub exceptions : List Bool
   pub globals : List GlobalVariable
   pub functions : List Function

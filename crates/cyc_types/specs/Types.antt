@@ -9,8 +9,7 @@ use Rattle.cyc_types.specs.declared.region.Region.TheVariants.{Heap, Unique, Var
 
 -- ---- regions: a test for equality, and the substitution of region variables
 
--- substitutes regions in a region: region variable n becomes the region at index n of the list, if
--- there is one
+-- substitutes regions in a region: region variable n becomes the region at index n of the list, if there is one
 abbrev pub substituted_region : List Region → Region → Region
 substituted_region regions Heap = Heap
 substituted_region regions Unique = Unique
@@ -41,15 +40,13 @@ pub data Ty : Type 0 where
   -- a struct type: the struct's number, and a region for each of its region parameters
   Struct : ℕ → List Region → Ty
 
--- the type of an expression: no value, a null pointer (whose type comes from the context), or a value of a
--- type
+-- the type of an expression: no value, a null pointer (whose type comes from the context), or a value of a type
 pub data ValueType : Type 0 where
   Void : ValueType
   Null : ValueType
   Value : Ty → ValueType
 
--- the type of a call, from the result type of its function; a call of a `void` function has no
--- value
+-- the type of a call, from the result type of its function; a call of a `void` function has no value
 abbrev pub result_type : Option Ty → ValueType
 result_type None = Void
 result_type (Some t) = Value t

@@ -12,8 +12,7 @@ use Rattle.cyc_types.specs.TypedTrees.{Dereference, Target, Member, Element, Pla
 use Rattle.cyc_types.specs.TypedTrees.{ThenCompute, ThenTest, ThenPointer, ThenPointerPeek, Side, VariableSide, CellSide, Statement, Block, Empty, Evaluate, Swap, If, While, Return, Break, Continue, Throw, Try, Items, NoItems}
 use Rattle.cyc_types.specs.TypedTrees.{MoreItems, Item, Execute, Declare, DeclareRegion, OpenRegion, DeclareAlias, DeclareKey, Clauses, NoClauses, Default, Case, Constant, Word, Null, GlobalVariable, Function, Program}
 
--- the weight of a unary operator; the conversion of a char to an int weighs nothing, because no
--- token spells it
+-- the weight of a unary operator; the conversion of a char to an int weighs nothing, because no token spells it
 abbrev pub unary_weight : UnaryOperator → ℕ
 unary_weight unary.Widen = 0
 unary_weight o = 1
@@ -124,8 +123,7 @@ abbrev mutual
   clauses_weight (Default r js) = 2 + items_weight js
   clauses_weight (Case e n r js cs) = 4 + caught_weight n + items_weight js + clauses_weight cs
 
--- the weight of a global's initial value and its `=`; the value 0 or null weighs nothing, because
--- the source need not write it
+-- the weight of a global's initial value and its `=`; the value 0 or null weighs nothing, because the source need not write it
 abbrev pub constant_weight : Constant → ℕ
 constant_weight (Word zero) = 0
 constant_weight (Word (suc n)) = 2

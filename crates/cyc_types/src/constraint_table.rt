@@ -20,8 +20,7 @@ pub(crate) struct Places {
     variables: Vec<Option<usize>>,
 }
 
-/// The outlives constraints, in their order, with a table of their positions. Contracts see this
-/// table as the list of constraints.
+/// The outlives constraints, in their order, with a table of their positions. Contracts see this table as the list of constraints.
 #[derive(Drop)]
 pub(crate) struct ConstraintTable {
     constraints: Vec<Constraint>,

@@ -9,8 +9,7 @@ use crate::region_list::RegionList;
 use smallvec::SmallVec;
 use std::alloc::{AllocError, Global};
 
-/// A constraint as written, together with all regions that its longer-lived region outlives according
-/// to the constraints.
+/// A constraint as written, together with all regions that its longer-lived region outlives according to the constraints.
 #[derive(Drop)]
 pub struct Constraint {
     pub longer: Region,
@@ -19,8 +18,7 @@ pub struct Constraint {
 }
 
 impl Constraint {
-    /// Returns a constraint with no outlived regions recorded yet; closing the constraints adds
-    /// them.
+    /// Returns a constraint with no outlived regions recorded yet; closing the constraints adds them.
     fn new(alloc: Global, longer: Region, shorter: Region) -> Constraint
         ensures longer { result.longer ≡ longer }
         ensures shorter { result.shorter ≡ shorter }
@@ -52,8 +50,7 @@ impl Constraint {
         Ok(())
     }
 
-    /// Adds all regions of `below` to the regions that the entry's longer-lived region outlives, if it
-    /// outlives `via`.
+    /// Adds all regions of `below` to the regions that the entry's longer-lived region outlives, if it outlives `via`.
     fn extend(&mut self, via: Region, below: &[Region]) -> Result<(), AllocError>
         ensures longer { OnOk result (self.new.longer ≡ self.old.longer) }
         ensures shorter { OnOk result (self.new.shorter ≡ self.old.shorter) }
@@ -139,8 +136,7 @@ fn unclosed(alloc: Global, written: &[(Region, Region)]) -> Result<Vec<Constrain
     Ok(constraints)
 }
 
-/// Returns the constraints, closed under transitivity: each entry records all regions that its
-/// region outlives.
+/// Returns the constraints, closed under transitivity: each entry records all regions that its region outlives.
 pub(crate) fn closed(
     alloc: Global,
     written: &[(Region, Region)],

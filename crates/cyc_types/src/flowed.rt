@@ -4,8 +4,7 @@ ghost use Rattle.cyc_types.specs.flow.Programs.{IsAllowedProgram};
 
 use crate::typed::TypedTree;
 
-/// A typed tree that satisfies the flow rules. The flow check creates this value, and the later passes
-/// take it as input.
+/// A typed tree that satisfies the flow rules. The flow check creates this value, and the later passes take it as input.
 #[derive(Drop)]
 pub struct Flowed {
     pub tree: TypedTree,

@@ -122,8 +122,7 @@ fn pointer_written(
     })
 }
 
-/// Returns the pointer type that applying the marks to the base type gives, from the innermost mark
-/// on.
+/// Returns the pointer type that applying the marks to the base type gives, from the innermost mark on.
 fn pointers_written(
     alloc: Global,
     names: &RegionNames,

@@ -50,8 +50,7 @@ impl Known {
     ghost use Rattle.cyc_types.specs.typing.DeclarationRules.{structs_of, is_among, region_numbers};
     ghost use Rattle.cyc_types.specs.inside.Namings.{first_regions};
 
-    /// Returns the names known in a program with these declarations, from the names of the heap, the unique region and
-    /// `main`.
+    /// Returns the names known in a program with these declarations, from the names of the heap, the unique region and `main`.
     pub fn new(
         alloc: Global,
         heap: usize,

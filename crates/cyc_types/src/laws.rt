@@ -1,5 +1,4 @@
-//! Laws of the definitions in `specs/`. Each function in this file has an empty body, and its contract states one
-//! law.
+//! Laws of the definitions in `specs/`. Each function in this file has an empty body, and its contract states one law.
 ghost use Rattle.std.specs.Prelude.{◌≡◌, ◌↔◌, ℕ, ◌+◌, ◌*◌, ◌≤◌, List, Some, Ok, Err, length, slice_get};
 ghost use Rattle.cyc_words.specs.declared.fault.Fault.{Fault};
 ghost use Rattle.cyc_syntax.specs.Trees.{Declaration};
@@ -26,8 +25,7 @@ pub fn typed_or_refused()
     ensures { (texts : List (List ℕ)) (tree : List Declaration) (p : Program) (f : Fault) → IsTypedProgram texts tree p → IsRefusedProgram texts tree f → ⊥ }
 {}
 
-/// The type checker returns a typed tree exactly if the rules derive it, and a fault exactly if the rules
-/// reject with that fault.
+/// The type checker returns a typed tree exactly if the rules derive it, and a fault exactly if the rules reject with that fault.
 pub fn checking_is_typing()
     ensures typed { (texts : List (List ℕ)) (tree : List Declaration) (p : Program) → (check_of texts tree ≡ Ok p) ↔ IsTypedProgram texts tree p }
     ensures refused { (texts : List (List ℕ)) (tree : List Declaration) (f : Fault) → (check_of texts tree ≡ Err f) ↔ IsRefusedProgram texts tree f }
@@ -43,8 +41,7 @@ pub fn one_flow_fault()
     ensures { (program : Program) (f g : Fault) → IsStoppedProgram program f → IsStoppedProgram program g → f ≡ g }
 {}
 
-/// The flow check succeeds exactly if the flow rules are satisfied, and returns a fault exactly if the flow rules
-/// reject with that fault.
+/// The flow check succeeds exactly if the flow rules are satisfied, and returns a fault exactly if the flow rules reject with that fault.
 pub fn flow_checking_is_flow()
     ensures kept { (program : Program) → (flow_of program ≡ Ok tt) ↔ IsAllowedProgram program }
     ensures refused { (program : Program) (f : Fault) → (flow_of program ≡ Err f) ↔ IsStoppedProgram program f }
@@ -65,14 +62,12 @@ pub fn typed_trees_are_no_heavier()
     ensures { (texts : List (List ℕ)) (tree : List Declaration) (p : Program) → IsTypedProgram texts tree p → program_weight p ≤ tree_weight tree }
 {}
 
-/// An `else` adds at least the weight of its statement minus one token, the weight of an empty
-/// statement.
+/// An `else` adds at least the weight of its statement minus one token, the weight of an empty statement.
 pub fn an_else_weighs_its_statement()
     ensures { (s : Statement) → statement_weight s ≤ 1 + else_weight s (statement_weight s) }
 {}
 
-/// A program weighs at least as much as each of its functions; each global weighs at least three tokens, and each function at
-/// least six.
+/// A program weighs at least as much as each of its functions; each global weighs at least three tokens, and each function at least six.
 pub fn programs_outweigh_their_parts()
     ensures function { (p : Program) (n : ℕ) (h : Function) → slice_get p.functions n ≡ Some h → function_weight h ≤ program_weight p }
     ensures declarations { (p : Program) → 3 * length p.globals + 6 * length p.functions ≤ program_weight p }

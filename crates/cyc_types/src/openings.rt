@@ -16,8 +16,7 @@ use crate::region_list::RegionList;
 use crate::scope::{Scope, is_outlived_by_live};
 use std::alloc::AllocError;
 
-/// Returns the index of the region's oldest open scope. The index is meaningless if the region has
-/// no open scope.
+/// Returns the index of the region's oldest open scope. The index is meaningless if the region has no open scope.
 fn opening_of(openings: &[usize], region: Region) -> usize
     ensures { result ≡ opening_of openings.now region }
 {
@@ -51,8 +50,7 @@ pub(crate) fn is_live_before(
     false
 }
 
-/// Returns true if one of `regions` is live while the `count` oldest scopes are open, not counting
-/// the unique region.
+/// Returns true if one of `regions` is live while the `count` oldest scopes are open, not counting the unique region.
 fn is_one_live_before(
     live: &RegionList,
     openings: &[usize],
@@ -94,8 +92,7 @@ fn is_above_live_before(
     }
 }
 
-/// Returns true if a path of the constraints and the open scopes leads from `a` to `b`, provided that all scopes
-/// are in order.
+/// Returns true if a path of the constraints and the open scopes leads from `a` to `b`, provided that all scopes are in order.
 ///
 /// A region that is live when a scope opens outlives the scope's region. A region that is not live when the scope opens outlives the
 /// scope's region only by constraints, since the scope's region is new.

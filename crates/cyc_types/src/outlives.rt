@@ -1,5 +1,4 @@
-//! The outlives relation between regions, computed from the constraints of a function and the open
-//! scopes.
+//! The outlives relation between regions, computed from the constraints of a function and the open scopes.
 ghost use Rattle.std.specs.Prelude.{◌≡◌, ◌≢◌, ◌↔◌, ◌||◌, ◌-◌, [], ◌∷◌, reverse, drop, IsTrue, IfOk, OnOk, OnErr, length, ◌<◌};
 ghost use Rattle.std.specs.List.{list_any};
 ghost use Rattle.std.specs.Option.{ForSome};
@@ -74,8 +73,7 @@ impl Outlives {
     /// Returns true if region `a` outlives region `b`.
     pub fn outlives(&self, a: Region, b: Region) -> bool
         ensures tested { result ≡ is_outliving self.now a b }
-        // If neither the constraints nor the scopes mention the unique region, the result decides the
-        // outlives relation.
+        // If neither the constraints nor the scopes mention the unique region, the result decides the outlives relation.
         ensures related { HasNoUnique self.now → (IsTrue result ↔ OutlivesIn self.now a b) }
     {
         self.is_outliving(a, b)
@@ -155,8 +153,7 @@ impl Outlives {
         b != Region::Unique && (self.leads(a, b) || self.leads(a, Region::Heap))
     }
 
-    /// Returns true if a path of the constraints and the open scopes leads from region `a` to
-    /// region `b`.
+    /// Returns true if a path of the constraints and the open scopes leads from region `a` to region `b`.
     fn leads(&self, a: Region, b: Region) -> bool
         ensures { result ≡ leads self.now.written self.now.live self.now.opened a b }
     {
@@ -225,8 +222,7 @@ fn is_above_live(
     is_above_one_of(constraints, live, a) || is_above_one_opened(constraints, scopes, a)
 }
 
-/// Returns true if a path of the constraints and the open scopes leads from region `a` to region
-/// `b`.
+/// Returns true if a path of the constraints and the open scopes leads from region `a` to region `b`.
 ///
 /// The scopes are visited from the oldest to the newest. Once all regions live at some scope outlive `b`, a later scope matters only if the
 /// later scope's own region outlives `b`. If a later scope's own region outlives `b`, all regions live at that later scope outlive `b` too.

@@ -129,8 +129,7 @@ fn pointer_for(
     })
 }
 
-/// Returns the pointer type that applying the marks to the base type gives, from the innermost mark
-/// on.
+/// Returns the pointer type that applying the marks to the base type gives, from the innermost mark on.
 fn pointers_for(
     alloc: Global,
     names: &mut RegionNames,
@@ -148,8 +147,7 @@ fn pointers_for(
     Ok(of_type)
 }
 
-/// Returns the type of a parameter, from the known structs and region names. Region names that the
-/// type declares are added.
+/// Returns the type of a parameter, from the known structs and region names. Region names that the type declares are added.
 fn type_for(
     alloc: Global,
     structs: &StructNames,

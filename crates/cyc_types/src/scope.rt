@@ -24,8 +24,7 @@ pub struct Scope {
     pub kind: Kind,
 }
 
-/// Returns true if the regions that are live when a scope of this kind opens outlive the scope's
-/// region.
+/// Returns true if the regions that are live when a scope of this kind opens outlive the scope's region.
 pub(crate) fn is_outlived_by_live(kind: Kind) -> bool
     ensures { result ≡ is_outlived_by_live kind }
 {

@@ -17,8 +17,7 @@ struct Entry {
     parameters: usize,
 }
 
-/// The declared structs in order, numbered by their positions. If a name is declared twice, the first
-/// declaration counts.
+/// The declared structs in order, numbered by their positions. If a name is declared twice, the first declaration counts.
 #[derive(Drop)]
 pub struct StructNames {
     entries: Vec<Entry>,
@@ -69,8 +68,7 @@ impl StructNames {
         }
     }
 
-    /// Returns the number of the first struct with the given name, or the number of all structs if
-    /// no struct has the name.
+    /// Returns the number of the first struct with the given name, or the number of all structs if no struct has the name.
     #[tactic(auto, using(crate::proofs::StructLemmas::number_found, crate::proofs::StructLemmas::number_lost))]
     pub fn number(&self, name: usize) -> usize
         ensures { result ≡ struct_number self.now name }
@@ -81,8 +79,7 @@ impl StructNames {
         }
     }
 
-    /// Returns the number of region parameters of the struct with the given name, if the struct
-    /// exists.
+    /// Returns the number of region parameters of the struct with the given name, if the struct exists.
     #[tactic(auto, using(crate::proofs::StructLemmas::parameters_found, crate::proofs::StructLemmas::parameters_lost))]
     pub fn parameters(&self, name: usize) -> Option<usize>
         ensures { result ≡ parameters_among self.now name }
@@ -93,8 +90,7 @@ impl StructNames {
         }
     }
 
-    /// Declares a struct with the given number of region parameters. A lookup still finds an earlier struct with
-    /// the same name.
+    /// Declares a struct with the given number of region parameters. A lookup still finds an earlier struct with the same name.
     pub fn declare(&mut self, name: usize, parameters: usize) -> Result<(), AllocError>
         ensures { OnOk result (self.new ≡ self.old ++ record { name = name; parameters = parameters } ∷ []) }
     {

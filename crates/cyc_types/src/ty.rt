@@ -38,8 +38,7 @@ impl Ty {
     ghost use Rattle.cyc_types.specs.Types.{substituted_ty, words_of};
     ghost use Rattle.cyc_types.specs.TypeView.{view_ty};
 
-    /// Returns true if two types are equal in all parts: pointer marks, regions and structs, at
-    /// each level.
+    /// Returns true if two types are equal in all parts: pointer marks, regions and structs, at each level.
     pub fn equals(&self, other: &Ty) -> bool
         ensures { IsTrue result ↔ (view_ty self.now ≡ view_ty other.now) }
     {
@@ -138,8 +137,7 @@ impl Ty {
         })
     }
 
-    /// Returns the number of words of a variable of this type: three for a fat pointer, otherwise
-    /// one.
+    /// Returns the number of words of a variable of this type: three for a fat pointer, otherwise one.
     pub fn words(&self) -> u32
         ensures { result ≡ words_of (view_ty self.now) }
     {

@@ -1,5 +1,4 @@
-//! The typed tree. The type checker builds the typed tree from an abstract syntax tree, and every
-//! later pass reads it.
+//! The typed tree. The type checker builds the typed tree from an abstract syntax tree, and every later pass reads it.
 //!
 //! In a typed tree, each name is resolved to a number. A local has its number in its function: parameters first, then declarations in
 //! order. A struct, an exception, a global and a function have their numbers in the program. The nodes of a typed tree distinguish the uses
@@ -7,8 +6,7 @@
 //! a typed tree needs neither an environment of names nor the types of operands. Chains of operators are lists, so a typed tree is no
 //! deeper than its syntax tree. Rare and large parts of nodes are in boxes, so that a node is small.
 //!
-//! A node of a typed tree stores a source position if a later pass may report a fault there, or if the
-//! node's code can end the execution.
+//! A node of a typed tree stores a source position if a later pass may report a fault there, or if the node's code can end the execution.
 
 use crate::{Region, Ty};
 use cyc_syntax::Name;
@@ -132,8 +130,7 @@ pub enum Expr {
     NullPointer,
     /// `heap_region`
     HeapRegion,
-    /// The counter variable of an array `for`, numbered by the number of enclosing `for`s; a
-    /// counter is not assignable.
+    /// The counter variable of an array `for`, numbered by the number of enclosing `for`s; a counter is not assignable.
     Counter {
         level: usize,
     },
@@ -148,8 +145,7 @@ pub enum Expr {
         number: usize,
         of_type: Ty,
     },
-    /// Reads a unique pointer in a local only to dereference or compare it; the local keeps the
-    /// pointer.
+    /// Reads a unique pointer in a local only to dereference or compare it; the local keeps the pointer.
     Peek {
         span: Span,
         number: usize,
@@ -164,8 +160,7 @@ pub enum Expr {
         place: Lvalue,
         of_type: Ty,
     },
-    /// The address of a memory cell reached through a pointer, with the type of the resulting
-    /// pointer.
+    /// The address of a memory cell reached through a pointer, with the type of the resulting pointer.
     AddressOfCell {
         place: Box<Dereference>,
         of_type: Ty,
@@ -182,8 +177,7 @@ pub enum Expr {
     FreeKey {
         key: Box<Expr>,
     },
-    /// A call, with the source position of the function's name, and the type of the result if the
-    /// function has one.
+    /// A call, with the source position of the function's name, and the type of the result if the function has one.
     Call {
         span: Span,
         callee: Callee,
@@ -201,8 +195,7 @@ pub enum Expr {
         rest: Vec<Operation>,
         of_type: Ty,
     },
-    /// The assignment to a variable, with the type of the assignment's value. An assignment of a unique pointer or a key
-    /// has no value.
+    /// The assignment to a variable, with the type of the assignment's value. An assignment of a unique pointer or a key has no value.
     Assign {
         target: Lvalue,
         value: Box<Converted>,
@@ -214,8 +207,7 @@ pub enum Expr {
         value: Box<Converted>,
         result: ValueType,
     },
-    /// `new` or `rnew`: allocates a new object; the node stores the source position and the type of
-    /// the pointer to the object.
+    /// `new` or `rnew`: allocates a new object; the node stores the source position and the type of the pointer to the object.
     New {
         span: Span,
         placement: Placement,
@@ -235,8 +227,7 @@ pub enum Dereference {
         pointer: Expr,
         of_type: Ty,
     },
-    /// `e->f`, with the number of the struct, the number of the field, and the source position of
-    /// f.
+    /// `e->f`, with the number of the struct, the number of the field, and the source position of f.
     Member {
         span: Span,
         kind: Kind,
@@ -290,8 +281,7 @@ pub enum Initial {
     },
 }
 
-/// An expression whose value is converted after its evaluation; the target kind may equal the
-/// source kind.
+/// An expression whose value is converted after its evaluation; the target kind may equal the source kind.
 #[cycle(expression)]
 #[derive(Drop)]
 pub struct Converted {
@@ -310,8 +300,7 @@ pub enum Operation {
         operator: Operator,
         operand: Expr,
     },
-    /// `&&` or `||`: if the left operand's value decides the result, the right operand is not
-    /// evaluated.
+    /// `&&` or `||`: if the left operand's value decides the result, the right operand is not evaluated.
     Test {
         operator: LogicalOperator,
         operand: Expr,
@@ -321,8 +310,7 @@ pub enum Operation {
         operator: PointerOperator,
         operand: Expr,
     },
-    /// An operator whose left operand is a peek of a local; the local must not change while the right operand is
-    /// evaluated.
+    /// An operator whose left operand is a peek of a local; the local must not change while the right operand is evaluated.
     PointerPeek {
         number: usize,
         operator: PointerOperator,
@@ -347,8 +335,7 @@ pub enum Stmt {
         items: Vec<Item>,
     },
     Empty,
-    /// An expression statement, with the source position of its first token; a swap also stores the
-    /// position of its first token.
+    /// An expression statement, with the source position of its first token; a swap also stores the position of its first token.
     Evaluate {
         span: Span,
         value: Expr,
@@ -358,8 +345,7 @@ pub enum Stmt {
         left: Side,
         right: Side,
     },
-    /// An `if` statement, with the source position of `if`. If no `else` is written, the `otherwise`
-    /// statement is empty.
+    /// An `if` statement, with the source position of `if`. If no `else` is written, the `otherwise` statement is empty.
     If {
         span: Span,
         condition: Expr,
@@ -379,15 +365,13 @@ pub enum Stmt {
     },
     Break,
     Continue,
-    /// Throws the exception with this number, and an int if the exception has one. The source
-    /// position is that of `throw`.
+    /// Throws the exception with this number, and an int if the exception has one. The source position is that of `throw`.
     Throw {
         span: Span,
         tag: usize,
         value: Option<Expr>,
     },
-    /// A `try` statement with the clauses of its `catch` and the default clause, if there is one. The
-    /// source position is that of `try`.
+    /// A `try` statement with the clauses of its `catch` and the default clause, if there is one. The source position is that of `try`.
     Try {
         span: Span,
         body: Box<Stmt>,
@@ -404,8 +388,7 @@ pub struct Body {
     pub items: Vec<Item>,
 }
 
-/// A `catch` clause for the exception with this number, with the local that receives the
-/// exception's int, if any.
+/// A `catch` clause for the exception with this number, with the local that receives the exception's int, if any.
 #[cycle(statement)]
 #[derive(Drop)]
 pub struct Clause {
@@ -444,8 +427,7 @@ pub enum Item {
         span: Span,
         key: usize,
     },
-    /// Declares a local that shares another local's unique object to the end of the block; the position is that of the
-    /// other local's name.
+    /// Declares a local that shares another local's unique object to the end of the block; the position is that of the other local's name.
     Alias {
         region: usize,
         number: usize,
@@ -453,8 +435,7 @@ pub enum Item {
         span: Span,
         source: usize,
     },
-    /// Declares a dynamic region, with the source position of its name, and the local that holds
-    /// its key.
+    /// Declares a dynamic region, with the source position of its name, and the local that holds its key.
     DynamicRegion {
         span: Span,
         region: usize,
@@ -482,8 +463,7 @@ pub struct Global {
 pub struct StructType {
     /// The number of region parameters of the struct.
     pub parameters: usize,
-    /// The types of the struct's fields, in order. In these types, region parameter n is region
-    /// variable n.
+    /// The types of the struct's fields, in order. In these types, region parameter n is region variable n.
     pub fields: Vec<Ty>,
 }
 
@@ -514,8 +494,7 @@ pub struct Function {
     pub end: Span,
 }
 
-/// A typed program, in which all names are resolved and all types agree. Structs, globals and functions are numbered by their
-/// positions.
+/// A typed program, in which all names are resolved and all types agree. Structs, globals and functions are numbered by their positions.
 #[derive(Drop)]
 pub struct TypedTree {
     pub structs: Vec<StructType>,

@@ -1,5 +1,4 @@
--- Lemmas about values that are passed on after their demands were settled, and about the nodes that
--- contain these values.
+-- Lemmas about values that are passed on after their demands were settled, and about the nodes that contain these values.
 use Rattle.std.proofs.Common.{◌≡◌, Bool, true, false, cond, nat_lt, Option, Some, None, refl, sym, ap, ◌∙◌}
 use Rattle.std.specs.declared.boxed.Box.{Box}
 use Rattle.std.specs.declared.alloc.Global.{Global}
@@ -31,8 +30,7 @@ reached_is r w h =
     ∙ ap (λ d. reached_after (settled None w.asked) d r.value.region) h.cell
     ∙ ap (reached_after (settled None w.asked) w.cell) h.region
 
--- If a fault is known, the result is the same for any value, because a fault is returned instead of
--- the value.
+-- If a fault is known, the result is the same for any value, because a fault is returned instead of the value.
 refused_alike : (known : Option Fault) (f : Fault) (a b : typed.Expression) → unless (lesser known f) a ≡ unless (lesser known f) b
 refused_alike None f a b = refl
 refused_alike (Some e) f a b = by_test (nat_lt (number_of f.code) (number_of e.code))

@@ -7,8 +7,7 @@ use Rattle.cyc_types.specs.Rules.{Demand, fault_of, lesser, noted, settled}
 use Rattle.cyc_types.proofs.RuleLaws.{settled_append}
 use Rattle.cyc_typing.specs.inside.Forms.{merged}
 
--- Settling further demands after demands that are already settled gives the same fault as settling
--- all of them at once.
+-- Settling further demands after demands that are already settled gives the same fault as settling all of them at once.
 pub settled_after : (known : Option Fault) (ds es : List Demand) → known ≡ settled None ds → settled None (ds ++ es) ≡ settled known es
 settled_after known ds es h = settled_append None ds es ∙ ap (λ o. settled o es) (sym h)
 

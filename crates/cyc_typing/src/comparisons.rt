@@ -24,8 +24,7 @@ pub(crate) enum Comparison {
     OfInts {
         operator: Operator,
     },
-    /// A comparison of pointers. If the left operand peeks at a local, the local must not change
-    /// while the right operand is evaluated.
+    /// A comparison of pointers. If the left operand peeks at a local, the local must not change while the right operand is evaluated.
     OfPointers {
         peeked: Option<usize>,
         operator: PointerOperator,
@@ -109,8 +108,7 @@ fn is_compared_live(scope: &Scope<'_>, value: Given<'_>, other: Given<'_>) -> bo
     }
 }
 
-/// Checks that two values can be compared for equality; the source positions are those of the
-/// values.
+/// Checks that two values can be compared for equality; the source positions are those of the values.
 pub(crate) fn equality_wanted(
     scope: &Scope<'_>,
     left: Given<'_>,

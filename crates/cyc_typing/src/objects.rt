@@ -22,8 +22,7 @@ use cyc_words::{Code, Span};
 use std::alloc::{AllocError, Global};
 use std::rc::Rc;
 
-/// The region in which an object is allocated, the typed placement node, and the demands on the
-/// placement.
+/// The region in which an object is allocated, the typed placement node, and the demands on the placement.
 #[derive(Drop)]
 pub struct Placed {
     pub settled: Settled,
@@ -63,8 +62,7 @@ pub fn as_unique(alloc: Global) -> Result<Box<Placed>, Stop>
     )?)
 }
 
-/// Returns the placement of an object in the region of a handle; `span` is the handle's source
-/// position.
+/// Returns the placement of an object in the region of a handle; `span` is the handle's source position.
 #[inline(never)]
 pub fn by_handle(
     scope: &Scope<'_>,
@@ -104,8 +102,7 @@ fn plain(alloc: Global, kind: Kind, value: Box<typed::Expr>) -> Result<Box<Initi
     boxed_initial(alloc, Initial::Plain { kind, value })
 }
 
-/// Returns the initial content of an object that consists of one value; `span` is the value's
-/// source position.
+/// Returns the initial content of an object that consists of one value; `span` is the value's source position.
 #[inline(never)]
 pub fn plain_made(alloc: Global, span: Span, value: Box<typed::Expr>) -> Result<Box<Made>, Stop>
     ensures { GivesOne IsMade result (Ok (plain_made (place_of_span span) (view_boxed value))) }
@@ -255,8 +252,7 @@ fn create(
     new(alloc, span, placement, initial, of_type)
 }
 
-/// Settles the demands of a new object and returns the expression that makes it; `span` is the
-/// position of the expression.
+/// Settles the demands of a new object and returns the expression that makes it; `span` is the position of the expression.
 pub fn created(
     alloc: Global,
     span: Span,

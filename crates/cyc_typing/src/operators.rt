@@ -26,8 +26,7 @@ use cyc_types::{Ty, typed};
 use cyc_words::{Code, Span};
 use std::alloc::Global;
 
-/// The left operand of an operator: the source position where its chain begins, the local that it
-/// peeks at, and its type.
+/// The left operand of an operator: the source position where its chain begins, the local that it peeks at, and its type.
 #[derive(Clone, Copy)]
 pub struct Left<'a> {
     pub span: Span,
@@ -166,8 +165,7 @@ fn join_tests(
     Ok(Ty::Int)
 }
 
-/// Checks the operands of a sum: the left operand is an int or a fat pointer that allows arithmetic, and the right
-/// operand is an int.
+/// Checks the operands of a sum: the left operand is an int or a fat pointer that allows arithmetic, and the right operand is an int.
 fn sum_wanted(left: Given<'_>, span: Span, right: Given<'_>, right_span: Span) -> Result<(), Stop>
     ensures { Ends result (settled None (demand codes.TypeMismatch (place_of_span span)
         (is_int (view_given left.entry) || is_value is_movable (view_given left.entry))

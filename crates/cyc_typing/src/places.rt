@@ -1,5 +1,4 @@
-//! Checks variables and memory cells reached through pointers, both as lvalues and as the values in
-//! them.
+//! Checks variables and memory cells reached through pointers, both as lvalues and as the values in them.
 ghost use Rattle.std.specs.Prelude.{◌≡◌, [], ◌∷◌, map, option_map, is_some, None, Ok, IfOk};
 ghost use Rattle.cyc_syntax.specs.inside.TreeView.{place_of_span, view_name};
 ghost use Rattle.cyc_types.specs.TypeView.{view_ty, view_value_type};
@@ -28,8 +27,7 @@ use cyc_words::{Code, Span};
 use std::alloc::{AllocError, Global};
 use std::rc::Rc;
 
-/// A memory cell reached through a pointer, with the region that contains the cell and the demands
-/// on its use as an lvalue.
+/// A memory cell reached through a pointer, with the region that contains the cell and the demands on its use as an lvalue.
 #[derive(Drop)]
 pub struct Reached {
     pub settled: Settled,
@@ -169,8 +167,7 @@ pub fn pointed(scope: &Scope<'_>, span: Span, value: Box<typed::Expr>) -> Result
     )?)
 }
 
-/// Returns the memory cell of `e[i]`; the source positions are those of e and i. A char may be used
-/// as i.
+/// Returns the memory cell of `e[i]`; the source positions are those of e and i. A char may be used as i.
 #[inline(never)]
 pub fn indexed(
     scope: &Scope<'_>,
@@ -215,8 +212,7 @@ fn find_field(fields: &[Field], name: usize) -> (usize, Option<&Ty>)
     (fields.len(), None)
 }
 
-/// Returns the type of a field in a struct with the given region arguments; for an unknown field,
-/// returns the type int.
+/// Returns the type of a field in a struct with the given region arguments; for an unknown field, returns the type int.
 fn field_type(alloc: Global, arguments: &[Region], known: Option<&Ty>) -> Result<Ty, AllocError>
     ensures { IfOk result (λ t. view_ty t ≡ field_type arguments.now (option_map (λ k. view_ty k.now) known.entry)) }
 {
@@ -271,8 +267,7 @@ pub fn selected(
 
 // ---- the uses of a cell
 
-/// Demands that the content of a memory cell may be read; `span` is the source position of the
-/// cell's expression.
+/// Demands that the content of a memory cell may be read; `span` is the source position of the cell's expression.
 fn content_wanted(so_far: &mut Settled, of_type: &Ty, span: Span)
     ensures { so_far.new.known ≡ settled so_far.old.known (content_demanded (view_ty of_type.now) (place_of_span span)) }
 {
@@ -435,8 +430,7 @@ fn assignment(alloc: Global, side: Side, value: Box<typed::Expr>) -> Result<Box<
     store(alloc, side, value, given)
 }
 
-/// Checks and returns the assignment of a value to an lvalue; `span` is the value's source
-/// position.
+/// Checks and returns the assignment of a value to an lvalue; `span` is the value's source position.
 #[inline(never)]
 pub fn assigned(
     scope: &Scope<'_>,

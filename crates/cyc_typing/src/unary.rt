@@ -96,8 +96,7 @@ fn free(alloc: Global, pointer: Box<typed::Expr>) -> Result<Box<typed::Expr>, St
     boxed(alloc, typed::Expr::FreeUnique { pointer })
 }
 
-/// Checks and returns the expression that frees a unique pointer; `span` is the pointer's source
-/// position.
+/// Checks and returns the expression that frees a unique pointer; `span` is the pointer's source position.
 #[inline(never)]
 pub fn freed(alloc: Global, span: Span, pointer: Box<typed::Expr>) -> Result<Box<typed::Expr>, Stop>
     ensures { Gives view_boxed result (run (freed (place_of_span span) (view_boxed pointer))) }

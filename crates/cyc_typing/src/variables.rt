@@ -1,5 +1,4 @@
-//! The meaning of names in expressions: the value that a name reads, the lvalue that it denotes, and
-//! the key that is freed.
+//! The meaning of names in expressions: the value that a name reads, the lvalue that it denotes, and the key that is freed.
 ghost use Rattle.std.specs.Prelude.{◌≡◌, [], ◌∷◌, None, Ok};
 ghost use Rattle.cyc_syntax.specs.inside.TreeView.{place_of_span, view_name};
 ghost use Rattle.cyc_words.specs.declared.fault.Code.TheVariants as codes;
@@ -81,8 +80,7 @@ fn peeked(alloc: Global, span: Span, number: usize, of_type: &Ty) -> Result<Box<
     )
 }
 
-/// Returns the expression that reads a variable. Reading a local that is a unique pointer or a key
-/// leaves the local empty.
+/// Returns the expression that reads a variable. Reading a local that is a unique pointer or a key leaves the local empty.
 fn variable_read(alloc: Global, target: Lvalue, of_type: &Ty) -> Result<Box<typed::Expr>, Stop>
     ensures { Gives view_boxed result (Ok (variable_read (view_lvalue target) (view_ty of_type.now))) }
 {

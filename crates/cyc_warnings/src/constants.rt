@@ -51,8 +51,7 @@ fn constant_within(expression: &Expr, levels: u32) -> Option<u32> {
     }
 }
 
-/// Returns true if the value of each of these operators can be computed; `computed` handles no
-/// conditions.
+/// Returns true if the value of each of these operators can be computed; `computed` handles no conditions.
 fn are_worked_out(operations: &[Operation]) -> bool {
     for operation in operations {
         if is_condition(operation.operator) {
@@ -112,8 +111,7 @@ fn computed(operator: BinaryOperator, left: u32, right: u32) -> Option<u32> {
     }
 }
 
-/// Returns true if a shift count is a constant that is negative or not less than the width of an
-/// int.
+/// Returns true if a shift count is a constant that is negative or not less than the width of an int.
 pub(crate) fn is_past_width(expression: &Expr) -> bool {
     is_more_than(expression, WIDTH - 1)
 }

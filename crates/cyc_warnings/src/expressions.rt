@@ -69,8 +69,7 @@ fn is_quotient(operations: &[Operation]) -> bool {
     }
 }
 
-/// Returns true if the operand of a minus sign begins with another minus sign directly after the
-/// first.
+/// Returns true if the operand of a minus sign begins with another minus sign directly after the first.
 fn is_double(span: Span, operand: &Expr) -> bool {
     match minus_of(operand) {
         Some(second) => is_next(span, second),
@@ -168,8 +167,7 @@ fn use_of_prefix(operator: PrefixOperator) -> Use {
     }
 }
 
-/// Returns the position of a bitwise operator of whose operands one is a comparison without parentheses and another is not a
-/// truth value.
+/// Returns the position of a bitwise operator of whose operands one is a comparison without parentheses and another is not a truth value.
 fn loose_bits(first: &Expr, rest: &[Operation]) -> Option<Span> {
     let mut place = None;
     let mut is_other = !is_truth(first);
@@ -194,8 +192,7 @@ fn most_elements(element: Option<Shape>) -> u32 {
     }
 }
 
-/// Returns the type of the result of a chain of operators: for a sum, the type of its first value,
-/// and int for other operators.
+/// Returns the type of the result of a chain of operators: for a sum, the type of its first value, and int for other operators.
 fn shape_of_result(first: Option<Shape>, rest: &[Operation]) -> Option<Shape> {
     match rest.last() {
         Some(operation) if is_sum(operation.operator) => match first {
@@ -478,8 +475,7 @@ impl Finder {
         }
     }
 
-    /// Examines the first postfix operator, if it is an index of a local whose array length may be
-    /// known.
+    /// Examines the first postfix operator, if it is an index of a local whose array length may be known.
     fn look_at_first(&mut self, base: &Expr, postfixes: &[Postfix]) {
         if let Expr::Variable { name } = base {
             if let Some(Postfix::Index { index }) = postfixes.first() {
@@ -498,8 +494,7 @@ impl Finder {
         }
     }
 
-    /// Examines an index of the local with number `local`, which was declared with `length`
-    /// elements.
+    /// Examines an index of the local with number `local`, which was declared with `length` elements.
     fn look_at_number(&mut self, local: usize, length: u32, index: &Expr) {
         if let Some(value) = constant_of(index) {
             if value >= length {
@@ -566,8 +561,7 @@ impl Finder {
         }
     }
 
-    /// Examines the right operand of `||` or `&&`, and also the left operand if the operator is the first of a
-    /// chain.
+    /// Examines the right operand of `||` or `&&`, and also the left operand if the operator is the first of a chain.
     fn look_at_truths(&mut self, left: Option<&Expr>, operand: &Expr) {
         if let Some(left) = left {
             if is_no_truth(left) {
@@ -593,8 +587,7 @@ impl Finder {
     }
 }
 
-/// Returns true if a minus sign at this source position is directly followed by the minus sign with which
-/// its operand begins.
+/// Returns true if a minus sign at this source position is directly followed by the minus sign with which its operand begins.
 fn is_added(span: Span, operand: &Expr) -> bool {
     match leading_minus(operand) {
         Some(second) => is_next(span, second),

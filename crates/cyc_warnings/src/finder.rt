@@ -1,5 +1,4 @@
-//! This file has the state of the traversal of a program: the meaning of names, the uses of locals,
-//! and the warnings found.
+//! This file has the state of the traversal of a program: the meaning of names, the uses of locals, and the warnings found.
 use crate::known::Known;
 use crate::locals::{Local, Locals, Use};
 use crate::shapes::{OTHER, Shape};

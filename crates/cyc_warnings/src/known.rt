@@ -1,5 +1,4 @@
-//! This file has the meaning of names: the declarations of a program and the locals in scope, each found in
-//! constant time.
+//! This file has the meaning of names: the declarations of a program and the locals in scope, each found in constant time.
 use crate::shapes::Shape;
 use cyc_syntax::{Declaration, Member, ParameterList, Tree, WrittenType};
 use std::alloc::Global;
@@ -50,8 +49,7 @@ pub(crate) struct Known {
     locals: Vec<usize>,
     /// The fields of all structs; the fields of one struct are adjacent.
     fields: Vec<Field>,
-    /// For each parameter, true if the parameter is a char; the parameters of one function are
-    /// adjacent.
+    /// For each parameter, true if the parameter is a char; the parameters of one function are adjacent.
     parameters: Vec<bool>,
     /// The names of the locals in scope, the newest name last.
     bindings: Vec<Binding>,

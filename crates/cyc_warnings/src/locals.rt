@@ -96,8 +96,7 @@ pub(crate) struct Suspect {
     pub(crate) local: usize,
 }
 
-/// The locals of a function by their numbers, and the array indices that are out of bounds unless their
-/// locals are changed.
+/// The locals of a function by their numbers, and the array indices that are out of bounds unless their locals are changed.
 #[derive(Drop)]
 pub(crate) struct Locals {
     pub(crate) all: Vec<Local>,

@@ -55,8 +55,7 @@ pub(crate) fn span_of_item(item: &Item) -> Span {
     }
 }
 
-/// Returns the source position of the word that shows how an item leaves its block: its first word, or the brace that
-/// ends a block in it.
+/// Returns the source position of the word that shows how an item leaves its block: its first word, or the brace that ends a block in it.
 pub(crate) fn span_of_leaving(item: &Item) -> Span {
     match item {
         Item::Statement {
@@ -71,8 +70,7 @@ pub(crate) fn is_next(first: Span, second: Span) -> bool {
     first.line == second.line && first.column.saturating_add(1) == second.column
 }
 
-/// Returns the source position of the single minus sign with which an expression begins, if it
-/// does.
+/// Returns the source position of the single minus sign with which an expression begins, if it does.
 pub(crate) fn leading_minus(expression: &Expr) -> Option<Span> {
     match expression {
         Expr::Prefixed {

@@ -21,8 +21,7 @@ pub(crate) enum Home {
     Other,
 }
 
-/// The shape of a type: its base, the number of its pointer signs, and the kind and region of the
-/// last pointer sign.
+/// The shape of a type: its base, the number of its pointer signs, and the kind and region of the last pointer sign.
 #[derive(Clone, Copy)]
 pub(crate) struct Shape {
     pub(crate) base: Base,
@@ -89,8 +88,7 @@ impl Shape {
         matches!(self.home, Home::Unique)
     }
 
-    /// Returns the shape of a pointer's target; the kind of the target's own pointer sign is
-    /// unknown.
+    /// Returns the shape of a pointer's target; the kind of the target's own pointer sign is unknown.
     pub(crate) fn target(self) -> Option<Shape> {
         if self.marks == 0 {
             return None;

@@ -230,8 +230,7 @@ impl Finder {
         }
     }
 
-    /// Examines the condition of the loop at this source position, and tests if the loop's body is
-    /// empty.
+    /// Examines the condition of the loop at this source position, and tests if the loop's body is empty.
     fn look_at_head(&mut self, span: Span, condition: &Expr, body: &Stmt) {
         let before = self.effects;
         self.look_at_condition(span, condition);

@@ -28,8 +28,7 @@ pub enum Warning {
     OrderChain,
     /// A constant operand of a logical operator, as in `x == 3 || 4`.
     ConstantOperand,
-    /// A comparison as an operand of a bitwise operator, which binds less tightly, as in `f & 1 ==
-    /// 0`.
+    /// A comparison as an operand of a bitwise operator, which binds less tightly, as in `f & 1 == 0`.
     ComparedFirst,
     /// A division by zero, as in `x / 0`.
     DivisionByZero,

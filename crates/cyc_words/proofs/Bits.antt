@@ -53,8 +53,7 @@ in_either a b j is = elim (cases_lt (bit_at a j) 1) [
     other : (x y : ℕ) → x < 1 → max x y ≡ 1 → y ≡ 1
     other x y none e = omega (arith, none, e)
 
--- If a word has a set bit below a position and a set bit at the position, then the word minus one has a
--- set bit at the position too.
+-- If a word has a set bit below a position and a set bit at the position, then the word minus one has a set bit at the position too.
 pub higher_bit : (i j x : ℕ) → i < j → bit_at x i ≡ 1 → bit_at x j ≡ 1 → bit_at (x - 1) j ≡ 1
 higher_bit zero zero x below low high = absurd (omega (arith, below))
 higher_bit zero (suc j) x below low high =

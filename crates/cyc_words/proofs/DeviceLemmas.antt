@@ -57,8 +57,7 @@ TakesText-fails a b xs ys (Ok v) err h = cc
 TakesText-fails a b xs ys (Err e) err h =
     (h.0, IsPrefix-trans h.0 xs (xs ++ ys) h.1 (IsPrefix-append xs ys), h.2)
 
--- If a device takes the bytes before a part of a text and then fails in this part, then it fails in
--- the complete text.
+-- If a device takes the bytes before a part of a text and then fails in this part, then it fails in the complete text.
 pub TakesText_exit : {A E : Type 0} (a b c : Option (List ℕ)) (xs ys more : List ℕ) (r : Result A E) → IsErr r → Appends a b xs → AppendsPrefix b c ys → TakesText a (xs ++ (ys ++ more)) r c
 TakesText_exit a b c xs ys more (Ok v) err taken then = cc
 TakesText_exit a b c xs ys more (Err e) err taken then = (
@@ -74,8 +73,7 @@ TakesText_byte_exit a b c text i r err taken kept =
     let P : List ℕ → Type 0 = λ t. TakesText a t r c in
     subst P (take-append-drop i text) (TakesText_exit a b c (take i text) [] (drop i text) r err taken nothing)
 
--- If a device fails in a part after the first i of several parts, then it fails in the
--- concatenation of the parts.
+-- If a device fails in a part after the first i of several parts, then it fails in the concatenation of the parts.
 pub TakesText_part_exit : {X A E : Type 0} (f : X → List ℕ) (a b c : Option (List ℕ)) (parts : List X) (i : ℕ) (d : X) (r : Result A E) → i < length parts → IsErr r → Appends a b (flat_map f (take i parts)) → AppendsPrefix b c (f (get_or parts i d)) → TakesText a (flat_map f parts) r c
 TakesText_part_exit {X} f a b c parts i d r below err taken then =
     let split : flat_map f (take i parts) ++ (f (get_or parts i d) ++ flat_map f (drop (suc i) parts)) ≡ flat_map f parts =

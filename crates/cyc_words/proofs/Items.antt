@@ -1,5 +1,4 @@
--- This file is about the item at an index of a list, after the list was appended to, updated or
--- mapped.
+-- This file is about the item at an index of a list, after the list was appended to, updated or mapped.
 use Rattle.std.proofs.Common.{◌≡◌, ℕ, zero, suc, ◌<◌, List, [], ◌∷◌, length, None, Some, slice_get, arith, Option, ◌++◌, ◌+◌, ap, ◌∙◌, subst, ◌-◌, length-append, refl, sym, inl, inr, get_or, ◌≤◌, Bool, true, replicate, false, set, map}
 use Rattle.std.specs.Prelude.{slice_index_or, ◌⊎◌, slice_index, ◌≢◌}
 use Rattle.std.proofs.lemmas.Grind.{common_steps}

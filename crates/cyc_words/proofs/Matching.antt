@@ -1,5 +1,4 @@
--- This file is about how a step of the upper machine is matched: by no step of the lower machine,
--- by one step, or by two.
+-- This file is about how a step of the upper machine is matched: by no step of the lower machine, by one step, or by two.
 use Rattle.std.proofs.Common.{◌≡◌, ◌<◌, List, [], ◌∷◌, refl, sym, subst, arith}
 use Rattle.std.specs.Prelude.{Contains}
 use Rattle.cyc_words.specs.Seen.{ComesTo}
@@ -8,8 +7,7 @@ use Rattle.cyc_words.specs.Simulation.{Running, Machine}
 use Rattle.cyc_words.specs.inside.Following.{Matching, IsOnTheWay, IsMatchedStep, IsStepped}
 
 module _ (above below : Machine) (m : Matching above below) where
-  -- A state of the lower machine is between two matches if it shows what the upper state shows before the step, or
-  -- after the step.
+  -- A state of the lower machine is between two matches if it shows what the upper state shows before the step, or after the step.
   pub way_before : (s : above.State) (t : below.State) → below.status t ≡ Running → below.seen t ≡ above.seen s → IsOnTheWay above below s t
   way_before s t running seen = record {
     goes_on = running;

@@ -51,8 +51,7 @@ sum_in price own (p ∷ places) (others, distinct) (first, rest) =
     let fewer = sum_in price left places distinct (all_kept p own places first others rest) in
     omega (arith, fewer, sum_by-cons price p places, sum_without price p own first)
 
--- A list of distinct positions, all of which occur in a second list, costs at most as much as the
--- second list.
+-- A list of distinct positions, all of which occur in a second list, costs at most as much as the second list.
 pub sum_by-distinct : {X : Type 0} (price : X → ℕ) (own places : List X) → IsDistinct places → AllByRecursion (Contains own) places → sum_by price places ≤ sum_by price own
 sum_by-distinct price own places distinct inside = sum_in price own places distinct (all_in own places inside)
 

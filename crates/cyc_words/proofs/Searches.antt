@@ -1,5 +1,4 @@
--- This file is about tests of the items of a list, and about the index of the first item that
--- passes a test.
+-- This file is about tests of the items of a list, and about the index of the first item that passes a test.
 use Rattle.std.proofs.Common.{◌≡◌, inl, inr, Bool, true, List, [], ◌∷◌, sym, subst, ◌||◌, map, refl, ap, false, reverse, ◌∙◌, ◌++◌, ⊎_elim, ◌+◌, not, cond, Some, slice_get, length, ℕ, take, ◌≤◌, arith}
 use Rattle.std.specs.Prelude.{Contains}
 use Rattle.std.specs.List.{list_any, list_all, position_or_len, prefix_len}

@@ -1,5 +1,4 @@
--- This file observes a run that echoes its input, at three moments. The input is "xyz", the bytes 120, 121 and
--- 122.
+-- This file observes a run that echoes its input, at three moments. The input is "xyz", the bytes 120, 121 and 122.
 use Rattle.std.proofs.Common.{◌≡◌, [], ◌∷◌, refl}
 use Rattle.cyc_words.specs.Seen.{Seen, showing, ComesTo}
 

@@ -85,8 +85,7 @@ status_cases Failed = inr (inr refl)
 -- ---- from matched steps to whole runs
 
 module _ (above below : Machine) (m : Matching above below) (steps : Steps above below m) (laws : IsLawful below) (before : List below.Place) (start : above.State) (never : NeverFails above start) where
-  -- The cost allowed for the upper machine's steps from these positions, plus the cost of the
-  -- positions before the first step.
+  -- The cost allowed for the upper machine's steps from these positions, plus the cost of the positions before the first step.
   abbrev allowed : (below.Place → ℕ) → List above.Place → ℕ
   allowed price places = sum_by price before + sum_by (λ (p : above.Place). sum_by price (m.own p)) places
 
@@ -99,15 +98,13 @@ module _ (above below : Machine) (m : Matching above below) (steps : Steps above
     pub matches : m.Matches state here
     pub paid : (price : below.Place → ℕ) → sum_by price met ≤ allowed price places
 
-  -- Says that the lower machine's run is in the middle of a step, and that the positions `back` of
-  -- this step have not been visited yet.
+  -- Says that the lower machine's run is in the middle of a step, and that the positions `back` of this step have not been visited yet.
   record IsInside (places : List above.Place) (state : above.State) (met back : List below.Place) : Type 0 where
     pub path : Path above places start state
     pub running : above.status state ≡ Running
     pub paid : (price : below.Place → ℕ) → sum_by price met + sum_by price back ≤ allowed price places + sum_by price (m.own (above.place state))
 
-  -- Says that each continuation of the lower machine's run with fewer than n steps is explained,
-  -- from every match on.
+  -- Says that each continuation of the lower machine's run with fewer than n steps is explained, from every match on.
   abbrev Continues : ℕ → Type 0
   Continues n = (places : List above.Place) (state : above.State) (met : List below.Place) (here : below.State) (rest : List below.Place) (now : below.State)
       → IsMatched places state met here → length rest < n → Path below rest here now → Shown (met ++ rest) now
@@ -203,8 +200,7 @@ module _ (above below : Machine) (m : Matching above below) (steps : Steps above
       })
       stepped.comes short path
 
-  -- The upper machine's run has ended, so the lower machine's run has ended too and stays
-  -- unchanged.
+  -- The upper machine's run has ended, so the lower machine's run has ended too and stays unchanged.
   ends : (places : List above.Place) (state : above.State) (met : List below.Place) (here : below.State) (rest : List below.Place) (now : below.State) (ending : Ending)
       → IsMatched places state met here → above.status state ≡ Ended ending → Path below rest here now → Shown (met ++ rest) now
   ends places state met here rest now ending matched ended path =
@@ -262,8 +258,7 @@ module _ (above below : Machine) (m : Matching above below) (steps : Steps above
       omega (arith, paid price, more, one, first, equal))
       (goes mid step) path)
 
-  -- Each run of the lower machine follows a run of the upper machine, if the positions before the first
-  -- step reach a match with the start.
+  -- Each run of the lower machine follows a run of the upper machine, if the positions before the first step reach a match with the start.
   pub simulates : (from : below.State) → above.status start ≡ Running → Comes below (IsOnTheWay above below start) (m.Matches start) before from → Follows above below before m.own start from
   simulates from running comes = record {
     runs = λ met now path. comes_first [] before from met now running (λ price. omega arith) comes path;
@@ -271,8 +266,7 @@ module _ (above below : Machine) (m : Matching above below) (steps : Steps above
 
 -- ---- composition of two passes
 
--- If a run of the lower machine may show an observation, then a run of the upper machine may show
--- it too.
+-- If a run of the lower machine may show an observation, then a run of the upper machine may show it too.
 may_show : (above below : Machine) (before : List below.Place) (own : above.Place → List below.Place) (start : above.State) (met : List below.Place) (now : below.State)
     → IsUnderWay above below before own start met now ⊎ IsOver above below start now → MayShow above start (below.seen now)
 may_show above below before own start met now (inl u) = u.following
@@ -374,8 +368,7 @@ module _ (above below : Machine) (laws : IsLawful above) (before : List below.Pl
   ahead_over : (now : below.State) (o : IsOver above below start now) → ComesTo (above.seen o.state) (below.seen now)
   ahead_over now o = subst (ComesTo (above.seen o.state)) (sym o.seen) (ComesTo-refl (above.seen o.state))
 
-  -- If the lower machine's run is long enough, then it has completed n steps of the upper machine's
-  -- run.
+  -- If the lower machine's run is long enough, then it has completed n steps of the upper machine's run.
   comes_so_far : (each n : ℕ) → ((p : above.Place) → length before + length (own p) ≤ each) → (met : List below.Place) (now : below.State) → length met ≡ (n + 1) * each
       → (u : IsUnderWay above below before own start met now) → n ≤ length u.places
   comes_so_far each n most met now long u =
@@ -437,8 +430,7 @@ module _ (above below : Machine) (laws : IsLawful above) (before : List below.Pl
   follows-never_fails n now run =
       let (met, long, path) = Path-from_run below n from now run in fails_not met now (follows.runs met now path)
 
-  -- If the number of positions that a step owns, plus the number before the first step, is bounded, then full
-  -- preservation follows.
+  -- If the number of positions that a step owns, plus the number before the first step, is bounded, then full preservation follows.
   pub follows-preserves : (each : ℕ) → ((p : above.Place) → length before + length (own p) ≤ each) → Preserves above below each start from
   follows-preserves each most = record {
     ahead = λ n now run.

@@ -5,8 +5,7 @@ use Rattle.cyc_words.specs.Ending.{Full}
 use Rattle.cyc_words.specs.Seen.{Seen, showing}
 use Rattle.cyc_words.specs.Simulation.{Status, Running, Ended, Machine, Preserves}
 
--- A machine that shows three given observations one after the other: `first`, `next`, and then
--- `last` for ever.
+-- A machine that shows three given observations one after the other: `first`, `next`, and then `last` for ever.
 abbrev shown : (first next last : Seen) → ℕ → Seen
 shown first next last zero = first
 shown first next last (suc zero) = next
@@ -78,8 +77,7 @@ prints_ahead each p =
     never (suc zero) seen = letter_none (output_same letter [] one [] seen)
     never (suc (suc n)) seen = some_none (rest_same letter letter one [] seen)
 
--- Rejected: the program prints and never reads, but the machine prints and, at the end of its run, reads the rest
--- of the input.
+-- Rejected: the program prints and never reads, but the machine prints and, at the end of its run, reads the rest of the input.
 pub reads_at_its_end : (each : ℕ) → Preserves (playing (showing [] one) (showing letter one) (showing letter one)) (playing (showing [] one) (showing letter one) (showing letter [])) each 0 0 → ⊥
 reads_at_its_end each p =
     let (n, state, run, seen, ends) = p.following 2 2 (1, refl, (2, refl, refl)) in

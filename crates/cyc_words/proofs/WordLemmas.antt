@@ -26,8 +26,7 @@ IsWord-unsigned (negsuc n) = omega arith
 pub FitsSigned-signed : (w : ℕ) → IsWord w → FitsSigned w32 (signed w)
 FitsSigned-signed w h = search (rules, ints)
 
--- The signed meaning of a word below 2 ^ 31 is the word; below it, the signed meaning of a word
--- from 2 ^ 31 on.
+-- The signed meaning of a word below 2 ^ 31 is the word; below it, the signed meaning of a word from 2 ^ 31 on.
 pub signed_low : (w : ℕ) → w < 2 ^ 31 → signed w ≡ pos w
 signed_low w h = omega (arith, ints)
 
@@ -48,8 +47,7 @@ IsWord-sub_of a b = omega arith
 pub IsWord-mul_of : (a b : ℕ) → IsWord (mul_of a b)
 IsWord-mul_of a b = omega arith
 
--- Wrapping a sum, difference or product of integers equals the same operation on their wrapped
--- words.
+-- Wrapping a sum, difference or product of integers equals the same operation on their wrapped words.
 pub unsigned-add : (x y : ℤ) → unsigned (x +ℤ y) ≡ add_of (unsigned x) (unsigned y)
 unsigned-add (pos x) (pos y) = omega arith
 unsigned-add (pos x) (negsuc y) = grind (arith, ints)
@@ -109,8 +107,7 @@ divided a b ha hb =
     simp (unsigned-add, unsigned-mul) in
     ap (λ (x : ℕ). add_of (mul_of (div_of a b) x) (rem_of a b)) (sym (unsigned-signed b hb)) ∙ sym parts ∙ again
 
--- The quotient of two words fits into 32 bits, except for -2 ^ 31 divided by -1; the remainder
--- always fits.
+-- The quotient of two words fits into 32 bits, except for -2 ^ 31 divided by -1; the remainder always fits.
 FitsSigned-neg : (n : ℕ) → n ≤ 2 ^ 31 → FitsSigned w32 (neg_ℤ (pos n))
 FitsSigned-neg zero h = record { sfits = omega arith }
 FitsSigned-neg (suc n) h = record { sfits = omega arith }
@@ -243,8 +240,7 @@ pub sign_extended_high : (h : ℕ) → 2 ^ 15 ≤ h → IsHalf h → sign_extend
 unfolding sign_extended
 sign_extended_high h high hh = grind (arith, ints)
 
--- If the signed meaning of a word fits in 16 bits, then the word is the sign extension of its low
--- half.
+-- If the signed meaning of a word fits in 16 bits, then the word is the sign extension of its low half.
 pub sign_extended-low_half : (w : ℕ) → IsWord w → FitsSigned w16 (signed w) → sign_extended (w % 2 ^ 16) ≡ w
 unfolding sign_extended
 sign_extended-low_half w h fits = grind (arith, ints)

@@ -22,8 +22,7 @@ region_pages sizes = pages_from 1 0 sizes
 
 -- ---- unique blocks
 
--- A block's class is the exponent of the least power of two that is at least its size. The greatest class is a
--- complete page.
+-- A block's class is the exponent of the least power of two that is at least its size. The greatest class is a complete page.
 abbrev pub greatest_class : ℕ
 greatest_class = 10
 
@@ -54,8 +53,7 @@ abbrev pub total : List ℕ → ℕ
 total [] = 0
 total (n ∷ ns) = n + total ns
 
--- The number of pages of all regions, given the block sizes of each region, plus the pages of all
--- classes.
+-- The number of pages of all regions, given the block sizes of each region, plus the pages of all classes.
 abbrev pub demand_of : (regions : List (List ℕ)) → (classes : List ℕ) → ℕ
 demand_of [] classes = total classes
 demand_of (sizes ∷ regions) classes = region_pages sizes + demand_of regions classes

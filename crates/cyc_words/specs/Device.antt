@@ -17,8 +17,7 @@ is_end (Ok (Some byte)) = false
 is_end (Ok None) = true
 is_end (Err e) = false
 
--- The effect of a call of `put`: the byte is appended to the device's bytes; a failure appends
--- nothing.
+-- The effect of a call of `put`: the byte is appended to the device's bytes; a failure appends nothing.
 abbrev pub Takes : {A E : Type 0} → Option (List ℕ) → ℕ → Result A E → Option (List ℕ) → Type 0
 Takes old byte (Ok a) new = Appends old new (byte ∷ [])
 Takes old byte (Err e) new = Keeps old new
@@ -27,8 +26,7 @@ Takes old byte (Err e) new = Keeps old new
 abbrev pub AppendsPrefix : Option (List ℕ) → Option (List ℕ) → List ℕ → Type 0
 AppendsPrefix old new text = (bytes : List ℕ) × IsPrefix bytes text × Appends old new bytes
 
--- Says that the complete text is appended to the bytes of the device or, on a failure, a prefix of
--- the text.
+-- Says that the complete text is appended to the bytes of the device or, on a failure, a prefix of the text.
 abbrev pub TakesText : {A E : Type 0} → Option (List ℕ) → List ℕ → Result A E → Option (List ℕ) → Type 0
 TakesText old text (Ok a) new = Appends old new text
 TakesText old text (Err e) new = AppendsPrefix old new text

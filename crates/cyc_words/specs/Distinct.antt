@@ -1,5 +1,4 @@
--- This file defines lists without duplicates. The definition of distinct lists is this project's
--- own choice.
+-- This file defines lists without duplicates. The definition of distinct lists is this project's own choice.
 use Rattle.std.specs.Prelude.{◌≢◌, List, [], ◌∷◌}
 use Rattle.std.specs.List.{AllByRecursion}
 

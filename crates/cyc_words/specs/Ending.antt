@@ -9,8 +9,7 @@ pub data Ending : Type 0 where
   Uncaught : ℕ → ℤ → Ending
   Full : Ending
 
--- Says that two runs ended alike: with equal returned values, with equal uncaught exceptions, or both out of
--- store.
+-- Says that two runs ended alike: with equal returned values, with equal uncaught exceptions, or both out of store.
 abbrev pub Alike : Ending → Ending → Type 0
 Alike (Returned x) (Returned y) = x ≡ y
 Alike (Uncaught t x) (Uncaught u y) = (t ≡ u) × (x ≡ y)

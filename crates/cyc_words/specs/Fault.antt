@@ -1,5 +1,4 @@
--- This file defines the faults of a source text, and the numbers of their codes, which are this
--- project's own choice.
+-- This file defines the faults of a source text, and the numbers of their codes, which are this project's own choice.
 use Rattle.std.specs.Prelude.{ℕ}
 use Rattle.cyc_words.specs.declared.fault.Code.{Code}
 use Rattle.cyc_words.specs.declared.fault.Fault.{Fault}

@@ -1,5 +1,4 @@
--- These modules define words of 32 bits, bytes, faults, and devices, which the contracts of this
--- crate use.
+-- These modules define words of 32 bits, bytes, faults, and devices, which the contracts of this crate use.
 pub mod Word
 pub mod Bytes
 pub mod Fault

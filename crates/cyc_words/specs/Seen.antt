@@ -1,5 +1,4 @@
--- This file defines the observable part of a run at some moment. The definition of the observable part is this
--- project's own choice.
+-- This file defines the observable part of a run at some moment. The definition of the observable part is this project's own choice.
 use Rattle.std.specs.Prelude.{◌≡◌, ℕ, List, ◌++◌}
 
 -- Says that one list of bytes is a prefix of another: ys is xs followed by some rest.

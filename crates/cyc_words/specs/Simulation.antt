@@ -4,8 +4,7 @@ use Rattle.std.specs.Prelude.{◌≡◌, ℕ, zero, suc, ◌+◌, ◌*◌}
 use Rattle.cyc_words.specs.Ending.{Ending}
 use Rattle.cyc_words.specs.Seen.{Seen, ComesTo}
 
--- The status of a run: running, ended, or failed. A failed run is stuck; this is not a way in which a program
--- ends.
+-- The status of a run: running, ended, or failed. A failed run is stuck; this is not a way in which a program ends.
 pub data Status : Type 0 where
   Running : Status
   Ended : Ending → Status

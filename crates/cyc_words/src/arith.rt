@@ -61,8 +61,7 @@ pub fn sltu(a: u32, b: u32) -> u32
     u32::from(a < b)
 }
 
-/// Returns the signed quotient, rounded toward zero. The quotient of -2147483648 and -1
-/// wraps to -2147483648.
+/// Returns the signed quotient, rounded toward zero. The quotient of -2147483648 and -1 wraps to -2147483648.
 #[tactic(auto, unfolding(crate::specs::Word::div_of))]
 pub fn div(a: u32, b: u32) -> u32
     requires { b ≢ 0 }
@@ -73,8 +72,7 @@ pub fn div(a: u32, b: u32) -> u32
         .cast_unsigned()
 }
 
-/// Returns the signed remainder, with the sign of the dividend. For -2147483648 and -1 the
-/// remainder is 0.
+/// Returns the signed remainder, with the sign of the dividend. For -2147483648 and -1 the remainder is 0.
 #[tactic(auto, unfolding(crate::specs::Word::rem_of))]
 pub fn rem(a: u32, b: u32) -> u32
     requires { b ≢ 0 }

@@ -25,8 +25,7 @@ pub trait ByteIn {
 
     /// Returns the next byte, or `None` at the end of the input.
     ///
-    /// Any call of `next` may return `Failed`; each later call then returns `Failed` too. A failure does not change the
-    /// reported bytes.
+    /// Any call of `next` may return `Failed`; each later call then returns `Failed` too. A failure does not change the reported bytes.
     fn next(&mut self) -> Result<Option<u8>, Failed>
         ensures bytes { Gives (remaining self.old) result (remaining self.new) }
         ensures fails { failed self.new ≡ is_err result }
@@ -50,18 +49,15 @@ pub trait ByteOut {
 
     /// Takes one byte.
     ///
-    /// Any call of `put` may return `Failed`; each later call then returns `Failed` too. A failure does not change the
-    /// reported bytes.
+    /// Any call of `put` may return `Failed`; each later call then returns `Failed` too. A failure does not change the reported bytes.
     fn put(&mut self, byte: u8) -> Result<(), Failed>
         ensures bytes { Takes (written self.old) byte result (written self.new) }
         ensures fails { failed self.new ≡ is_err result }
         ensures stays { IsTrue (failed self.old) → IsErr result };
 
-    /// Flushes the bytes that the device has taken but has not yet passed on; a caller uses it before a
-    /// call that waits for input.
+    /// Flushes the bytes that the device has taken but has not yet passed on; a caller uses it before a call that waits for input.
     ///
-    /// Flushing does not change the reported bytes. If flushing fails, then the next call of `put`
-    /// returns the failure.
+    /// Flushing does not change the reported bytes. If flushing fails, then the next call of `put` returns the failure.
     fn pass_on(&mut self)
         ensures bytes { Keeps (written self.old) (written self.new) }
         ensures fails { failed self.new ≡ failed self.old }

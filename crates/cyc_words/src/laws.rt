@@ -19,16 +19,14 @@ pub fn word_views()
     ensures unsigned_fits { (z : ℤ) → IsWord (unsigned z) }
 {}
 
-/// The sum, difference and product of words are the sum, difference and product of their signed
-/// meanings, wrapped to 32 bits.
+/// The sum, difference and product of words are the sum, difference and product of their signed meanings, wrapped to 32 bits.
 pub fn word_sums()
     ensures sum { (a b : ℕ) → IsWord a → IsWord b → add_of a b ≡ unsigned (signed a +ℤ signed b) }
     ensures difference { (a b : ℕ) → IsWord a → IsWord b → sub_of a b ≡ unsigned (signed a -ℤ signed b) }
     ensures product { (a b : ℕ) → IsWord a → IsWord b → mul_of a b ≡ unsigned (signed a *ℤ signed b) }
 {}
 
-/// The quotient, remainder and arithmetic shift of words equal those of integers, except for the one
-/// quotient that wraps (-2 ^ 31 by -1).
+/// The quotient, remainder and arithmetic shift of words equal those of integers, except for the one quotient that wraps (-2 ^ 31 by -1).
 pub fn word_quotients()
     ensures dividend { (a b : ℕ) → IsWord a → IsWord b → add_of (mul_of (div_of a b) b) (rem_of a b) ≡ a }
     ensures quotient { (a b : ℕ) → IsWord a → IsWord b → (a ≡ 2 ^ 31 → b ≢ 2 ^ 32 - 1) →

@@ -1,5 +1,4 @@
-//! Finds the file names among the words of a command line, where there may be several: those of a command, and those of
-//! `--with`.
+//! Finds the file names among the words of a command line, where there may be several: those of a command, and those of `--with`.
 use std::alloc::{AllocError, Global};
 
 /// Returns true if the command with this name accepts several files.
@@ -80,8 +79,7 @@ pub fn count_of_files(words: &[String]) -> usize {
     count
 }
 
-/// The words of a command line without its file names, and the index at which each file name can be
-/// inserted.
+/// The words of a command line without its file names, and the index at which each file name can be inserted.
 #[derive(Drop)]
 pub struct Line {
     pub words: Vec<String>,

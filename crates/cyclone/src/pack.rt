@@ -9,8 +9,7 @@ const BYTES: usize = 4;
 
 const WORDS: usize = 8;
 
-/// Returns the byte that an escape sequence denotes, and the letters after the sequence, or `None` if it is not
-/// valid.
+/// Returns the byte that an escape sequence denotes, and the letters after the sequence, or `None` if it is not valid.
 fn escaped(letters: &[u8]) -> Option<(u8, &[u8])> {
     match letters {
         [b'n', rest @ ..] => Some((b'\n', rest)),
@@ -61,8 +60,7 @@ fn bytes_of(alloc: Global, text: &[u8]) -> Result<Option<Vec<u8>>, AllocError> {
     Ok(Some(bytes))
 }
 
-/// Writes a word of at most four bytes, the first one highest, as a constant in a program: a number in a text has
-/// no more than 31 bits.
+/// Writes a word of at most four bytes, the first one highest, as a constant in a program: a number in a text has no more than 31 bits.
 #[derive(Drop)]
 struct Word<'a>(&'a [u8]);
 

@@ -14,8 +14,7 @@ use std::env::{Env, FillError};
 use std::io::Write;
 use std::{env, io};
 
-/// Performs a request with these libraries and returns the answer. If `is_one` is true, the request is for one of
-/// several files.
+/// Performs a request with these libraries and returns the answer. If `is_one` is true, the request is for one of several files.
 fn carry_out(rt: &HostRuntime, request: &Request<'_>, libraries: &[&str], is_one: bool) -> Answer {
     let result = match request {
         Request::Check { source, is_json } => check_file(rt, source, libraries, *is_json),
@@ -115,8 +114,7 @@ fn print_usage(rt: &HostRuntime, error: &clap::Error) -> Option<Answer> {
             Err(_) => Some(Answer::WriteFault),
         },
         kind => {
-            // The message about the mistake contains words of the command line, which may contain any
-            // characters.
+            // The message about the mistake contains words of the command line, which may contain any characters.
             let text = within_bounds(error);
             say(rt, Lines(text.as_str()));
             Some(match kind {
@@ -165,8 +163,7 @@ fn read_words(rt: &HostRuntime) -> Result<Vec<String>, Answer> {
     }
 }
 
-/// Performs the request in the words of a command line and returns the answer. Messages for human readers
-/// are written to standard error.
+/// Performs the request in the words of a command line and returns the answer. Messages for human readers are written to standard error.
 fn answer_words(rt: &HostRuntime, words: &[String], is_one: bool) -> Option<Answer> {
     match read_request(rt.alloc(), words) {
         Ok(request) => Some(match libraries_in(rt.alloc(), words) {

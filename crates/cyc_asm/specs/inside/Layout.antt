@@ -26,8 +26,7 @@ abbrev pub head_width : Option Instr → ℕ
 head_width (Some instruction) = 0
 head_width None = 1
 
--- Returns the number of words after a branch or jump: its delay slot, and for a far branch the jump that it skips, with the
--- jump's slot.
+-- Returns the number of words after a branch or jump: its delay slot, and for a far branch the jump that it skips, with the jump's slot.
 abbrev pub tail_width : (near : Bool) → ℕ
 tail_width near = if near then 1 else 3
 

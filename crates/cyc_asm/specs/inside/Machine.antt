@@ -1,5 +1,4 @@
--- The meaning of an assembled text: the MIPS machine that runs its words follows the labelled
--- machine.
+-- The meaning of an assembled text: the MIPS machine that runs its words follows the labelled machine.
 use Rattle.std.specs.Prelude.{ℕ, ◌*◌, ◌≤◌, List, [], replicate}
 use Rattle.cyc_store.specs.State.{StoreState}
 use Rattle.cyc_machine_model.specs.declared.constants.TheConstants.{MAX_CALLS}
@@ -14,8 +13,7 @@ use Rattle.cyc_select.specs.inside.Labelled.{Labelled}
 use Rattle.cyc_select.specs.inside.Machine as labelled
 use Rattle.cyc_asm.specs.inside.Text.{text_of, own}
 
--- Returns the initial world of the MIPS machine with these words of text and these words in the
--- data range.
+-- Returns the initial world of the MIPS machine with these words of text and these words in the data range.
 abbrev pub start_in : (words globals stack : List ℕ) → StoreState → (calls : ℕ) → (input : List ℕ) → World
 start_in words globals stack store calls input =
     record {

@@ -35,8 +35,7 @@ abbrev pub passes_line : Option Line → Option Line → Bool
 passes_line (Some (lines.Ordinary instruction)) (Some (lines.Ordinary other)) = passes instruction other
 passes_line line following = false
 
--- Returns true if the instruction of line `from` may be moved past that of line `number`, to which
--- no line jumps.
+-- Returns true if the instruction of line `from` may be moved past that of line `number`, to which no line jumps.
 abbrev pub passes_at : List Line → (from number : ℕ) → Bool
 passes_at code from number = not (is_named code number) && passes_line (slice_get code from) (slice_get code number)
 
@@ -45,8 +44,7 @@ abbrev pub passes_all : List Line → (from count : ℕ) → Bool
 passes_all code from zero = true
 passes_all code from (suc count) = passes_all code from count && passes_at code from (from + suc count)
 
--- Returns true if an instruction may be moved past the next `count` lines and fill the delay slot of the branch or
--- jump after them.
+-- Returns true if an instruction may be moved past the next `count` lines and fill the delay slot of the branch or jump after them.
 abbrev pub comes_down : List Line → (from count : ℕ) → Bool
 comes_down code from count =
     passes_all code from count
@@ -77,8 +75,7 @@ is_ordinary line = false
 abbrev pub settled : List Line → (number : ℕ) → List Line
 settled code number = tried (tried code number 1) number 2
 
--- Returns the lines after delay slots have been filled at the first `number` lines, one after the
--- other.
+-- Returns the lines after delay slots have been filled at the first `number` lines, one after the other.
 abbrev pub arranged_before : List Line → ℕ → List Line
 arranged_before code zero = code
 arranged_before code (suc number) = settled (arranged_before code number) number

@@ -11,8 +11,7 @@ use Rattle.cyc_select.specs.declared.code.Condition.TheVariants as conditions
 use Rattle.cyc_select.specs.declared.code.Line.{Line}
 use Rattle.cyc_select.specs.declared.code.Line.TheVariants as lines
 
--- Returns true if an instruction may stand in a delay slot: it is no jump, branch, `syscall` or
--- `break`.
+-- Returns true if an instruction may stand in a delay slot: it is no jump, branch, `syscall` or `break`.
 abbrev pub is_movable : Instr → Bool
 is_movable (Branch op left right offset) = false
 is_movable (BranchZero op source offset) = false
@@ -54,8 +53,7 @@ is_label number None = false
 abbrev pub is_named : List Line → (number : ℕ) → Bool
 is_named code number = list_any (λ line. is_label number (label_of line)) code
 
--- Returns true if control may continue at the next line. After a jump or a return it never does; a
--- call returns to the next line.
+-- Returns true if control may continue at the next line. After a jump or a return it never does; a call returns to the next line.
 abbrev pub goes_on : Option Line → Bool
 goes_on (Some (lines.Jump label)) = false
 goes_on (Some lines.Return) = false
@@ -65,8 +63,7 @@ abbrev pub is_call : Option Line → Bool
 is_call (Some (lines.Call label)) = true
 is_call line = false
 
--- Returns true if the next line is a call whose delay slot this line may fill, since no line jumps
--- to the call.
+-- Returns true if the next line is a call whose delay slot this line may fill, since no line jumps to the call.
 abbrev pub fills_after : List Line → (number : ℕ) → Bool
 fills_after code number = not (is_named code (suc number)) && is_call (slice_get code (suc number))
 
@@ -107,8 +104,7 @@ filling code zero = None
 filling code (suc before) =
     if is_named code (suc before) then None else moved (slice_get code before) (slice_get code (suc before))
 
--- `AreNamed` says that a table is true for those of the first `count` lines to which some line
--- jumps.
+-- `AreNamed` says that a table is true for those of the first `count` lines to which some line jumps.
 pub record AreNamed (code : List Line) (count : ℕ) (named : List Bool) : Type 0 where
   pub long : length named ≡ count
   pub each : (number : ℕ) → number < count → get_or named number false ≡ is_named code number

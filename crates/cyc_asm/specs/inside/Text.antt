@@ -57,24 +57,21 @@ inverse_of (conditions.Sign signs.Greater source) = conditions.Sign signs.LessOr
 inverse_of (conditions.Sign signs.Less source) = conditions.Sign signs.GreaterOrEqual source
 inverse_of (conditions.Sign signs.GreaterOrEqual source) = conditions.Sign signs.Less source
 
--- `IsBranchAt` says that the text has a branch from one address to another, with this instruction
--- in its delay slot.
+-- `IsBranchAt` says that the text has a branch from one address to another, with this instruction in its delay slot.
 pub record IsBranchAt (words : List ℕ) (condition : Condition) (slotted : Instr) (from to : ℕ) : Type 0 where
   pub offset : ℕ
   pub branch : IsAt words from (branch_of condition offset)
   pub target : branch_target from offset ≡ to
   pub slot : IsAt words (from + 4) slotted
 
--- `IsJumpAt` says that the text has a jump from one address to another, with this instruction in
--- its delay slot.
+-- `IsJumpAt` says that the text has a jump from one address to another, with this instruction in its delay slot.
 pub record IsJumpAt (words : List ℕ) (op : JumpOp) (slotted : Instr) (from to : ℕ) : Type 0 where
   pub index : JumpIndex
   pub jump : IsAt words from (Jump op index)
   pub target : jump_target from index.index ≡ to
   pub slot : IsAt words (from + 4) slotted
 
--- `StandsBranch` says that a branch is in the text from this address up to the next line's. A far branch is the inverse
--- branch over a jump.
+-- `StandsBranch` says that a branch is in the text from this address up to the next line's. A far branch is the inverse branch over a jump.
 abbrev pub StandsBranch : Bool → List ℕ → (ℕ → ℕ) → (number : ℕ) → Condition → (label : ℕ) → (slotted : Instr) → (from : ℕ) → Type 0
 StandsBranch true words addresses number condition label slotted from =
     IsBranchAt words condition slotted from (addresses label) × (addresses (suc number) ≡ from + 8)
@@ -103,8 +100,7 @@ StandsFilled None code words addresses number line =
 StandsFilled (Some slotted) code words addresses number line =
     (from : ℕ) × (addresses number ≡ from + 4) × StandsFrom code words addresses number line slotted from
 
--- `StandsOrdinary` says that an ordinary instruction is at its line's address, or in the delay slot
--- of the next line.
+-- `StandsOrdinary` says that an ordinary instruction is at its line's address, or in the delay slot of the next line.
 abbrev pub StandsOrdinary : Option Instr → List ℕ → (ℕ → ℕ) → (number : ℕ) → Instr → Type 0
 StandsOrdinary None words addresses number instruction =
     IsAt words (addresses number) instruction × (addresses (suc number) ≡ addresses number + 4)
@@ -115,8 +111,7 @@ Stands code words addresses number (lines.Ordinary instruction) =
     StandsOrdinary (filling code.lines (suc number)) words addresses number instruction
 Stands code words addresses number line = StandsFilled (filling code.lines number) code words addresses number line
 
--- `StandsUnless` says that an unreachable line contributes no word to the text, and that a
--- reachable one is in the text.
+-- `StandsUnless` says that an unreachable line contributes no word to the text, and that a reachable one is in the text.
 abbrev pub StandsUnless : (unreached : Bool) → Labelled → List ℕ → (ℕ → ℕ) → (number : ℕ) → Line → Type 0
 StandsUnless true code words addresses number line = addresses (suc number) ≡ addresses number
 StandsUnless false code words addresses number line = Stands code words addresses number line
@@ -142,7 +137,6 @@ pub record IsTextInOrder (code order : Labelled) (addresses : ℕ → ℕ) (word
   pub few : length words ≤ all_words code.lines
   pub inside : text_base + 4 * length words ≤ text_end
 
--- `IsTextOf` says that the words represent the code: its lines are in their order, except for instructions moved down
--- to fill a delay slot.
+-- `IsTextOf` says that the words represent the code: its lines are in their order, except for instructions moved down to fill a delay slot.
 abbrev pub IsTextOf : Labelled → (ℕ → ℕ) → List ℕ → Type 0
 IsTextOf code addresses words = IsTextInOrder code (in_order code) addresses words

@@ -26,8 +26,7 @@ offset_of from to = if nat_lt from to then to - (from + 1) else 65535 - (from - 
 abbrev pub jump_words : JumpOp → (to : ℕ) → List ℕ
 jump_words op to = word_of (Jump op (jump_index_of (FIRST_INDEX + to))) ∷ 0 ∷ []
 
--- `IsHeadPosition` says that the branch or jump of a line may be at this position: the line's own
--- or one word before it.
+-- `IsHeadPosition` says that the branch or jump of a line may be at this position: the line's own or one word before it.
 abbrev pub IsHeadPosition : List Line → (number from : ℕ) → Type 0
 IsHeadPosition code number from = (from ≤ position code number) × (position code number ≤ from + 1)
 
@@ -70,8 +69,7 @@ abbrev pub filled_in : List Line → (number : ℕ) → Option Line → List ℕ
 filled_in code number (Some line) = words_filled (filling code number) code number line
 filled_in code number None = []
 
--- Returns the word of an ordinary instruction, or of the branch or jump after it if the instruction fills
--- its delay slot.
+-- Returns the word of an ordinary instruction, or of the branch or jump after it if the instruction fills its delay slot.
 abbrev pub words_ordinary : Option Instr → List Line → (number : ℕ) → Instr → List ℕ
 words_ordinary None code number instruction = word_of instruction ∷ []
 words_ordinary (Some slotted) code number instruction =

@@ -1,5 +1,4 @@
--- The costs of the parts of lists that are visited part by part, and the costs found for the size classes of unique
--- blocks.
+-- The costs of the parts of lists that are visited part by part, and the costs found for the size classes of unique blocks.
 use Rattle.std.specs.Prelude.{◌≡◌, ◌<◌, ◌≤◌, ℕ, suc, ◌+◌, ◌*◌, ◌^◌, max, List, [], ◌∷◌}
 use Rattle.cyc_words.specs.Demand.{greatest_class}
 use Rattle.cyc_types.specs.TypedTrees.{Program}
@@ -35,8 +34,7 @@ AreUniquesSoFar program cost class pages =
 abbrev pub UniquesSoFar : Program → (class pages : ℕ) → Type 0
 UniquesSoFar program class pages = (cost : Measure → ℕ) × AreUniquesSoFar program cost class pages
 
--- says that the result is the number of pages of all size classes, or the reason why there is no
--- bound
+-- says that the result is the number of pages of all size classes, or the reason why there is no bound
 abbrev pub IsUniqueAnswer : Program → PageBound → Type 0
 IsUniqueAnswer program (bounds.Pages pages) = UniquesSoFar program (suc greatest_class) pages
 IsUniqueAnswer program bounds.TooMany = (class : ℕ) × (class ≤ greatest_class) × IsRunCost program (measures.Uniques class) too_many

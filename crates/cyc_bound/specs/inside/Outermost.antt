@@ -33,8 +33,7 @@ waiting_own (Pass callee before later) = AreOwn before
 waiting_own (MakeFields owner before fields) = AreOwn before
 waiting_own waiting = Unit {0}
 
--- says that a stack entry stores no handle of the heap and no key; `opens` states if a lexical
--- region may be open
+-- says that a stack entry stores no handle of the heap and no key; `opens` states if a lexical region may be open
 abbrev pub entry_own : (opens : Bool) → Entry → Type 0
 entry_own opens (Needs waiting) = waiting_own waiting
 entry_own opens (CloseLexical region) = opens ≡ true

@@ -20,8 +20,7 @@ abbrev pub item_at_once : Measure → (costs : List ℕ) → Item → ℕ
 item_at_once m costs (Execute s) = statement_at_once m costs s
 item_at_once m costs j = 0
 
--- says that the result is the cost of the costliest outermost region, or that the costs of
--- functions still grow
+-- says that the result is the cost of the costliest outermost region, or that the costs of functions still grow
 abbrev pub IsAtOnceFound : Program → Measure → Option ℕ → Type 0
 IsAtOnceFound program m (Some cost) = IsAtOnce program m cost
 IsAtOnceFound program m None = StillGrow program m

@@ -57,8 +57,7 @@ focus_callees focus = []
 abbrev pub AreOf : Program → (caller : ℕ) → List ℕ → Type 0
 AreOf program caller callees = AllByRecursion (λ (callee : ℕ). Calls program caller callee) callees
 
--- says that the stack contains the entries of a call of the function, followed by those of the
--- function's callers up to `main`
+-- says that the stack contains the entries of a call of the function, followed by those of the function's callers up to `main`
 abbrev pub Waits : Program → (function : ℕ) → List Entry → Type 0
 Waits program function [] = function ≡ program.main
 Waits program function (Caller outer ∷ stack) = (caller : ℕ) × Calls program caller function × Waits program caller stack

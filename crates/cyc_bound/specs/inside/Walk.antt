@@ -5,8 +5,7 @@ use Rattle.cyc_bound.specs.declared.bound.CallBound.{CallBound}
 use Rattle.cyc_bound.specs.declared.bound.CallBound.TheVariants as bounds
 use Rattle.cyc_bound.specs.Bound.{most_calls, IsHeight}
 
--- says that each entry of the table is 0 or the height of its function, which is at most the
--- greatest reported bound
+-- says that each entry of the table is 0 or the height of its function, which is at most the greatest reported bound
 abbrev pub AreHeights : Program → List ℕ → Type 0
 AreHeights program heights = (f : ℕ) → 0 < get_or heights f 0 → IsHeight program f (get_or heights f 0) × (get_or heights f 0 ≤ most_calls)
 

@@ -1,5 +1,5 @@
--- The result of the walk over values and parameters without a fault. The walk has noted the region at each place of a region variable. The
--- demands on the values hold for all regions that are noted later.
+-- The result of traversing the values and parameters of a call without a fault. The traversal has recorded the region at each occurrence
+-- of a region variable. The requirements on the values hold no matter what regions are recorded later.
 use Rattle.std.specs.Prelude.{◌≡◌, true, false, List, [], ◌∷◌, map, length, replicate, Option, Some, None}
 use Rattle.std.specs.List.{list_any}
 use Rattle.cyc_syntax.specs.Symbols.{Place}
@@ -16,22 +16,22 @@ use Rattle.cyc_types.specs.typing.Tests.{regions_eq, ty_eq}
 use Rattle.cyc_types.specs.typing.Expressions.{conversion, passed_demanded, all_paired, paired, paired_argument, paired_arguments, is_unique_for_variable, variables_demanded}
 use Rattle.cyc_calls.specs.inside.Instances.{noted_place, noted_places, instance_in}
 
--- the regions of a table in which these places are also noted
+-- Returns the regions of a table in which the regions at further occurrences are also recorded.
 abbrev pub instance_later : List (Option Region) → List (Region × Region) → List Region
 instance_later table later = instance_in (noted_places table later)
 
--- the region at each of these places is that of its variable
+-- Says that the region at each of the given occurrences is the region of its variable.
 abbrev pub AllStand : List Region → List (Region × Region) → Type 0
 AllStand m [] = Unit {0}
 AllStand m (p ∷ ps) = (region_eq p.1 (substituted_region m p.0) ≡ true) × AllStand m ps
 
--- A region is at a place at which the type of a parameter has the first region, and this region is known for it.
+-- Says that a region occurs where a parameter's type has the region r, and that `known` is the region of r at the call.
 pub record Stands (old new : List (Option Region)) (r s known : Region) : Type 0 where
   pub noted : new ≡ noted_place old (r, s)
   pub found : (later : List (Region × Region)) → substituted_region (instance_later new later) r ≡ known
   pub usual : is_unique_for_variable (r, s) ≡ false
 
--- a region is at a place of a region of a parameter type, and is equal to the known one
+-- Says that a region occurs where a parameter's type has the region r, and is equal to the region of r at the call.
 pub record FitsRegion (old new : List (Option Region)) (r s : Region) : Type 0 where
   pub noted : new ≡ noted_place old (r, s)
   pub alike : (later : List (Region × Region)) → region_eq s (substituted_region (instance_later new later) r) ≡ true
@@ -43,20 +43,20 @@ pub record FitsRegions (old new : List (Option Region)) (rs ss : List Region) : 
   pub stand : AllStand (instance_in new) (all_paired rs ss)
   pub usual : list_any is_unique_for_variable (all_paired rs ss) ≡ false
 
--- the second type is the type of a parameter at this call
+-- Says that the second type is the type that a parameter has at the call.
 pub record FitsType (old new : List (Option Region)) (t u : Ty) : Type 0 where
   pub noted : new ≡ noted_places old (paired t u)
   pub alike : (later : List (Region × Region)) → ty_eq u (substituted_ty (instance_later new later) t) ≡ true
   pub stand : AllStand (instance_in new) (paired t u)
   pub usual : list_any is_unique_for_variable (paired t u) ≡ false
 
--- the second region, of an outermost mark, outlives the first
+-- Says that the region of a value's outermost pointer outlives the one of the parameter's type.
 pub record FitsOutermost (c : RegionContext) (old new : List (Option Region)) (r s : Region) : Type 0 where
   pub noted : new ≡ noted_place old (r, s)
   pub outlived : (later : List (Region × Region)) → is_outliving c s (substituted_region (instance_later new later) r) ≡ true
   pub usual : is_unique_for_variable (r, s) ≡ false
 
--- a value of the second type can be converted to the first
+-- Says that a value of the given type can be converted to the type of a parameter.
 pub record FitsValue (c : RegionContext) (old new : List (Option Region)) (t : Ty) (v : ValueType) : Type 0 where
   pub noted : new ≡ noted_places old (paired_argument t v)
   pub kept : (later : List (Region × Region)) (p : Place) → AllKept (conversion c v (substituted_ty (instance_later new later) t) p)
@@ -68,6 +68,6 @@ pub record FitsValues (c : RegionContext) (old new : List (Option Region)) (ts :
   pub passed : (later : List (Region × Region)) (es : Expressions) → AllKept (passed_demanded c es as' (map (substituted_ty (instance_later new later)) ts))
   pub varied : (es : Expressions) → AllKept (variables_demanded es as' ts)
 
--- the values fit the parameters of this signature, none of whose variables has a place before
+-- Says that the values of a call fit the parameters of a signature; at the start, no region variable has a recorded region.
 abbrev pub FitsCall : RegionContext → Signature → List typed.Expression → List (Option Region) → Type 0
 FitsCall c s as' table = FitsValues c (Some Heap ∷ replicate s.variables None) table s.parameters as'

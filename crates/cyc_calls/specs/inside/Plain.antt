@@ -1,5 +1,5 @@
--- The result of the walk over the values of a call without a fault. Each region of a parameter is a variable that occurs once. If so, the
--- regions of the values only have to be live.
+-- The result of traversing the values of a call of a plain signature without a fault. In a plain signature, each region of a parameter is
+-- a variable that occurs once. The regions of the values of such a call only have to be live.
 use Rattle.std.specs.Prelude.{◌≡◌, true, false, not, ◌&&◌, nat_eq, List, [], ◌∷◌, length}
 use Rattle.cyc_types.specs.declared.region.Region.{Region}
 use Rattle.cyc_types.specs.declared.region.Region.TheVariants.{Heap, Unique}
@@ -10,7 +10,7 @@ use Rattle.cyc_types.specs.typing.Scopes.{Scope, is_live}
 use Rattle.cyc_types.specs.typing.Tests.{mark_eq, is_pointer, is_non_null}
 use Rattle.cyc_scope.specs.inside.Plain.{IsPlain}
 
--- a region that a variable may have
+-- Says that a region variable may have a given region: it is live and not the region of unique pointers.
 pub record IsUsual (g : Scope) (s : Region) : Type 0 where
   pub other : region_eq s Unique ≡ false
   pub live : is_live g s ≡ true
@@ -19,7 +19,7 @@ abbrev pub AreUsual : Scope → List Region → Type 0
 AreUsual g [] = Unit {0}
 AreUsual g (s ∷ ss) = IsUsual g s × AreUsual g ss
 
--- the second type is equal to the first, except for its regions
+-- Says that the second type equals the first, except for its regions.
 abbrev pub IsAlike : Scope → Ty → Ty → Type 0
 IsAlike g Int Int = Unit {0}
 IsAlike g Char Char = Unit {0}
@@ -29,7 +29,7 @@ IsAlike g (Key r) (Key s) = IsUsual g s
 IsAlike g (Struct n rs) (Struct m ss) = (nat_eq m n ≡ true) × (length ss ≡ length rs) × AreUsual g ss
 IsAlike g t u = ⊥
 
--- a value of the second type can be converted to the first, with any regions
+-- Says that a value of the second type can be converted to the first, with any regions.
 abbrev pub TakesType : Scope → Ty → Ty → Type 0
 TakesType g Int Int = Unit {0}
 TakesType g Int Char = Unit {0}
@@ -45,13 +45,13 @@ TakesValue g t Void = ⊥
 TakesValue g t Null = (is_pointer t && not (is_non_null t)) ≡ true
 TakesValue g t (Value u) = TakesType g t u
 
--- there are as many values as parameters, and each value can be converted
+-- Says that there are as many values as parameters, and that each value can be converted to its parameter's type.
 abbrev pub TakesAll : Scope → List Ty → List typed.Expression → Type 0
 TakesAll g [] [] = Unit {0}
 TakesAll g (t ∷ ts) (a ∷ as') = TakesValue g t (type_of a) × TakesAll g ts as'
 TakesAll g ts as' = ⊥
 
--- a call of this signature has no fault
+-- Says that a call of a plain signature with the given values has no fault.
 pub record IsTakenPlainly (g : Scope) (s : Signature) (as' : List typed.Expression) : Type 0 where
   pub plain : IsPlain s
   pub heap : is_live g Heap ≡ true

@@ -1,11 +1,9 @@
--- A scope is inside another one if its declarations come before the outer ones, so that leaving it
--- removes them.
+-- A scope is inside another one if its declarations come before the outer ones, so that leaving it removes them.
 use Rattle.std.specs.Prelude.{◌≡◌, List, ◌++◌}
 use Rattle.cyc_types.specs.declared.scope.Scope.{Scope as Opened}
 use Rattle.cyc_types.specs.typing.Scopes.{Scope, RegionName, LocalVariable}
 
--- Returns a scope with these declarations in front of those of the scope `g`, which otherwise
--- equals the scope `n`.
+-- Returns a scope with these declarations in front of those of the scope `g`, which otherwise equals the scope `n`.
 abbrev pub extended : Scope → List LocalVariable → List RegionName → List Opened → Scope → Scope
 extended g ls ns os n = record g {
   names = ns ++ g.names;

@@ -1,5 +1,4 @@
--- The contracts between the functions that traverse statements: they describe the scope afterwards,
--- and the nodes of the typed tree.
+-- The contracts between the functions that traverse statements: they describe the scope afterwards, and the nodes of the typed tree.
 use Rattle.std.specs.Prelude.{◌≡◌, suc, ◌+◌, [], ◌∷◌, ◌++◌}
 use Rattle.cyc_syntax.specs.Trees.{Named, Items, Clauses}
 use Rattle.cyc_types.specs.declared.typed.Clause.{Clause as ClauseCode}

@@ -1,5 +1,4 @@
--- This file defines how a position in a text is displayed to a user. The display is this project's
--- own choice.
+-- This file defines how a position in a text is displayed to a user. The display is this project's own choice.
 use Rattle.std.specs.Prelude.{◌≡◌, ℕ, ◌+◌, ◌-◌, ◌≤◌, ◌↔◌, ◌==◌, ◌/◌, ◌%◌, ◌&&◌, ◌||◌, Bool, nat_le, min, nat_lt, List, [], ◌∷◌, ◌++◌, length, replicate, take, slice_index_or, drop, codes, if◌then◌else◌, false}
 use Rattle.std.specs.List.{flat_map, slice_split}
 use Rattle.std.specs.Fmt.{digit_glyph}
@@ -36,17 +35,15 @@ shown_byte b = if b == 9 then 9 ∷ []
 abbrev pub blank_byte : ℕ → List ℕ
 blank_byte b = if b == 9 then 9 ∷ [] else replicate (length (shown_byte b)) 32
 
--- Holds for the characters beyond ASCII that are invisible, end a line or change the writing direction of a terminal. The
--- hidden characters are Unicode's control characters (Cc) and the following format characters (Cf). They include the Arabic
--- letter mark; zero-width spaces and joiners and direction marks (U+200B to 200F); line separators, embeddings and overrides of
--- direction (U+2028 to 202E). They also include invisible operators and isolates of direction (U+2060 to 206F), the byte-order
--- mark, and the tags.
+-- Holds for the characters beyond ASCII that are invisible, end a line or change the writing direction of a terminal. The hidden characters
+-- are Unicode's control characters (Cc) and the following format characters (Cf). They include the Arabic letter mark; zero-width spaces
+-- and joiners and direction marks (U+200B to 200F); line separators, embeddings and overrides of direction (U+2028 to 202E). They also
+-- include invisible operators and isolates of direction (U+2060 to 206F), the byte-order mark, and the tags.
 abbrev pub is_hidden : ℕ → Bool
 is_hidden c = is_in_range 0x80 0x9f c || c == 0x61c || is_in_range 0x200b 0x200f c || is_in_range 0x2028 0x202e c
     || is_in_range 0x2060 0x206f c || c == 0xfeff || is_in_range 0xe0000 0xe007f c
 
--- The display of a character: an ASCII character like its byte, an invisible character by its escaped bytes,
--- any other character unchanged.
+-- The display of a character: an ASCII character like its byte, an invisible character by its escaped bytes, any other character unchanged.
 abbrev pub shown_char : ℕ → List ℕ
 shown_char c = if nat_lt c 128 then shown_byte c
     else (if is_hidden c then flat_map shown_byte (encode_utf8 c)
@@ -85,9 +82,8 @@ most_name = 512
 abbrev pub name_text : List ℕ → List ℕ
 name_text name = dots (length name - most_name) ++ shown_bytes (drop (length name - most_name) name)
 
--- Says that an excerpt shows a line around a position with `place` bytes before it. The excerpt is a contiguous part of the line,
--- split at the position; it is the complete line if the line has at most `most_shown` bytes. Dots stand for the bytes omitted at
--- either end.
+-- Says that an excerpt shows a line around a position with `place` bytes before it. The excerpt is a contiguous part of the line, split at
+-- the position; it is the complete line if the line has at most `most_shown` bytes. Dots stand for the bytes omitted at either end.
 pub record IsExcerpt (line : List ℕ) (place : ℕ) (e : Excerpt) : Type 0 where
   pub left_out : ℕ
   pub right_out : ℕ
@@ -100,8 +96,7 @@ pub record IsExcerpt (line : List ℕ) (place : ℕ) (e : Excerpt) : Type 0 wher
   pub lead : e.lead.now ≡ dots left_out
   pub trail : e.trail.now ≡ dots right_out
 
--- The two lines of an excerpt: the shown part of the line, and below it a mark under the first byte from
--- the position on.
+-- The two lines of an excerpt: the shown part of the line, and below it a mark under the first byte from the position on.
 abbrev pub excerpt_text : Excerpt → List ℕ
 excerpt_text e = codes "    " ++ (e.lead.now ++ (shown_bytes e.before.now ++ (shown_bytes e.after.now ++ (e.trail.now
     ++ (10 ∷ codes "    " ++ (blank_bytes e.lead.now ++ (blank_bytes e.before.now ++ codes "^\n")))))))

@@ -30,8 +30,7 @@ limits_for pages calls =
     then Some (record { pages = Some (max MIN_PAGES pages); calls = Some (max MIN_CALLS calls) })
     else None
 
--- The limits of a run of an image that may contain limits: each limit is the given one, or else the image's limit, or else
--- the default.
+-- The limits of a run of an image that may contain limits: each limit is the given one, or else the image's limit, or else the default.
 abbrev pub limits_by : Given → (note : Option (ℕ × ℕ)) → Bounds
 limits_by given None = record { pages = unwrap_or given.pages DEFAULT_PAGES; calls = unwrap_or given.calls DEFAULT_CALLS }
 limits_by given (Some limits) = record { pages = unwrap_or given.pages limits.0; calls = unwrap_or given.calls limits.1 }

@@ -1,5 +1,4 @@
--- This file defines the request of a command line. The form of requests on a command line is this
--- project's own choice.
+-- This file defines the request of a command line. The form of requests on a command line is this project's own choice.
 use Rattle.std.specs.Prelude.{◌≡◌, ◌↔◌, ℕ, Bool, true, false, ◌≤◌, List, codes, Option, Some, None, IfSome, option_map}
 use Rattle.std.specs.Str.Parse.{digits_value}
 use Rattle.clap.specs.Words.{App, Row, Text, is_simple, subcommand_of}
@@ -33,8 +32,7 @@ abbrev pub IsNumberIfGiven : Option (List ℕ) → Option ℕ → Type 0
 IsNumberIfGiven (Some text) n = n ≡ Some (digits_value 10 text)
 IsNumberIfGiven None n = n ≡ None
 
--- Says that the limits on pages and calls are the values of their options, or are omitted if the
--- options are.
+-- Says that the limits on pages and calls are the values of their options, or are omitted if the options are.
 abbrev pub AreLimitsOf : (List ℕ → Option (List ℕ)) → Given → Type 0
 AreLimitsOf given limits = IsNumberIfGiven (given (codes "pages")) limits.pages × IsNumberIfGiven (given (codes "calls")) limits.calls
 
@@ -42,8 +40,7 @@ AreLimitsOf given limits = IsNumberIfGiven (given (codes "pages")) limits.pages 
 abbrev pub AreCapsOf : (List ℕ → Option (List ℕ)) → Given → Type 0
 AreCapsOf given caps = IsNumberIfGiven (given (codes "at-most-pages")) caps.pages × IsNumberIfGiven (given (codes "at-most-calls")) caps.calls
 
--- Says that a flag tells if an option without a value was given: if so, the command-line parser
--- stores the text `true` for the option.
+-- Says that a flag tells if an option without a value was given: if so, the command-line parser stores the text `true` for the option.
 abbrev pub IsFlagOf : Option (List ℕ) → Bool → Type 0
 IsFlagOf given flag = flag ≡ true ↔ given ≡ Some (codes "true")
 
@@ -53,8 +50,7 @@ abbrev pub IsAutoOf : Option (List ℕ) → Given → Bool → Type 0
 IsAutoOf None limits auto = auto ≡ false
 IsAutoOf (Some text) limits auto = (text ≡ codes "auto") × (auto ≡ true) × (limits.pages ≡ None) × (limits.calls ≡ None)
 
--- Says that the store is the one that the command line names, or the pool of pages if it names
--- none.
+-- Says that the store is the one that the command line names, or the pool of pages if it names none.
 abbrev pub IsStoreOf : Option (List ℕ) → StoreKind → Type 0
 IsStoreOf None store = store ≡ Pages
 IsStoreOf (Some text) Pages = text ≡ codes "pages"

@@ -1,5 +1,4 @@
--- The keys that the code finds among the types of a signature, and the regions of the signature's
--- effect.
+-- The keys that the code finds among the types of a signature, and the regions of the signature's effect.
 use Rattle.std.specs.Prelude.{◌≡◌, ℕ, zero, suc, Bool, not, nat_eq, ◌&&◌, if◌then◌else◌, List, [], ◌∷◌, map, Option, Some, None}
 use Rattle.std.specs.List.{list_any}
 use Rattle.cyc_words.specs.declared.fault.Code.TheVariants as codes
@@ -28,8 +27,7 @@ abbrev pub without : Keys → (count from : ℕ) → List Region
 without k zero n = []
 without k (suc m) n = if has k (Variable n) then without k m (suc n) else Variable n ∷ without k m (suc n)
 
--- the effect of a function with the given number of region variables; an omitted effect has all
--- variables without a key
+-- the effect of a function with the given number of region variables; an omitted effect has all variables without a key
 abbrev pub effect_by : List RegionName → Keys → (variables : ℕ) → Option (List Named) → List Region
 effect_by names k n None = without k n 1
 effect_by names k n (Some rs) = map (region_of names) rs

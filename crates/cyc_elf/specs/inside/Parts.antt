@@ -1,5 +1,5 @@
--- The results of the parts of the reader. The reader's own contract cites none of this: `proofs/` shows that the parts together implement
--- the rules. The division of the reader into parts is this project's own choice.
+-- The results of the parts of the file reader. The reader's own contract does not cite these definitions: `proofs/` shows that the parts
+-- together implement the rules. The division of the reader into parts is this project's own choice.
 use Rattle.std.specs.Prelude.{ℕ, ◌+◌, ◌^◌, ◌<◌, Bool, true, not, ◌&&◌, nat_le, ◌==◌, if◌then◌else◌, Option, Some, None, is_some, List, [], ◌∷◌, ◌++◌, map}
 use Rattle.std.specs.List.{list_any}
 use Rattle.cyc_elf.specs.declared.fault.ElfFault.{ElfFault}
@@ -9,7 +9,8 @@ use Rattle.cyc_elf.specs.Note.{is_note, limits_at}
 use Rattle.cyc_elf.specs.Outline.{fields_of}
 use Rattle.cyc_elf.specs.Reading.{first_fault, own_rules, is_load, overlap}
 
--- The loadable headers and the first note's limits found before the first single header that violates a rule, and the fault of that header.
+-- The result of traversing the headers: the loadable headers and the first note's limits found before the first single header that violates
+-- a rule, and the fault of that header.
 pub record Walk : Type 0 where
   pub loads : List ProgramHeader
   pub note : Option (ℕ × ℕ)
@@ -22,21 +23,21 @@ abbrev pub step : (known : Option (ℕ × ℕ)) → ProgramHeader → Option Elf
 step known h (Some f) rest = record { loads = []; note = known; fault = Some f }
 step known h None rest = record { loads = if is_load h then h ∷ rest.loads else rest.loads; note = rest.note; fault = rest.fault }
 
--- The limits known after a header, given those known before.
+-- Returns the limits known after a header, given those known before it.
 abbrev pub noted : List ℕ → (known : Option (ℕ × ℕ)) → ProgramHeader → Option (ℕ × ℕ)
 noted file known h = if is_note file h then Some (limits_at file h.offset) else known
 
--- A walk over headers that starts with these known limits.
+-- Traverses program headers, starting with the limits that are already known.
 abbrev pub walk : List ℕ → (known : Option (ℕ × ℕ)) → List ProgramHeader → Walk
 walk file known [] = record { loads = []; note = known; fault = None }
 walk file known (h ∷ rest) = step known h (first_fault (own_rules file (is_some known) h)) (walk file (noted file known h) rest)
 
--- No header overlaps one before it, including those in `earlier`.
+-- Returns true if no header overlaps a header before it, including the headers in `earlier`.
 abbrev pub are_apart : (earlier headers : List ProgramHeader) → Bool
 are_apart earlier [] = true
 are_apart earlier (h ∷ rest) = not (list_any (overlap h) earlier) && are_apart (earlier ++ h ∷ []) rest
 
--- Each header with memory begins at or after the end of the one before it.
+-- Returns true if each header with memory begins at or after the end of the previous one.
 abbrev pub in_order : ℕ → List ProgramHeader → Bool
 in_order high [] = true
 in_order high (h ∷ rest) =
@@ -44,7 +45,7 @@ in_order high (h ∷ rest) =
     then in_order high rest
     else (nat_le high h.vaddr && in_order (h.vaddr + h.memory_size) rest)
 
--- The numbers of a program header fit four bytes.
+-- Says that the numbers of a program header fit into four bytes each.
 pub record IsInWords (h : ProgramHeader) : Type 0 where
   pub kind : h.kind < 2 ^ 32
   pub offset : h.offset < 2 ^ 32

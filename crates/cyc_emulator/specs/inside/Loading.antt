@@ -15,8 +15,7 @@ abbrev pub Loads : Result ImageContents ElfFault → Bounds → StoreState → S
 Loads (Err fault) limits store machine = ⊥
 Loads (Ok image) limits store machine = (has_outside image ≡ false) × (machine ≡ start_state image limits store)
 
--- `Declines` says why there is no machine: the fault of reading, an image for which the machine has no place, or
--- lack of memory.
+-- `Declines` says why there is no machine: the fault of reading, an image for which the machine has no place, or lack of memory.
 abbrev pub Declines : Result ImageContents ElfFault → RunFault → Type 0
 Declines (Err fault) why = (why ≡ Elf fault) ⊎ (why ≡ Memory)
 Declines (Ok image) why = ((has_outside image ≡ true) × (why ≡ Load load.Outside)) ⊎ (why ≡ Memory)

@@ -1,5 +1,4 @@
--- One turn of the engine: the machine executes one instruction between a reader and a writer, as
--- the code does it.
+-- One turn of the engine: the machine executes one instruction between a reader and a writer, as the code does it.
 use Rattle.std.specs.Prelude.{◌≡◌, ℕ, ◌+◌, [], ◌∷◌, Bool, Option, None, Some, Result, Ok, Err}
 use Rattle.std.specs.Io.KnownBytes.{Keeps, Appends}
 use Rattle.cyc_machine.specs.Between.{Asked, after_byte}

@@ -1,5 +1,4 @@
--- The contracts between the functions that check expressions; each contract states a part of a
--- typing rule.
+-- The contracts between the functions that check expressions; each contract states a part of a typing rule.
 use Rattle.std.specs.Prelude.{ℕ, Option, Some, None, Ok}
 use Rattle.cyc_words.specs.declared.fault.Code.TheVariants as codes
 use Rattle.cyc_syntax.specs.declared.tree.BinaryOperator.{BinaryOperator}
@@ -19,15 +18,13 @@ use Rattle.cyc_types.specs.typing.Scopes.{Scope}
 use Rattle.cyc_types.specs.typing.Expressions.{as_int, rule_looked, is_looking, operand, peeked_local, Joined, joined, Found, Reached, Placed, by_handle, indexed, selected, rule, rule_chain}
 use Rattle.cyc_expressions.specs.declared.walk.Chain.{Chain}
 
--- the variable name that an expression consists of, ignoring parentheses; `None` for any other
--- expression
+-- the variable name that an expression consists of, ignoring parentheses; `None` for any other expression
 abbrev pub name_in : Expression → Option Named
 name_in (Variable x) = Some x
 name_in (Bracketed p e) = name_in e
 name_in e = None
 
--- the rule for an expression that is used as an lvalue but is not one; the expression begins at
--- position p
+-- the rule for an expression that is used as an lvalue but is not one; the expression begins at position p
 abbrev pub rule_no_place : Scope → Place → Expression → Rule Found
 rule_no_place g p e = Part (rule g e) (λ a. Refused (fault_at codes.NotAPlace p))
 
@@ -40,13 +37,11 @@ abbrev pub one_postfix : Scope → Place → typed.Expression → Postfix → Ch
 one_postfix g p a (postfix.Index i) = and_then (run (rule g (view_expression i))) (λ b. Ok (indexed g p a (place_of (view_expression i)) (as_int b)))
 one_postfix g p a (postfix.Field f) = Ok (selected g p a (view_name f))
 
--- the result of one operation of a chain, after a left operand of the given type, which may peek at a local; the
--- chain begins at position p
+-- the result of one operation of a chain, after a left operand of the given type, which may peek at a local; the chain begins at position p
 abbrev pub one_operation : Scope → Place → Option ℕ → ValueType → BinaryOperator → Expression → Checked Joined
 one_operation g p k left o e = run (Part (operand (is_looking o) (rule g e) (rule_looked g e (rule g e))) (λ a. joined g p k left o (place_of e) (as_int a)))
 
--- the type of the left operand of an operation: the type of the chain's first operand, or of the result of the
--- previous operations
+-- the type of the left operand of an operation: the type of the chain's first operand, or of the result of the previous operations
 abbrev pub left_of : ValueType → Option TyCode → ValueType
 left_of first None = first
 left_of first (Some t) = Value (view_ty t)

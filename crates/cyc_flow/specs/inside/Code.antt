@@ -1,5 +1,4 @@
--- The relation between the code and the flow rules: the flow states that the code computes, and the
--- results of its functions.
+-- The relation between the code and the flow rules: the flow states that the code computes, and the results of its functions.
 use Rattle.std.specs.Prelude.{◌≡◌, ℕ, Bool, true, ◌&&◌, List, [], ◌∷◌, Option, Some, None, Result, Ok, Err}
 use Rattle.cyc_words.specs.declared.fault.Fault.{Fault}
 use Rattle.cyc_words.specs.Fault.{memory_fault}
@@ -33,8 +32,7 @@ abbrev pub undone : List Change → State → State
 undone [] f = f
 undone (c ∷ cs) f = with_fullness (view_fullness c.before) (undone cs f) c.number
 
--- Returns the flow state at the start of the expression, or of the innermost enclosing operand of
--- `&&` or `||`.
+-- Returns the flow state at the start of the expression, or of the innermost enclosing operand of `&&` or `||`.
 abbrev pub begun : Evaluation → State
 begun v = undone v.trail.items (view_state v.state)
 
@@ -62,21 +60,18 @@ abbrev pub fault_of : Stop → Fault
 fault_of stops.Memory = memory_fault
 fault_of (stops.Refused x n) = x
 
--- `Stops` says that a fault found by the code is the fault of the rule. If memory runs out, `Stops`
--- claims nothing.
+-- `Stops` says that a fault found by the code is the fault of the rule. If memory runs out, `Stops` claims nothing.
 abbrev pub Stops : {Y : Type 0} → Stop → Checked Y → Type 0
 Stops stops.Memory checked = Unit {0}
 Stops (stops.Refused x n) checked = checked ≡ Err x
 
--- `Ends` says that the code continues if no fault is known, and otherwise stops with the known fault; it
--- never runs out of memory.
+-- `Ends` says that the code continues if no fault is known, and otherwise stops with the known fault; it never runs out of memory.
 abbrev pub Ends : Result (Unit {0}) Stop → Option Fault → Type 0
 Ends (Ok u) fault = fault ≡ None
 Ends (Err stops.Memory) fault = ⊥
 Ends (Err (stops.Refused x n)) fault = fault ≡ Some x
 
--- `Allows` says that the code continues if the rule is satisfied, and otherwise stops with the
--- rule's fault.
+-- `Allows` says that the code continues if the rule is satisfied, and otherwise stops with the rule's fault.
 abbrev pub Allows : Result (Unit {0}) Stop → Checked (Unit {0}) → Type 0
 Allows (Ok u) checked = checked ≡ Ok tt
 Allows (Err e) checked = Stops e checked
@@ -87,8 +82,7 @@ abbrev pub Leads : Result (Unit {0}) Stop → (following : Evaluation) → Check
 Leads (Ok u) v checked ns start = (checked ≡ Ok (view_state v.state)) × (v.touched.numbers.list ≡ ns) × (begun v ≡ start)
 Leads (Err e) v checked ns start = Stops e checked
 
--- `Gives` relates the code's result for a whole expression to the rule: the state after the
--- expression, and the touched locals.
+-- `Gives` relates the code's result for a whole expression to the rule: the state after the expression, and the touched locals.
 abbrev pub Gives : Result Tracked Stop → Checked State → List ℕ → Type 0
 Gives (Ok t) checked ns = (checked ≡ Ok (view_state t.state)) × (t.touched.numbers.list ≡ ns)
 Gives (Err e) checked ns = Stops e checked
@@ -96,14 +90,12 @@ Gives (Err e) checked ns = Stops e checked
 abbrev pub known : State → State → Known
 known f breaks = record { now = f; breaks = breaks }
 
--- `GivesKnown` relates the code's result for a statement to the rule; its last argument is the
--- state at the breaks so far.
+-- `GivesKnown` relates the code's result for a statement to the rule; its last argument is the state at the breaks so far.
 abbrev pub GivesKnown : Result Tracked Stop → Checked Known → List ℕ → State → Type 0
 GivesKnown (Ok t) checked ns breaks = (checked ≡ Ok (known (view_state t.state) breaks)) × (t.touched.numbers.list ≡ ns)
 GivesKnown (Err e) checked ns breaks = Stops e checked
 
--- `GivesClauses` relates the code's result for catch clauses to the rule, whatever clauses come
--- after them.
+-- `GivesClauses` relates the code's result for catch clauses to the rule, whatever clauses come after them.
 abbrev pub GivesClauses : Around → State → Result Tracked Stop → (clauses : Clauses → Clauses) → Known → List ℕ → State → Type 0
 GivesClauses c start (Ok t) clauses k ns breaks =
     (rest : Clauses) → (run (rule_clauses c start (clauses rest) k) ≡ run (rule_clauses c start rest (known (view_state t.state) breaks))) × (touched_clauses (clauses rest) ns ≡ touched_clauses rest t.touched.numbers.list)

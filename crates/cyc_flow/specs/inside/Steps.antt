@@ -27,7 +27,6 @@ touched_operation (operation.PointerPeek n o e) ns = touched (view_expression e)
 abbrev pub view_loop : LoopCode → Loop
 view_loop l = record { place = place_of_span l.span; head = view_state l.head }
 
--- Returns the surroundings of a statement: the enclosing loop, if any, and the locals that earlier
--- items have locked.
+-- Returns the surroundings of a statement: the enclosing loop, if any, and the locals that earlier items have locked.
 abbrev pub stands : Option Loop → List ℕ → Around
 stands l ns = record { loop = l; locks = ns }

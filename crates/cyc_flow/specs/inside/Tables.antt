@@ -6,8 +6,7 @@ use Rattle.cyc_flow.specs.declared.table.Marks.{Marks}
 use Rattle.cyc_flow.specs.declared.table.Table.{Table}
 use Rattle.cyc_flow.specs.inside.Bits.{has_bit}
 
--- Returns the fullness of a local, decoded from two bits: the local holds a value, and the value is
--- not lent out.
+-- Returns the fullness of a local, decoded from two bits: the local holds a value, and the value is not lent out.
 abbrev pub reported : (held free : Bool) → Fullness
 reported false free = Vacant
 reported true false = Locked
@@ -39,8 +38,7 @@ table_length t = min t.count (64 * length t.marks.items)
 abbrev pub view_table : Table → List Fullness
 view_table t = each_below (table_length t) (known_at t.marks.items)
 
--- Returns the bits that are set in the marks `o` but not in the marks `m`. Marks contain two bits
--- for each of 64 locals.
+-- Returns the bits that are set in the marks `o` but not in the marks `m`. Marks contain two bits for each of 64 locals.
 abbrev pub missing : Marks → Marks → ℕ
 missing m o = bit_or (bit_xor (bit_and m.held o.held) o.held) (bit_xor (bit_and m.free o.free) o.free)
 
@@ -57,7 +55,6 @@ met_each [] os = []
 met_each (m ∷ ms) [] = []
 met_each (m ∷ ms) (o ∷ os) = met m o ∷ met_each ms os
 
--- Returns the marks (bits of 64 locals) in which each full local whose bit is set in the word
--- becomes empty.
+-- Returns the marks (bits of 64 locals) in which each full local whose bit is set in the word becomes empty.
 abbrev pub emptied_marks : Marks → (word : ℕ) → Marks
 emptied_marks m w = record { held = bit_xor m.held (bit_and (bit_and m.held m.free) w); free = m.free }

@@ -18,8 +18,7 @@ use Rattle.cyc_registers.specs.inside.Fills.{AreFillable}
 abbrev pub slot_word : Frame → ℕ → ℕ
 slot_word frame slot = frame.first_slot + slot
 
--- Returns true if an instruction overwrites the return address register: a call, or the opening of
--- a handler.
+-- Returns true if an instruction overwrites the return address register: a call, or the opening of a handler.
 abbrev pub loses : Instruction → Bool
 loses (instructions.Call function arguments count result) = true
 loses (instructions.Try first handler) = true
@@ -54,8 +53,7 @@ opens_any (i ∷ code) = opens i || opens_any code
 pub record IsFrame (r : Routine) (frame : Frame) : Type 0 where
   pub apart : (a b : ℕ) → a < r.slots → b < r.slots → slot_word frame a ≡ slot_word frame b → a ≡ b
   pub inside : (slot : ℕ) → slot < r.slots → slot_word frame slot < r.frame_count
-  -- For a function without slots, `inside` says nothing about `first_slot`, so this field is
-  -- needed.
+  -- For a function without slots, `inside` says nothing about `first_slot`, so this field is needed.
   pub first_inside : frame.first_slot ≤ r.frame_count
   pub beside : (slot : ℕ) → slot < r.slots → slot_word frame slot ≢ frame.return_address
   pub return_inside : frame.return_address < r.frame_count
@@ -89,8 +87,7 @@ pub record AreFirstFrames (program : Program) (count most : ℕ) (frames : List 
   pub fills : (k : ℕ) → k < count
       → AreFillable program (routine_at program k) (frame_at frames k).homes (frame_at frames k).fills
 
--- `AreRaised` says that among the first `count` functions, each one that opens a handler saves at
--- least `most` registers.
+-- `AreRaised` says that among the first `count` functions, each one that opens a handler saves at least `most` registers.
 abbrev pub AreRaised : Program → (count most : ℕ) → List Frame → Type 0
 AreRaised program count most frames =
     (k : ℕ) → k < count → opens_any (routine_at program k).code ≡ true → most ≤ (frame_at frames k).saved
@@ -132,7 +129,6 @@ pub record IsTooLarge (program : Program) (fault : Fault) : Type 0 where
   pub line : fault.line ≡ (routine_at program function).name.line
   pub column : fault.column ≡ (routine_at program function).name.column
 
--- `IsAccepted` says that the program is unchanged and that all its frames are within the size
--- limit.
+-- `IsAccepted` says that the program is unchanged and that all its frames are within the size limit.
 abbrev pub IsAccepted : (given program : Program) → Type 0
 IsAccepted given program = (program ≡ given) × HasSmallFrames program

@@ -1,5 +1,4 @@
--- This file defines the exit status and the last line for each answer of the program: they are this
--- project's own choice.
+-- This file defines the exit status and the last line for each answer of the program: they are this project's own choice.
 use Rattle.std.specs.Prelude.{ℕ, ◌%◌, List, ◌++◌, Option, Some, None, codes}
 use Rattle.std.specs.Fmt.{decimal, signed_decimal}
 use Rattle.cyc_words.specs.Word.{unsigned}
@@ -53,8 +52,7 @@ last_line NoMemory = codes "no memory"
 last_line Usage = codes "usage"
 last_line Unformatted = codes "not formatted"
 
--- The exit status of an answer; for a run that returned, it is the low 8 bits of the returned
--- value.
+-- The exit status of an answer; for a run that returned, it is the low 8 bits of the returned value.
 abbrev pub status_of : Answer → ℕ
 status_of Done = 0
 status_of (Returned value) = unsigned value % 256
@@ -70,8 +68,7 @@ status_of NoMemory = 8
 status_of Usage = 9
 status_of Unformatted = 1
 
--- A fault of lack of memory has no position in the text and does not mean that the text is
--- rejected.
+-- A fault of lack of memory has no position in the text and does not mean that the text is rejected.
 abbrev pub answer_of_fault : Fault → Answer
 answer_of_fault fault = elim fault.code [ Memory ↦ NoMemory | _ ↦ Refused fault ]
 
@@ -82,8 +79,7 @@ answer_of_stop (Stop.End End.Full) = Full
 answer_of_stop (Stop.End (End.Trap cause)) = Trapped cause
 answer_of_stop Stop.Spent = Spent
 
--- Faults of an image keep the numbers of the image reader; number 8 is an image that does not fit the machine's
--- memory.
+-- Faults of an image keep the numbers of the image reader; number 8 is an image that does not fit the machine's memory.
 abbrev pub answer_of_run_fault : RunFault → Answer
 answer_of_run_fault (RunFault.Elf Elf.Memory) = NoMemory
 answer_of_run_fault (RunFault.Elf fault) = BadImage (elf_number_of fault)

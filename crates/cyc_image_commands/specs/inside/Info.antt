@@ -1,5 +1,4 @@
--- The text that the command `info` writes about an image. The text of `info` is this project's own
--- choice.
+-- The text that the command `info` writes about an image. The text of `info` is this project's own choice.
 use Rattle.std.specs.Prelude.{◌≡◌, ℕ, ◌+◌, ◌/◌, ◌%◌, ◌^◌, ◌==◌, ◌&&◌, nat_le, nat_lt, Bool, false, List, [], ◌∷◌, ◌++◌, map, length, Option, Some, None, if◌then◌else◌, codes}
 use Rattle.std.specs.List.{flat_map}
 use Rattle.std.specs.Fmt.{decimal, digit_glyph}
@@ -8,8 +7,7 @@ use Rattle.cyc_elf.specs.declared.program_header.ProgramHeader.{ProgramHeader}
 use Rattle.cyc_elf.specs.Image.{SegmentContents, ImageContents}
 use Rattle.cyc_machine_model.specs.State.{text_base, text_end, data_base, data_end}
 
--- The data of a segment that `info` describes: its first address, its flags, and its sizes in the file and in
--- memory.
+-- The data of a segment that `info` describes: its first address, its flags, and its sizes in the file and in memory.
 pub record Extent : Type 0 where
   pub vaddr : ℕ
   pub flags : ℕ
@@ -37,8 +35,7 @@ range_of s =
     else if nat_le data_base s.vaddr && nat_lt s.vaddr data_end then codes "data"
     else codes "elsewhere"
 
--- The text line about a segment: its range, its first address, its words in memory, its bytes in the file, and
--- its flags.
+-- The text line about a segment: its range, its first address, its words in memory, its bytes in the file, and its flags.
 abbrev pub segment_line : Extent → List ℕ
 segment_line s = range_of s ++ (codes " at " ++ (address_text s.vaddr ++ (codes ", " ++ (decimal ((s.size + 3) / 4)
     ++ (codes " words, " ++ (decimal s.stored ++ (codes " bytes in the file, flags " ++ (decimal s.flags ++ codes "\n"))))))))

@@ -39,8 +39,7 @@ end_words NoMemory = codes "no memory"
 end_words Usage = codes "usage"
 end_words Unformatted = codes "not formatted"
 
--- The value that `main` returned, or the int of the uncaught exception, if the run ended in this
--- way.
+-- The value that `main` returned, or the int of the uncaught exception, if the run ended in this way.
 abbrev pub value_in : Answer → Option ℤ
 value_in (Returned value) = Some value
 value_in (Uncaught exception value) = Some value
@@ -79,8 +78,7 @@ abbrev pub place_fields : Report → List ℕ
 place_fields report = codes "\"limit\":" ++ (words_or_null (limit_words report.limit)
     ++ (codes ",\"instructions\":" ++ (decimal report.count ++ (codes ",\"counter\":" ++ (decimal report.counter ++ codes ",")))))
 
--- The JSON fields about the resources used: the peaks of calls and pages, if they were counted, and the bytes read and
--- written.
+-- The JSON fields about the resources used: the peaks of calls and pages, if they were counted, and the bytes read and written.
 abbrev pub amount_fields : Report → List ℕ
 amount_fields report = codes "\"most_calls\":" ++ (number_or_null (option_map (λ (peaks : Peaks). peaks.calls) report.peaks)
     ++ (codes ",\"most_pages\":" ++ (number_or_null (option_map (λ (peaks : Peaks). peaks.pages) report.peaks)

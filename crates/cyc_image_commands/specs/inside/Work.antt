@@ -1,5 +1,4 @@
--- The program's answers to the commands that run, list or describe an image, stated in terms of the results of the
--- lower layers.
+-- The program's answers to the commands that run, list or describe an image, stated in terms of the results of the lower layers.
 use Rattle.std.specs.Prelude.{◌≡◌, ◌⊎◌, ℕ, Bool, true, false, IfSome, is_some, List, Option, Some, None, Result, Ok, Err}
 use Rattle.std.specs.Io.KnownBytes.{Appends, Keeps}
 use Rattle.cyc_words.specs.Device.{AppendsPrefix}
@@ -59,15 +58,13 @@ pub record AnswersRun (image : List ℕ) (limits : Bounds) (budget : ℕ) (manne
   pub reported : report ≡ report_of_run outcome
   pub counted : IfSome report (λ r. is_some r.peaks ≡ counts_peaks manner)
 
--- Says that the image was listed to the device, and that the answer is that of the listing's
--- outcome.
+-- Says that the image was listed to the device, and that the answer is that of the listing's outcome.
 pub record AnswersListing (image : List ℕ) (old new : Option (List ℕ)) (answer : Answer) : Type 0 where
   pub outcome : Result (Unit {0}) RunFault
   pub shows : Shows (reading image) old new outcome
   pub answered : answer ≡ answer_of_listing outcome
 
--- Says that the description of an image is written completely, or that a prefix of the description
--- is written if the device failed.
+-- Says that the description of an image is written completely, or that a prefix of the description is written if the device failed.
 abbrev pub Informs : ImageContents → (old new : Option (List ℕ)) → Answer → Type 0
 Informs image old new Done = Appends old new (info_text image)
 Informs image old new WriteFault = AppendsPrefix old new (info_text image)

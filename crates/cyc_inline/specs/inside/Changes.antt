@@ -56,8 +56,7 @@ abbrev pub own_origins : (number index count : ℕ) → List Origin
 own_origins number index zero = []
 own_origins number index (suc count) = origin_at number index ∷ own_origins number (suc index) count
 
--- The origins of the instructions of a function's replacement, or of the function's own `count`
--- instructions if it is not replaced.
+-- The origins of the instructions of a function's replacement, or of the function's own `count` instructions if it is not replaced.
 abbrev pub origins_made : (number count : ℕ) → Option Made → List Origin
 origins_made number count (Some made) = made.origins.items
 origins_made number count None = own_origins number 0 count
@@ -68,8 +67,7 @@ all_origins number (r ∷ routines) changes = origins_made number (length r.code
 
 -- ---- how the replacement is made
 
--- Says that the work on a program is allowed: if calls are inlined, all their callees are leaf
--- functions.
+-- Says that the work on a program is allowed: if calls are inlined, all their callees are leaf functions.
 abbrev pub IsWork : Program → Work → Type 0
 IsWork program (works.Calls leafs) = AreLeafs program leafs.now
 IsWork program works.Duplicates = Unit {0}
@@ -83,14 +81,12 @@ abbrev pub left_of : Option Made → (spare : ℕ) → ℕ
 left_of (Some made) spare = made.spare
 left_of None spare = spare
 
--- Says that the replacement of a function is valid and leaves `change.spare` words of growth for
--- the remaining functions.
+-- Says that the replacement of a function is valid and leaves `change.spare` words of growth for the remaining functions.
 pub record IsChange (program : Program) (number spare : ℕ) (change : Option Made) : Type 0 where
   pub made : IsMadeFor program number change
   pub fits : size (routine_made (routine_at program number) change) + left_of change spare ≤ size (routine_at program number) + spare
 
--- Says that the replacements of the first functions are correct, and that `spare` words of growth remain for
--- the other functions.
+-- Says that the replacements of the first functions are correct, and that `spare` words of growth remain for the other functions.
 pub record AreBegun (program : Program) (room : ℕ) (changes : List (Option Made)) (spare : ℕ) : Type 0 where
   pub each : (k : ℕ) → k < length changes → IsMadeFor program k (change_at changes k)
   pub most : (sum_by size (changed program.functions changes) + spare ≤ max (sum_by size program.functions) room)
@@ -110,8 +106,7 @@ note None = None
 abbrev pub notes_of : List (Option Opened) → List (Option Note)
 notes_of opened = map note opened
 
--- Says that `s` is the source function `r`, or a replacement of `r` with one reported origin for
--- each instruction.
+-- Says that `s` is the source function `r`, or a replacement of `r` with one reported origin for each instruction.
 abbrev pub IsReported : (r s : Routine) → Option Note → Type 0
 IsReported r s (Some reported) = (reported.given ≡ r) × (reported.count ≡ length s.code)
 IsReported r s None = s ≡ r

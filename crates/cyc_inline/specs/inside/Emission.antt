@@ -76,21 +76,18 @@ pub record IsFitSite (site : Site) (code : List Instruction) : Type 0 where
 
 -- ---- which calls may be inlined
 
--- Says that a function is a leaf: its code may replace calls of it. The last instruction of its in-line part
--- does not fall through.
+-- Says that a function is a leaf: its code may replace calls of it. The last instruction of its in-line part does not fall through.
 pub record IsLeaf (r : Routine) (line : ℕ) : Type 0 where
   pub few : length r.code ≤ MOST_LEAF_CODE
   pub all : AllByRecursion (λ (i : Instruction). is_of_leaf i ≡ true) r.code
   pub within : line ≤ length r.code
   pub last : (k : ℕ) (i : Instruction) → At r.code k i → k + 1 ≡ line → leaves i ≡ true
 
--- Says that each function with a positive entry in `lines` is a leaf; the entry is the number of
--- instructions in its in-line part.
+-- Says that each function with a positive entry in `lines` is a leaf; the entry is the number of instructions in its in-line part.
 abbrev pub AreLeafs : Program → (lines : List ℕ) → Type 0
 AreLeafs program lines = (k : ℕ) → 0 < place_in lines k → IsLeaf (routine_at program k) (place_in lines k)
 
--- The number of instructions that replace a call: in the place of the call (`in_line`), or out of
--- line.
+-- The number of instructions that replace a call: in the place of the call (`in_line`), or out of line.
 abbrev pub call_size : Program → (in_line : Bool) → Call → ℕ
 call_size program in_line call = site_size call (routine_at program call.callee).results in_line (routine_at program call.callee).code
 
@@ -107,15 +104,13 @@ pub record IsOpenable (program : Program) (r : Routine) (slots : ℕ) (call : Ca
   pub room : r.slots + (routine_at program call.callee).slots ≤ slots
   pub small : call.count ≤ MOST_GROWTH
 
--- Says that `need` is what the caller needs to inline an instruction: slots, size and the number of
--- in-line instructions.
+-- Says that `need` is what the caller needs to inline an instruction: slots, size and the number of in-line instructions.
 pub record IsNeed (program : Program) (r : Routine) (i : Instruction) (need : Need) : Type 0 where
   pub openable : (call : Call) → chosen_call i need.line ≡ Some call → IsOpenable program r need.slots call
   pub least : r.slots ≤ need.slots
   pub frame : need.slots + LAYOUT_WORDS ≤ MOST_FRAME_WORDS
 
--- Says that the choice `new` extends `old` by one instruction; the instruction is a call chosen for
--- inlining, or is not chosen.
+-- Says that the choice `new` extends `old` by one instruction; the instruction is a call chosen for inlining, or is not chosen.
 pub record IsChosenBy (old new : Choice) (need : Option Need) : Type 0 where
   pub line : ℕ
   pub chosen : new.chosen.items ≡ old.chosen.items ++ line ∷ []
@@ -124,8 +119,7 @@ pub record IsChosenBy (old new : Choice) (need : Option Need) : Type 0 where
   pub least : old.slots ≤ new.slots
   pub growth : new.growth ≤ MOST_GROWTH
 
--- Says that the chosen calls of a function may be inlined, and that the function then has `slots`
--- slots.
+-- Says that the chosen calls of a function may be inlined, and that the function then has `slots` slots.
 pub record AreChosen (program : Program) (r : Routine) (chosen : List ℕ) (slots : ℕ) : Type 0 where
   pub each : (index : ℕ) (i : Instruction) (call : Call) → At r.code index i → chosen_call i (place_in chosen index) ≡ Some call → IsOpenable program r slots call
   pub least : r.slots ≤ slots
@@ -133,8 +127,7 @@ pub record AreChosen (program : Program) (r : Routine) (chosen : List ℕ) (slot
 
 -- ---- which instructions have a duplicate
 
--- The slot of an instruction's duplicate: `wanted`, if this is an extra slot and the instruction may have a
--- duplicate.
+-- The slot of an instruction's duplicate: `wanted`, if this is an extra slot and the instruction may have a duplicate.
 abbrev pub duplicate_slot : (given slots : ℕ) → Instruction → (wanted : ℕ) → Option ℕ
 duplicate_slot given slots i wanted = if may_have_duplicate i then (if nat_le given wanted then (if nat_lt wanted slots then Some wanted else None) else None) else None
 
@@ -155,8 +148,7 @@ abbrev pub fits_in : (slots : ℕ) → Operand → Bool
 fits_in slots (operands.Slot number) = nat_lt number slots
 fits_in slots (operands.Word word) = nat_lt word (2 ^ 32)
 
--- Returns true if an instruction may be hoisted in a function with `slots` slots: every global and slot that it
--- names exists.
+-- Returns true if an instruction may be hoisted in a function with `slots` slots: every global and slot that it names exists.
 abbrev pub may_hoisted : (globals given slots : ℕ) → Instruction → Bool
 may_hoisted globals given slots (instructions.Move destination source) = is_further given slots destination && fits_in slots source
 may_hoisted globals given slots (instructions.Binary operator destination left right) =
@@ -164,8 +156,7 @@ may_hoisted globals given slots (instructions.Binary operator destination left r
 may_hoisted globals given slots (instructions.LoadGlobal destination global) = is_further given slots destination && nat_lt global globals
 may_hoisted globals given slots instruction = false
 
--- The wanted instructions that may be hoisted before an instruction; the list is empty if too many
--- are wanted.
+-- The wanted instructions that may be hoisted before an instruction; the list is empty if too many are wanted.
 abbrev pub all_hoisted_of : (globals given slots : ℕ) → Instruction → (wanted : List Instruction) → List Instruction
 all_hoisted_of globals given slots i wanted = if may_follow_hoisted i && nat_le (length wanted) MOST_HOISTED then filter (may_hoisted globals given slots) wanted else []
 
@@ -178,8 +169,7 @@ abbrev pub all_hoisted_by : Program → (number : ℕ) → Choice → (index : �
 all_hoisted_by program number choice index i =
     all_hoisted_if (length program.globals) (routine_at program number).slots choice.slots i (slice_get choice.all_hoisted.items index)
 
--- The instructions put before an instruction: the hoisted instructions, then the instruction's
--- duplicate.
+-- The instructions put before an instruction: the hoisted instructions, then the instruction's duplicate.
 abbrev pub front_by : Program → (number : ℕ) → Choice → (index : ℕ) → Instruction → List Instruction
 front_by program number choice index i = all_hoisted_by program number choice index i ++ duplicate_in i (duplicate_by program number choice index i)
 
@@ -217,8 +207,7 @@ abbrev pub part_count : Program → (in_line : Bool) → Option Call → (front 
 part_count program in_line (Some call) front = call_size program in_line call
 part_count program in_line None front = if in_line then own_count front else 0
 
--- The concatenated replacements of all instructions from `index` on, each with the instructions put
--- before it.
+-- The concatenated replacements of all instructions from `index` on, each with the instructions put before it.
 abbrev pub opened_code : Program → (number : ℕ) → List ℕ → (front_at : ℕ → Instruction → List Instruction) → (place rest : ℕ → ℕ) → (in_line : Bool) → (index : ℕ) → List Instruction → List Instruction
 opened_code program number chosen front_at place rest in_line index [] = []
 opened_code program number chosen front_at place rest in_line index (i ∷ code) =
@@ -231,8 +220,7 @@ opened_origins program number chosen front_at in_line index (i ∷ code) =
     part_origins program number in_line index (chosen_call i (place_in chosen index)) (length (front_at index i))
     ++ opened_origins program number chosen front_at in_line (suc index) code
 
--- The code positions of the replacements of all instructions, if the first begins at `here`, and the
--- position after the last.
+-- The code positions of the replacements of all instructions, if the first begins at `here`, and the position after the last.
 abbrev pub opened_places : Program → List ℕ → (front_at : ℕ → Instruction → List Instruction) → (in_line : Bool) → (index here : ℕ) → List Instruction → List ℕ
 opened_places program chosen front_at in_line index here [] = here ∷ []
 opened_places program chosen front_at in_line index here (i ∷ code) =
@@ -243,8 +231,7 @@ opened_end program chosen front_at in_line index here [] = here
 opened_end program chosen front_at in_line index here (i ∷ code) =
     opened_end program chosen front_at in_line (suc index) (here + part_count program in_line (chosen_call i (place_in chosen index)) (length (front_at index i))) code
 
--- Says that the instructions put before an instruction may precede it, and that everything they
--- name exists.
+-- Says that the instructions put before an instruction may precede it, and that everything they name exists.
 pub record IsFront (program : Program) (r : Routine) (slots : ℕ) (i : Instruction) (front : List Instruction) : Type 0 where
   pub each : AllByRecursion (λ (x : Instruction). (may_hoisted (length program.globals) r.slots slots x ≡ true) ⊎ IsDuplicate r.slots slots i x) front
   pub some : 0 < length front → may_follow_hoisted i ≡ true
@@ -269,21 +256,18 @@ IsKnown caller =
 
 -- ---- replaced functions
 
--- Says that a function is a correct replacement of a program's function: the function with some of
--- its calls inlined.
+-- Says that a function is a correct replacement of a program's function: the function with some of its calls inlined.
 pub record IsMade (program : Program) (number : ℕ) (s : Routine) (origins : List Origin) : Type 0 where
   pub opened : IsOpened program number (routine_at program number) s origins
   pub routine : IsRoutine program s
   pub words : All HasWord s.code
 
--- Says that the origins are those of `count` unchanged instructions: each instruction is its own
--- origin.
+-- Says that the origins are those of `count` unchanged instructions: each instruction is its own origin.
 pub record AreOwn (number count : ℕ) (origins : List Origin) : Type 0 where
   pub as_many : length origins ≡ count
   pub each : (k : ℕ) → k < count → slice_get origins k ≡ Some (origin_at number k)
 
--- Says that the functions are correct replacements of the first `count` functions of a program,
--- with their origins.
+-- Says that the functions are correct replacements of the first `count` functions of a program, with their origins.
 pub record AreFirstMade (program : Program) (count : ℕ) (routines : List Routine) (origins : List (List Origin)) : Type 0 where
   pub as_many : length routines ≡ count
   pub as_many_origins : length origins ≡ count

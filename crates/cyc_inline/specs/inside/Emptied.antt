@@ -41,8 +41,7 @@ abbrev pub first_return : List Instruction → ℕ
 first_return [] = 0
 first_return (i ∷ code) = if returns i then 0 else suc (first_return code)
 
--- The only instruction that an unreachable function keeps: its first return. A function without a return keeps all of its
--- code.
+-- The only instruction that an unreachable function keeps: its first return. A function without a return keeps all of its code.
 abbrev pub stub_of : Bool → List Instruction → Option Instruction
 stub_of true code = None
 stub_of false code = slice_get code (first_return code)
@@ -82,8 +81,7 @@ abbrev pub notes_kept : List Routine → List (Option Note) → List Bool → Li
 notes_kept [] notes reached = []
 notes_kept (r ∷ routines) notes reached = note_kept (first_flag reached) r (first_of notes) ∷ notes_kept routines (others notes) (other_flags reached)
 
--- Says that a program is the source program without the code of unreachable functions, and that its
--- reported origins are correct.
+-- Says that a program is the source program without the code of unreachable functions, and that its reported origins are correct.
 pub record IsEmptied (given made : Inlined) : Type 0 where
   pub reached : List Bool
   pub are : AreReached given.plain reached

@@ -42,8 +42,7 @@ moved shift place (instructions.Throw tag value) = instructions.Throw (shifted_o
 moved shift place (instructions.Try first handler) = instructions.Try first (place handler)
 moved shift place instruction = instruction
 
--- Returns true if a leaf may contain the instruction: it opens no handler, calls no function, and takes no
--- slot's address.
+-- Returns true if a leaf may contain the instruction: it opens no handler, calls no function, and takes no slot's address.
 abbrev pub is_of_leaf : Instruction → Bool
 is_of_leaf (instructions.Call function arguments count result) = false
 is_of_leaf (instructions.Enter function) = false
@@ -54,8 +53,7 @@ is_of_leaf (instructions.Leave first) = false
 is_of_leaf (instructions.Uncaught tag value) = false
 is_of_leaf instruction = true
 
--- The instructions that move `count` words from slots at `source` to slots at `destination`, one by
--- one.
+-- The instructions that move `count` words from slots at `source` to slots at `destination`, one by one.
 abbrev pub passing : (destination source count : ℕ) → List Instruction
 passing destination source zero = []
 passing destination source (suc count) =
@@ -76,8 +74,7 @@ origin_at function index = record { function = function; index = index }
 abbrev pub AreMadeOf : List Origin → (from count : ℕ) → Origin → Type 0
 AreMadeOf origins from count origin = (k : ℕ) → k < count → slice_get origins (from + k) ≡ Some origin
 
--- Says that control passes from one code position to another: they are equal, or a jump leads from
--- the first to the second.
+-- Says that control passes from one code position to another: they are equal, or a jump leads from the first to the second.
 abbrev pub GoesTo : List Instruction → List Origin → (from to : ℕ) → Origin → Type 0
 GoesTo code origins from to origin = (from ≡ to) ⊎ (At code from (instructions.Jump to) × AreMadeOf origins from 1 origin)
 
@@ -93,8 +90,7 @@ StandsInside code origins shift result results following callee place index i No
     × AreMadeOf origins (place index) 1 (origin_at callee index)
     × (leaves i ≡ false → GoesTo code origins (place index + 1) (place (index + 1)) (origin_at callee index))
 
--- Says that a call is inlined: its arguments are moved to extra slots, stack space is checked, and the callee's
--- code follows.
+-- Says that a call is inlined: its arguments are moved to extra slots, stack space is checked, and the callee's code follows.
 pub record IsSite (program : Program) (s : Routine) (origins : List Origin) (shift function index here following callee arguments count result : ℕ) : Type 0 where
   pub place : ℕ → ℕ
   pub room : shift + (routine_at program callee).slots ≤ s.slots
@@ -127,8 +123,7 @@ duplicate slot (instructions.LoadGlobal destination global) = instructions.LoadG
 duplicate slot (instructions.Load destination address offset) = instructions.Load slot address offset
 duplicate slot instruction = instruction
 
--- Says that an instruction duplicates another one and writes a slot that the source function does
--- not have.
+-- Says that an instruction duplicates another one and writes a slot that the source function does not have.
 pub record IsDuplicate (given slots : ℕ) (i j : Instruction) : Type 0 where
   pub slot : ℕ
   pub further : given ≤ slot
@@ -163,8 +158,7 @@ preceded_slot (instructions.Binary operator destination left right) = if is_divi
 preceded_slot (instructions.LoadGlobal destination global) = Some destination
 preceded_slot instruction = None
 
--- Says that an instruction is hoisted: it cannot fail and writes a slot that the source function
--- does not have.
+-- Says that an instruction is hoisted: it cannot fail and writes a slot that the source function does not have.
 pub record IsHoisted (given slots : ℕ) (j : Instruction) : Type 0 where
   pub slot : ℕ
   pub further : given ≤ slot
@@ -196,8 +190,7 @@ StandsFor program r s origins function place index i =
     × (leaves i ≡ false → place (index + 1) ≡ place index + 1))
     ⊎ IsPreceded r s origins function place index i
 
--- Says that a function has some of its calls inlined. Each instruction of the result has an origin in the function or
--- in a leaf.
+-- Says that a function has some of its calls inlined. Each instruction of the result has an origin in the function or in a leaf.
 pub record IsOpened (program : Program) (function : ℕ) (r s : Routine) (origins : List Origin) : Type 0 where
   pub like : IsLike r s
   pub as_many : length origins ≡ length s.code

@@ -21,16 +21,14 @@ chosen_call instruction line = None
 abbrev pub place_in : List ℕ → (index : ℕ) → ℕ
 place_in places index = slice_index_or places index 0
 
--- Returns true if the callee's instruction at `index` belongs to the in-line part, or to the
--- out-of-line part if `in_line` is false.
+-- Returns true if the callee's instruction at `index` belongs to the in-line part, or to the out-of-line part if `in_line` is false.
 abbrev pub stands_in : (in_line : Bool) → (line index : ℕ) → Bool
 stands_in true line index = nat_lt index line
 stands_in false line index = nat_le line index
 
 -- ---- an instruction of the callee
 
--- The jump after an inlined return; no jump is needed if the return is the last in-line
--- instruction.
+-- The jump after an inlined return; no jump is needed if the return is the last in-line instruction.
 abbrev pub way_following : (is_last : Bool) → (following : ℕ) → List Instruction
 way_following true following = []
 way_following false following = instructions.Jump following ∷ []
@@ -51,8 +49,7 @@ abbrev pub inside_count : (results line index : ℕ) → Option ℕ → ℕ
 inside_count results line index (Some value) = results + way_count (index + 1 == line)
 inside_count results line index None = 1
 
--- The number of instructions that a callee's instruction contributes to the in-line part, or to the
--- out-of-line part.
+-- The number of instructions that a callee's instruction contributes to the in-line part, or to the out-of-line part.
 abbrev pub count_in : (results line : ℕ) → (in_line : Bool) → (index : ℕ) → Option ℕ → ℕ
 count_in results line in_line index end = if stands_in in_line line index then inside_count results line index end else 0
 
@@ -86,8 +83,7 @@ inside_places results line index here there (i ∷ code) =
 abbrev pub places_inside : Site → (here : ℕ) → List Instruction → (index : ℕ) → ℕ
 places_inside site here code = place_in (inside_places site.results site.call.line 0 (here + site.call.count + 1) site.rest code)
 
--- The code in the place of an inlined call: moves of the arguments, the check of stack space, and the in-line part of the
--- callee's code.
+-- The code in the place of an inlined call: moves of the arguments, the check of stack space, and the in-line part of the callee's code.
 abbrev pub site_code : Site → (in_line : Bool) → (here : ℕ) → List Instruction → List Instruction
 site_code site true here code =
     passing site.shift site.call.arguments site.call.count ++ instructions.Enter site.call.callee ∷ inside_code site (places_inside site here code) true 0 code

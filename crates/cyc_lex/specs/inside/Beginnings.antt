@@ -1,5 +1,4 @@
--- This file finds the keyword that the first byte, the middle byte and the length of a name
--- determine.
+-- This file finds the keyword that the first byte, the middle byte and the length of a name determine.
 use Rattle.std.specs.Prelude.{ℕ, ◌==◌, nat_lt, if◌then◌else◌, Option, Some, None}
 use Rattle.cyc_syntax.specs.declared.tokens.Keyword.{Keyword}
 use Rattle.cyc_syntax.specs.declared.tokens.Keyword.TheVariants as words

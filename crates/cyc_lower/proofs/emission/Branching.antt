@@ -1,5 +1,4 @@
--- The code of statements is emitted piece by piece: blocks with their regions, and branches whose targets are set
--- later.
+-- The code of statements is emitted piece by piece: blocks with their regions, and branches whose targets are set later.
 use Rattle.std.proofs.Common.{◌≡◌, ℕ, zero, suc, ◌+◌, ◌-◌, ◌<◌, ◌≤◌, Bool, true, false, List, [], ◌∷◌, ◌++◌, length, get_or, drop, set, refl, sym, ap, ◌∙◌, arith, append_assoc, append-nil}
 use Rattle.std.proofs.lemmas.List.{drop_all, drop_more, length-append, length-set}
 use Rattle.std.specs.declared.vec.Vec.{Vec}
@@ -43,8 +42,7 @@ abbrev pub opened_items : Starts → List ItemCode → (p : ℕ) → Exits × �
 opened_items starts [] p s = []
 opened_items starts (j ∷ js) p s = one_item starts j js p s ++ opened_items starts js (p + length (one_item starts j js p s)) (next_item j js s)
 
--- Returns the code that closes `many` lexical regions, newest first; the numbers that close them
--- are in the slots from `t` on.
+-- Returns the code that closes `many` lexical regions, newest first; the numbers that close them are in the slots from `t` on.
 abbrev pub closed_items : (many t : ℕ) → List Instruction
 closed_items zero t = []
 closed_items (suc many) t = closed_items many (t + 1) ++ closed_code t
@@ -135,8 +133,7 @@ module _ (starts : Starts) (old : List Instruction) (js : List ItemCode) (first 
         omega (arith, begun, longer, head),
       )
 
--- `ClosesLeft` says that the code, extended by the closing of the regions from slot `following` down to slot
--- `free`, is the whole code.
+-- `ClosesLeft` says that the code, extended by the closing of the regions from slot `following` down to slot `free`, is the whole code.
 abbrev pub ClosesLeft : (whole code : List Instruction) → (free following : ℕ) → Type 0
 ClosesLeft whole code free following = (many : ℕ) × (following ≡ free + many) × (code ++ closed_items many free ≡ whole)
 
@@ -220,8 +217,7 @@ nothing_is : (s : Statement) → is_nothing s ≡ true → s ≡ Empty
 nothing_is Empty is = refl
 nothing_is s is = absurd (let f : false ≡ true = is in cc)
 
--- The code of an `if` without an `else` part, whose jump target is set after the statement is
--- emitted.
+-- The code of an `if` without an `else` part, whose jump target is set after the statement is emitted.
 module _ (starts : Starts) (a : Expression) (s : Statement) (exits : Exits) (d : ℕ) (o : Condition) (early : List Pending) (o_is : o ≡ branch_of starts logical.AndThen a d) (old : List Instruction) (aims : Aims early (λ other. branch_code starts logical.AndThen a other (length old) d) (length old)) (x : Instruction) (m0 m1 m2 m3 : List Instruction) (over : ℕ) where
   pub made_then : m0 ≡ old ++ branch_code starts logical.AndThen a 0 (length old) d → over ≡ length m0 → m1 ≡ m0 ++ x ∷ [] → m2 ≡ m1 ++ statement_code starts s (length m1) exits d → m3 ≡ failed early (length m2) (set m2 over (failing_jump o (length m2)))
       → m3 ≡ old ++ then_code starts a s (length old) exits d

@@ -16,8 +16,7 @@ use Rattle.cyc_lower.proofs.emission.Emitting.{Remains, goes_on_by}
 
 -- ---- one cell
 
--- `StoresLeft` says that the code so far, extended by the stores of the words from number `i` on,
--- is the whole code.
+-- `StoresLeft` says that the code so far, extended by the stores of the words from number `i` on, is the whole code.
 abbrev pub StoresLeft : (old code : List Instruction) → Kind → (many address offset first i : ℕ) → Type 0
 StoresLeft old code kind many address offset first i =
     (left : ℕ) × (i + left ≡ many) × (code ++ stores_code kind left address (offset + 4 * i) (first + i) ≡ old ++ stores_code kind many address offset first)
@@ -64,8 +63,7 @@ same_item ks i other inside =
     let e : get_or ks i other ∷ drop (i + 1) ks ≡ get_or ks i kind ∷ drop (i + 1) ks = sym (drop_more ks i other inside) ∙ drop_more ks i kind inside in
     cc
 
--- `KindsLeft` says that the kinds collected so far, extended by those of the remaining fields, are
--- all kinds.
+-- `KindsLeft` says that the kinds collected so far, extended by those of the remaining fields, are all kinds.
 abbrev pub KindsLeft : List ConvertedCode → (i : ℕ) → List Kind → Type 0
 KindsLeft cs i ks = ks ++ kinds_passed (arguments_of (drop i cs)) ≡ kinds_passed (arguments_of cs)
 
@@ -84,8 +82,7 @@ bytes_next ks i bytes begin new kind inside at few begin_is new_is left =
     let next : new ≡ following kind bytes = omega (arith, new_is, there) in
     (there, next, ap (λ (n : ℕ). bytes_from n rest) next ∙ all)
 
--- The sums of the numbers of bytes of an object's cells do not overflow, since an object has at
--- most 4000 bytes.
+-- The sums of the numbers of bytes of an object's cells do not overflow, since an object has at most 4000 bytes.
 pub bytes_low : (ks : List Kind) (i bytes : ℕ) (kind : Kind) → i < length ks → kind ≡ get_or ks i kind → bytes_from 0 ks ≤ 4000 → BytesLeft ks i bytes
     → begins_word kind bytes + bytes_of_kind kind ≤ 4000
 bytes_low ks i bytes kind inside at few left =
@@ -94,8 +91,7 @@ bytes_low ks i bytes kind inside at few left =
     let least : following kind bytes ≤ bytes_from (following kind bytes) rest = bytes-least (following kind bytes) rest in
     omega (arith, all, least, few, begins_is kind bytes (omega (arith, all, least, few)))
 
--- `SlotsLeft` says that the slots counted so far and those of the remaining values are the slots of
--- all values.
+-- `SlotsLeft` says that the slots counted so far and those of the remaining values are the slots of all values.
 abbrev pub SlotsLeft : List Kind → (first i slot : ℕ) → Type 0
 SlotsLeft ks first i slot = slot + slots_of_kinds (drop i ks) ≡ first + slots_of_kinds ks
 
@@ -107,8 +103,7 @@ slots_next ks first i slot kind inside at left =
 
 -- ---- several cells
 
--- Returns the code that fills all cells; its state is the number of bytes before the next cell, and the
--- slot of the cell's value.
+-- Returns the code that fills all cells; its state is the number of bytes before the next cell, and the slot of the cell's value.
 abbrev pub all_cells : (address : ℕ) → List Kind → ℕ → ℕ × ℕ → List Instruction
 all_cells address ks p s = cells_code ks address s.0 s.1
 

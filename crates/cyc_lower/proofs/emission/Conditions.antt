@@ -83,8 +83,7 @@ module _ (starts : Starts) where
         ∙ sym (ap (λ (x : Compared). old ++ pair_code starts x.left x.right (length old) t) is),
   )
 
-  -- If the only operator of a chain compares a pointer with null, emitting the pointer and
-  -- comparing its word with 0 emits the condition.
+  -- If the only operator of a chain compares a pointer with null, emitting the pointer and comparing its word with 0 emits the condition.
   made_nulled : (whole a : Expression) (failing : Comparison) (answer : Condition) (old new : List Instruction) (t : ℕ) → compared_of whole ≡ record { failing = failing; left = a; right = Number 0 }
       → (answer ≡ null_condition starts failing a t) × (new ≡ old ++ value_code starts a (length old) t) → IsMade whole answer old new t
   made_nulled whole a failing answer old new t is (answers, made) = (
@@ -112,8 +111,7 @@ module _ (starts : Starts) where
       subst (λ (w : Expression). IsMade w answer old new t) (sym chain)
       (made_nulled (Binary first (operations_of (y ∷ [])) ty) first failing answer old new t (null_chain first y ty failing here) made)
 
-  -- If the only operator of a chain compares two operands, the condition of the chain compares
-  -- these operands.
+  -- If the only operator of a chain compares two operands, the condition of the chain compares these operands.
   pair_chain : (first : Expression) (x : Operation) (ty : Ty) (failing : Comparison) → null_operation x ≡ None → pair_operation x ≡ Some failing
       → compared_of (Binary first (operations_of (x ∷ [])) ty) ≡ record { failing = failing; left = first; right = right_of x }
   pair_chain first (operation.Compute w o e) ty failing none is =
@@ -160,8 +158,7 @@ module _ (starts : Starts) where
 -- ---- conditions with several operands
 
 module _ (starts : Starts) where
-  -- Returns the code of the operands of a chain after the first one; its state is the condition of
-  -- the previous operand.
+  -- Returns the code of the operands of a chain after the first one; its state is the condition of the previous operand.
   abbrev pub all_others : LogicalOperator → (following t : ℕ) → List Operation → ℕ → Condition → List Instruction
   all_others u following t os p c = others_code starts u (operations_of os) c following p t
 
@@ -181,8 +178,7 @@ module _ (starts : Starts) where
   pub others_lower : (u : LogicalOperator) (following t : ℕ) → Lowers (all_others u following t) (one_other u following t) (next_other t)
   others_lower u following t = record { none = λ p c. refl; more = other_more u following t }
 
-  -- `OthersRemain` says that the operands visited so far have been emitted, and that `c` is the
-  -- condition of the last one.
+  -- `OthersRemain` says that the operands visited so far have been emitted, and that `c` is the condition of the last one.
   abbrev pub OthersRemain : LogicalOperator → Expression → List Operation → (following t : ℕ) → (old : List Instruction) → (i : ℕ) → (code : List Instruction) → Condition → Type 0
   OthersRemain u a os following t old i code c =
       Remains (all_others u following t) (old ++ condition_code starts a (length old) t) os (condition_of starts a t) i code c
@@ -225,8 +221,7 @@ module _ (starts : Starts) where
             ∙ append_assoc old first (others_code starts u (operations_of os) (condition_of starts a t) following (length old + length first) t),
       )
 
-  -- A condition that is a chain of tests is emitted as tests, and any other chain as a value or a
-  -- comparison.
+  -- A condition that is a chain of tests is emitted as tests, and any other chain as a value or a comparison.
   pub chain_chosen : (u : LogicalOperator) (a : Expression) (os : Operations) (ty : Ty) (whole : Expression) (answer : Condition) (old new : List Instruction) (t : ℕ) → whole ≡ Binary a os ty → are_tests u os ≡ true
       → (answer ≡ last_condition starts os (condition_of starts a t) t) × (new ≡ old ++ tests_code starts u a os (after_tests starts u a os (length old) t) (length old) t)
       → (answer ≡ choice_of starts u whole t) × (new ≡ old ++ choice_code starts u whole (length old) t)
@@ -259,8 +254,7 @@ pub failed_long : (js : List Pending) (target : ℕ) (code : List Instruction) �
 failed_long [] target code = refl
 failed_long (j ∷ js) target code = failed_long js target (set code j.place (failing_jump j.condition target)) ∙ length-set code j.place (failing_jump j.condition target)
 
--- `FailedRest` says that the jumps not visited yet still have to get the target that the other ones
--- have.
+-- `FailedRest` says that the jumps not visited yet still have to get the target that the other ones have.
 abbrev pub FailedRest : List Pending → (target : ℕ) → (old : List Instruction) → (i : ℕ) → (code : List Instruction) → Type 0
 FailedRest js target old i code =
     (failed (drop i js) target code ≡ failed js target old) × (length code ≡ target) × AreBefore (drop i js) target
@@ -302,8 +296,7 @@ pub none_wait : (code : List Instruction) (early : List Pending) (place : ℕ) �
 none_wait code early place none = λ old rest target here. ap (λ (l : List Pending). failed l target (old ++ (code ++ rest))) none
 
 module _ (starts : Starts) where
-  -- `EarlyRemain` says that the collected jumps without a target, extended by those of the
-  -- remaining operands, are all of them.
+  -- `EarlyRemain` says that the collected jumps without a target, extended by those of the remaining operands, are all of them.
   abbrev pub EarlyRemain : LogicalOperator → Expression → List Operation → (t : ℕ) → (old : List Instruction) → (i : ℕ) → (code : List Instruction) → Condition → List Pending → Type 0
   EarlyRemain u a os t old i code c early =
       OthersRemain starts u a os 0 t old i code c
@@ -383,8 +376,7 @@ module _ (starts : Starts) where
   others_before u (operation.Pointer o e ∷ os) c p t all = absurd (let z : false ≡ true = all in cc)
   others_before u (operation.PointerPeek n o e ∷ os) c p t all = absurd (let z : false ≡ true = all in cc)
 
-  -- The condition of a branch is emitted in two ways: for a chain of tests by one operator, and for
-  -- any other expression.
+  -- The condition of a branch is emitted in two ways: for a chain of tests by one operator, and for any other expression.
   tests_all : (u : LogicalOperator) (os : List Operation) → are_tests u (operations_of os) ≡ true → all_test u (operations_of os) ≡ true
   tests_all u [] tests = refl
   tests_all u (operation.Test o e ∷ os) tests = tests

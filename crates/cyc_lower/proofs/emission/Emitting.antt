@@ -97,8 +97,7 @@ module _ {X S : Type 0} (all : List X → ℕ → S → List Instruction) (one :
       ∙ ap (λ (ys : List X). code ++ all ys (length code) s) (sym (drop_all i xs done))
       ∙ r
 
--- The result of the last operator of a chain goes to slot `d`, and that of any other operator to
--- slot `t`.
+-- The result of the last operator of a chain goes to slot `d`, and that of any other operator to slot `t`.
 next_slot_some : (o : Operation) (os : List Operation) (d t : ℕ) → next_slot (operations_of (o ∷ os)) d t ≡ t
 next_slot_some (operation.Compute w o e) os d t = refl
 next_slot_some (operation.Test o e) os d t = refl
@@ -134,8 +133,7 @@ binary_viewed value b v t is first at items same =
 
 -- ---- targets that are set later
 
--- The module assumes an instruction that jumps over the body after it, and whose target is set once
--- the body is emitted.
+-- The module assumes an instruction that jumps over the body after it, and whose target is set once the body is emitted.
 module _ (old : List Instruction) (x : Instruction) (body : ℕ → List Instruction) (jump : ℕ → Instruction) (begun made patched : List Instruction) where
   pub written_back : begun ≡ old ++ x ∷ [] → made ≡ begun ++ body (length begun) → patched ≡ set made (length old) (jump (length made))
       → patched ≡ old ++ jump (length old + 1 + length (body (length old + 1))) ∷ body (length old + 1)
@@ -150,8 +148,7 @@ module _ (old : List Instruction) (x : Instruction) (body : ℕ → List Instruc
       ∙ ap (λ (l : List Instruction). set l (length old) (jump (length old + 1 + length (body (length old + 1))))) inside
       ∙ set-append_seam old x (body (length old + 1)) (jump (length old + 1 + length (body (length old + 1))))
 
--- The module assumes the code of a test: the jump, the operand, the target of the jump, and the
--- truth value of the operand.
+-- The module assumes the code of a test: the jump, the operand, the target of the jump, and the truth value of the operand.
 module _ (old : List Instruction) (x : Instruction) (body : ℕ → List Instruction) (jump : ℕ → Instruction) (begun made patched new last : List Instruction) (place : ℕ) (here : place ≡ length old) (target : ℕ) where
   pub tested : begun ≡ old ++ x ∷ [] → made ≡ begun ++ body (length begun) → target ≡ length made → patched ≡ set made place (jump target) → new ≡ patched ++ last
       → new ≡ old ++ (jump (length old + 1 + length (body (length old + 1))) ∷ (body (length old + 1) ++ last))
@@ -162,8 +159,7 @@ module _ (old : List Instruction) (x : Instruction) (body : ℕ → List Instruc
       (written_back old x body jump begun made patched b m (p ∙ ap (λ (k : ℕ). set made k (jump target)) here ∙ ap (λ (k : ℕ). set made (length old) (jump k)) t))
       ∙ append_assoc old all last
 
--- If two pieces of code are emitted one after the other, the second is emitted for the position
--- after the first.
+-- If two pieces of code are emitted one after the other, the second is emitted for the position after the first.
 pub emitted_joined : (old x : List Instruction) (y : ℕ → List Instruction) (m1 m2 : List Instruction) → m1 ≡ old ++ x → m2 ≡ m1 ++ y (length m1) → m2 ≡ old ++ (x ++ y (length old + length x))
 emitted_joined old x y m1 m2 e1 e2 =
     let place = length old + length x in
@@ -173,8 +169,7 @@ emitted_joined old x y m1 m2 e1 e2 =
 pub no_shorter_than : (old more new : List Instruction) → new ≡ old ++ more → length old ≤ length new
 no_shorter_than old more new is = let e : length new ≡ length (old ++ more) = ap length is in omega (arith, e, length-append old more)
 
--- The slot for the result of an operator is determined by the number of operators that follow in
--- the chain.
+-- The slot for the result of an operator is determined by the number of operators that follow in the chain.
 pub slot_by_count : (xs : List Operation) (i many to d t : ℕ) → many + (i + 1) ≡ length xs → (many ≡ 0 → to ≡ d) → (0 < many → to ≡ t) → to ≡ next_slot (operations_of (drop (i + 1) xs)) d t
 slot_by_count xs i zero to d t counted none some = none refl ∙ sym (slot_at_end (drop (i + 1) xs) d t (omega (arith, length-drop (i + 1) xs, counted)))
 slot_by_count xs i (suc many) to d t counted none some = some (omega arith) ∙ sym (slot_after (drop (i + 1) xs) d t (omega (arith, length-drop (i + 1) xs, counted)))
@@ -256,8 +251,7 @@ made_elements starts counters a old begun made filled patched new i last kind he
 
 -- ---- words of globals
 
--- `WordsLeft` says that the instructions so far, extended by those for the remaining words, are all
--- instructions.
+-- `WordsLeft` says that the instructions so far, extended by those for the remaining words, are all instructions.
 abbrev pub WordsLeft : (each : (global slot : ℕ) → Instruction) → (old code : List Instruction) → (words first slot i : ℕ) → Type 0
 WordsLeft each old code words first slot i =
     (left : ℕ) × (i + left ≡ words) × (code ++ word_by_word each left (first + i) (slot + i) ≡ old ++ word_by_word each words first slot)

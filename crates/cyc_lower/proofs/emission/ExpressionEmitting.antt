@@ -162,8 +162,7 @@ module _ (starts : Starts) where
   pub arguments_lower : Lowers all_arguments one_argument next_argument
   arguments_lower = record { none = λ p t. refl; more = λ x xs p t. refl }
 
-  -- Returns the code of the argument of `putchar`; its state is the operand of the argument's
-  -- value.
+  -- Returns the code of the argument of `putchar`; its state is the operand of the argument's value.
   abbrev pub all_printed : ℕ → List ConvertedCode → ℕ → Operand → List Instruction
   all_printed t cs p o = printed_code starts (arguments_of cs) p t
 
@@ -176,8 +175,7 @@ module _ (starts : Starts) where
   pub printed_lower : (t : ℕ) → Lowers (all_printed t) (one_printed t) (next_printed t)
   printed_lower t = record { none = λ p o. refl; more = λ x xs p o. refl }
 
-  -- `PrintedLeft` says that the operand `o` becomes the operand of the printed value after the
-  -- remaining arguments.
+  -- `PrintedLeft` says that the operand `o` becomes the operand of the printed value after the remaining arguments.
   abbrev pub PrintedLeft : List ConvertedCode → (i : ℕ) → Operand → ℕ → Type 0
   PrintedLeft cs i o t = printed_operand starts (arguments_of (drop i cs)) o t ≡ printed_operand starts (arguments_of cs) (operands.Slot t) t
 
@@ -273,8 +271,7 @@ module _ (starts : Starts) where
       (e2 ∙ ap (λ (os' : List Operation). m1 ++ operations_code starts (operations_of os') (length m1) l d t) (same_others ∙ sym same) ∙ ap (λ (o : Operand). m1 ++ operations_code starts os (length m1) o d t) l_is)
       ∙ ap (λ (x : Expression). old ++ expression_code starts x (length old) d t) (sym (binary_viewed value b v ty is first at items same))
 
-  -- After the left operand of a chain is emitted, the number of the next free slot is still within
-  -- the limit.
+  -- After the left operand of a chain is emitted, the number of the next free slot is still within the limit.
   pub room_following : (a : Expression) (os : Operations) (old new : List Instruction) (d t : ℕ) → t ≤ most_locals + length old → new ≡ old ++ left_code starts a os (length old) d t → t ≤ most_locals + length new
   room_following a os old new d t low is = omega (arith, low, no_shorter_than old _ new is)
 
@@ -336,8 +333,7 @@ module _ (starts : Starts) where
       (e2 ∙ ap (λ (x : Operand). m1 ++ operator_code starts o l x d) (r_is ∙ ap (value_operand starts a) next))
       ∙ ap (λ (x : Operation). old ++ operation_code starts x (length old) l d t) (sym is)
 
-  -- After one operator of a chain is emitted, the number of the next free slot is still within the
-  -- limit.
+  -- After one operator of a chain is emitted, the number of the next free slot is still within the limit.
   pub room_after : (x : Operation) (old new : List Instruction) (l : Operand) (d t : ℕ) → t ≤ most_locals + length old → new ≡ old ++ operation_code starts x (length old) l d t → t ≤ most_locals + length new
   room_after x old new l d t low is = omega (arith, low, no_shorter_than old _ new is)
 
@@ -387,8 +383,7 @@ module _ (starts : Starts) where
 
   -- ---- written cells
 
-  -- The code that puts an address into a slot has at least one instruction, so the next slot is
-  -- within the limit.
+  -- The code that puts an address into a slot has at least one instruction, so the next slot is within the limit.
   pub room_for_right : (x : Dereference) (old new : List Instruction) (t : ℕ) → t ≤ most_locals + length old
       → new ≡ old ++ addressed_by (place_code starts x (length old) t) (place_operand starts x t) (place_offset starts x) t → t < most_locals + length new
   room_for_right x old new t low made =
@@ -403,8 +398,7 @@ module _ (starts : Starts) where
       ∙ ap (λ (z : DereferenceCode). Store (view_dereference z) (view_converted b'.value) (view_value_type ty)) (sym x_at)
       ∙ ap (λ (z : ConvertedCode). Store (view_dereference x) (view_converted z) (view_value_type ty)) (sym y_at)
 
-  -- The code that checks an index compares it with a length, and a jump skips the code that chooses
-  -- the exception.
+  -- The code that checks an index compares it with a length, and a jump skips the code that chooses the exception.
   pub made_inside : (old new : List Instruction) (n m following here : ℕ) → following ≡ n + 3 → here ≡ length old
       → new
       ≡ old
@@ -419,8 +413,7 @@ module _ (starts : Starts) where
       ∙ ap (λ (x : ℕ). old ++ instructions.Branch comparisons.LessUnsigned (operands.Slot m) (operands.Slot x) (here + 3) ∷ question ∷ jump ∷ []) bound
       ∙ ap (λ (x : ℕ). old ++ instructions.Branch comparisons.LessUnsigned (operands.Slot m) (operands.Slot (n + 1)) (x + 3) ∷ question ∷ jump ∷ []) here_is
 
-  -- The code of an access through a fat pointer scales the index, checks it and adds it to the
-  -- address.
+  -- The code of an access through a fat pointer scales the index, checks it and adds it to the address.
   pub made_reached : (span : Option ℕ) (old m1 m2 m3 : List Instruction) (n m t distance : ℕ) → distance ≡ t + 3 → m1 ≡ old ++ scaled_code span m distance → m2 ≡ m1 ++ inside_code starts n m (length m1)
       → m3 ≡ m2 ++ summed_code span n distance t → m3 ≡ old ++ reached_code starts span n m t (length old)
   made_reached span old m1 m2 m3 n m t distance distance_is e1 e2 e3 =
@@ -430,8 +423,7 @@ module _ (starts : Starts) where
       let last : m3 ≡ m2 ++ summed = e3 ∙ ap (λ (x : ℕ). m2 ++ summed_code span n x t) distance_is in
       emitted_joined old scaled (λ p. inside_code starts n m p ++ summed) m1 m3 first (emitted_joined m1 (inside_code starts n m (length m1)) (λ p. summed) m2 m3 e2 last)
 
-  -- The code of an element access changes the third word of the fat pointer and then accesses its
-  -- cell.
+  -- The code of an element access changes the third word of the fat pointer and then accesses its cell.
   pub made_element : (span : Option ℕ) (old m1 m2 : List Instruction) (o : Operand) (n past following t : ℕ) → past ≡ n + 3 → following ≡ t + 3
       → m1 ≡ old ++ instructions.Binary plain_binary.Add (following - 1) (operands.Slot (past - 1)) o ∷ []
       → m2 ≡ m1 ++ reached_code starts span n (following - 1) t (length m1)

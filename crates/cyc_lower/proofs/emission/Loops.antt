@@ -199,8 +199,7 @@ module _ (starts : Starts) (a : Expression) (s : Statement) (exits : Exits) (d :
       ∙ ap (λ (l : List Instruction). l ++ (leave ∷ ((body ++ condition) ++ (back ∷ tail)))) e0
       ∙ append_assoc old front (leave ∷ ((body ++ condition) ++ (back ∷ tail)))
 
--- The code of a `while` statement is one of two kinds of loops, chosen by its condition and its
--- body.
+-- The code of a `while` statement is one of two kinds of loops, chosen by its condition and its body.
 module _ (starts : Starts) (value : Stmt) {w : Span} (e : Expr) (b : Box Stmt Heap) (is : value ≡ stmt.While w e b) (body : Stmt) (at : body ≡ b.value) (exits : Exits) (d : ℕ) (old new : List Instruction) where
   while_viewed : (p : ℕ) → statement_code starts (While (place_of_span w) (view_expression e) (view_statement body)) p exits d ≡ statement_code starts (view_statement value) p exits d
   while_viewed p = sym (ap (λ (x : Stmt). statement_code starts (view_statement x) p exits d) is ∙ ap (λ (z : Stmt). statement_code starts (While (place_of_span w) (view_expression e) (view_statement z)) p exits d) (sym at))

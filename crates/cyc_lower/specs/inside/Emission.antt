@@ -40,13 +40,11 @@ use Rattle.cyc_lower_proof.specs.declared.exits.Exits.{Exits}
 abbrev pub Appends : {T : Type 0} → Result T AllocError → (old new : Emitter) → List Instruction → Type 0
 Appends result old new code = OnOk result (new.code.items ≡ old.code.items ++ code)
 
--- `Gives` says that a function appends this code to the old code and returns this value, unless memory
--- runs out.
+-- `Gives` says that a function appends this code to the old code and returns this value, unless memory runs out.
 abbrev pub Gives : {T : Type 0} → T → Result T AllocError → (old new : Emitter) → List Instruction → Type 0
 Gives answer result old new code = IfOk result (λ given. (given ≡ answer) × (new.code.items ≡ old.code.items ++ code))
 
--- Returns the mathematical form of the record `Starts`: the first slots of locals, words of globals
--- and code positions.
+-- Returns the mathematical form of the record `Starts`: the first slots of locals, words of globals and code positions.
 abbrev pub view_starts : StartsCode → Starts
 view_starts starts = record { locals = starts.locals.now; tag_slot = starts.tag_slot; structs = map view_struct starts.structs.now; raises = starts.raises; counters = starts.counters.now; globals = starts.globals.now; scopes = starts.scopes }
 
@@ -69,15 +67,13 @@ abbrev pub is_test : LogicalOperator → Operation → Bool
 is_test u (operation.Test o e) = is_same u o
 is_test u o = false
 
--- Returns, for an operator that compares with null, the comparison with 0 that holds if the
--- operator's comparison fails.
+-- Returns, for an operator that compares with null, the comparison with 0 that holds if the operator's comparison fails.
 abbrev pub null_operation : Operation → Option Comparison
 null_operation (operation.Pointer o e) = null_compared o (view_expression e)
 null_operation (operation.PointerPeek n o e) = null_compared o (view_expression e)
 null_operation o = None
 
--- Returns, for an operator that compares its two operands, the comparison that holds if the
--- operator's comparison fails.
+-- Returns, for an operator that compares its two operands, the comparison that holds if the operator's comparison fails.
 abbrev pub pair_operation : Operation → Option Comparison
 pair_operation (operation.Compute w o e) = failing_comparison o
 pair_operation (operation.Pointer o e) = pointers_failing o
@@ -91,8 +87,7 @@ right_of (operation.Test o e) = view_expression e
 right_of (operation.Pointer o e) = view_expression e
 right_of (operation.PointerPeek n o e) = view_expression e
 
--- Returns the code in which the reserved jumps, which are taken if their conditions fail, have this
--- target.
+-- Returns the code in which the reserved jumps, which are taken if their conditions fail, have this target.
 abbrev pub failed : List Pending → (target : ℕ) → List Instruction → List Instruction
 failed [] target code = code
 failed (j ∷ js) target code = failed js target (set code j.place (failing_jump j.condition target))
@@ -108,8 +103,7 @@ abbrev pub Aims : List Pending → (code : ℕ → List Instruction) → (place 
 Aims early code place =
     (old rest : List Instruction) (target : ℕ) → length old ≡ place → failed early target (old ++ (code 0 ++ rest)) ≡ old ++ (code target ++ rest)
 
--- `IsTested` says that the condition of a branch is emitted, with target 0 for its inner jumps, and that
--- these jumps are returned.
+-- `IsTested` says that the condition of a branch is emitted, with target 0 for its inner jumps, and that these jumps are returned.
 abbrev pub IsTested : Condition → (code : ℕ → List Instruction) → (old new : List Instruction) → Tested → Type 0
 IsTested last code old new tested =
     (tested.last ≡ last) × Aims tested.early.items code (length old) × AreBefore tested.early.items (length new) × (new ≡ old ++ code 0)
@@ -195,16 +189,14 @@ module _ (starts : Starts) where
       record { place = p; condition = deciding_condition u c }
       ∷ early_jumps u os (other_condition o c t) (p + length (other_code u o c 0 p t)) t
 
-  -- `IsEarly` says that the code of a chain of tests is emitted while the target of the deciding
-  -- jumps is unknown.
+  -- `IsEarly` says that the code of a chain of tests is emitted while the target of the deciding jumps is unknown.
   abbrev pub IsEarly : LogicalOperator → Expression → List Operation → (t : ℕ) → (old new : List Instruction) → Tested → Type 0
   IsEarly u a os t old new tested =
       (tested.last ≡ last_condition starts (operations_of os) (condition_of starts a t) t)
       × (tested.early.items ≡ early_jumps u os (condition_of starts a t) (length old + length (condition_code starts a (length old) t)) t)
       × (new ≡ old ++ tests_code starts u a (operations_of os) 0 (length old) t)
 
-  -- `IsBranch` says that the condition of a branch is emitted and that its jumps without a target
-  -- are returned.
+  -- `IsBranch` says that the condition of a branch is emitted and that its jumps without a target are returned.
   abbrev pub IsBranch : LogicalOperator → Expression → (t : ℕ) → (old new : List Instruction) → Tested → Type 0
   IsBranch u a t old new tested = IsTested (branch_of starts u a t) (λ other. branch_code starts u a other (length old) t) old new tested
 
@@ -232,8 +224,7 @@ module _ (starts : Starts) where
   abbrev pub case_code : (tag : ℕ) → (number : Option ℕ) → Items → (p out : ℕ) → Exits → (t : ℕ) → List Instruction
   case_code tag x js p out exits t = clause_code tag t (caught_items_code x js (p + 1) exits t) p out
 
-  -- `BeginClauses` says that clauses were appended to the old code, before the default clause,
-  -- which may be any.
+  -- `BeginClauses` says that clauses were appended to the old code, before the default clause, which may be any.
   abbrev pub BeginClauses : List Clause → (out : ℕ) → Exits → (t : ℕ) → (old new : List Instruction) → Type 0
   BeginClauses cs out exits t old new =
       (default : Clauses)
@@ -243,8 +234,7 @@ module _ (starts : Starts) where
   abbrev pub begun_loop : Expression → (p t : ℕ) → List Instruction
   begun_loop a p t = entry_code (is_guard starts a) (choice_code starts logical.AndThen a p t) (holding_jump (choice_of starts logical.AndThen a t)) 0 p
 
-  -- Returns the code in which the entry of the loop at `head` jumps to the next instruction, where its
-  -- condition begins.
+  -- Returns the code in which the entry of the loop at `head` jumps to the next instruction, where its condition begins.
   abbrev pub entered_loop : Expression → (code : List Instruction) → (head : ℕ) → List Instruction
   entered_loop a code head = if is_guard starts a then code else set code head (Jump (length code))
 

@@ -1,5 +1,4 @@
--- The initial values of a typed program's globals are 32-bit words if the constants of the untyped
--- tree are.
+-- The initial values of a typed program's globals are 32-bit words if the constants of the untyped tree are.
 use Rattle.std.proofs.Common.{ℕ, Bool, true, false, cond, List, [], ◌∷◌, Option, Some, None, sym, ap, subst, arith, ◌-◌, ◌%◌, ◌^◌}
 use Rattle.cyc_words.specs.Word.{IsWord}
 use Rattle.cyc_syntax.specs.Trees.{GlobalValue, Positive, Negative, Byte, NullPointer, Declaration, StructType, Exceptions, Global, Function}
@@ -20,8 +19,7 @@ value_word : (t : Ty) (n : ℕ) → IsWord n → IsWord (word_of t n)
 value_word types.Char n w = omega arith
 value_word t n w = w
 
--- The constant of a negative global value is a 32-bit word too, because negative values are
--- wrapped.
+-- The constant of a negative global value is a 32-bit word too, because negative values are wrapped.
 global_constants : (t : Ty) (v : Option GlobalValue) → IsOfWordsGlobalValue v → IsOfWordsConstant (constant_of t v)
 global_constants t None w = either_constant (is_pointer t)
 global_constants t (Some (Positive p n)) w = value_word t n w

@@ -1,5 +1,4 @@
--- This file proves that the parts of a well-typed tree can be lowered: its conversions, and
--- pointers of one word.
+-- This file proves that the parts of a well-typed tree can be lowered: its conversions, and pointers of one word.
 use Rattle.std.proofs.Common.{◌≡◌, ◌*◌, ◌≤◌, true, refl, ap, arith}
 use Rattle.cyc_syntax.specs.declared.tree.PointerKind.{PointerKind}
 use Rattle.cyc_syntax.specs.declared.tree.PointerKind.TheVariants as marks

@@ -223,8 +223,7 @@ module _ (source : Program) (pages calls : ℕ) where
       ∙ signature_at source.functions n h there
       ∙ sym (ap (λ (f : Option Function). kind_of_result (bounds_in source f).result) there)
 
-  -- The state after a function has been called, with its arguments in the first slots of the new
-  -- frame.
+  -- The state after a function has been called, with its arguments in the first slots of the new frame.
   pub entered : FunctionsStand → (n base : ℕ) (h : Function) (arguments : List Kinded) (k : List Entry) (w : World) (slots globals : Words) (handlers : List Handler) (frames : List Frame) (store : StoreState) (output input : List ℕ)
       → slice_get source.functions n ≡ Some h
       → (shared : Shared pages calls w (no_locals.home ∷ homes k) (CountsBy source None no_locals k store (scopes w.regions)) output input store (length frames))
@@ -240,8 +239,7 @@ module _ (source : Program) (pages calls : ℕ) where
         (m, subst (λ t. ItemsAt g (bounds_at source n) (types_at source n) h.body outside_loops t 0 m) (sym least) items, stack m end, holds, parameters_fit n h there),
       )
 
-  -- If no further call fits in the call stack, then the source run and the plain run both end as
-  -- full.
+  -- If no further call fits in the call stack, then the source run and the plain run both end as full.
   full : (k : List Entry) (e : Environment) (w : World) (c : Configuration) (focus : Focus) (next : State) (n first many into : ℕ)
       → step source (Running focus k e w) ≡ next → is_within pages calls next ≡ false
       → (shared : SharedAt source pages calls k e w c) → At (code_of source c.active.function) c.active.next (instructions.Call n first many into)

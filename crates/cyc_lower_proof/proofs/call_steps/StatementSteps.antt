@@ -240,8 +240,7 @@ module _ (source : Program) (pages calls : ℕ) where
   arrives old k e e0 w w0 c exits q does before lighter shared facts (by_jumps m less first second) stack =
       by_two source pages calls (at c m) does before before first (λ choice. refl) second (λ same. omega (arith, less, same)) (λ choice. (shared, following_statement exits facts stack))
 
-  -- A local receives its initial value directly in its slots, or the value is converted first and
-  -- then moved to these slots.
+  -- A local receives its initial value directly in its slots, or the value is converted first and then moved to these slots.
   initial_by : (there : Bool) (n : ℕ) (ty : Ty) (from to : Kind) (a : Expression) (js : Items) (k : List Entry) (e : Environment) (w : World) (c : Configuration) (exits : Exits) (m q : ℕ)
       → converts_there from to ≡ there
       → (shared : SharedAt source pages calls k e w c) → DataIn source shared.tables c.active.slots k e w c

@@ -43,8 +43,7 @@ module _ (far near : ℕ) where
   each_joined (i ∷ a) b [] y first second = absurd first
   each_joined (i ∷ a) b (j ∷ x) y (one, rest) second = (one, each_joined a b x y rest second)
 
-  -- An instruction whose jump target was adjusted jumps to the target that the other version of the
-  -- code has.
+  -- An instruction whose jump target was adjusted jumps to the target that the other version of the code has.
   one_turned : (i j k : Instruction) → target_of k ≤ far → IsAlike far near i k → IsTurned far near i j → j ≡ k
   one_turned i j k low one (beyond, before) = elim one [
     | inl same ↦ before (omega (arith, low, ap target_of same)) ∙ same
@@ -78,8 +77,7 @@ still {far} {near} {a} {x} is = subst (λ (z : List Instruction). AreAlike far n
 pub alike_joined : {far near : ℕ} (a b x y : List Instruction) → AreAlike far near a x → AreAlike far near b y → AreAlike far near (a ++ b) (x ++ y)
 alike_joined {far} {near} a b x y first second = record { each = each_joined far near a b x y first.each second.each }
 
--- Two versions of a piece of code begin at one position, so the code that follows them begins at
--- one position too.
+-- Two versions of a piece of code begin at one position, so the code that follows them begins at one position too.
 pub onward : {far near p q : ℕ} (a b x y : List Instruction) → p ≡ q → AreAlike far near a x → (p + length a ≡ q + length x → AreAlike far near b y) → AreAlike far near (a ++ b) (x ++ y)
 onward {far} {near} a b x y place first second = alike_joined a b x y first (second (λ i. place i + same_length first i))
 

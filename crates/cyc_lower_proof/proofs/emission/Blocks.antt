@@ -1,5 +1,4 @@
--- A function's body is followed by the blocks that raise exceptions, up to the last block that is a jump
--- target.
+-- A function's body is followed by the blocks that raise exceptions, up to the last block that is a jump target.
 use Rattle.std.proofs.Common.{◌≡◌, ℕ, zero, suc, ◌+◌, ◌-◌, ◌≤◌, ◌<◌, List, [], ◌∷◌, ◌++◌, length, take, refl, ap, subst, ◌∙◌, arith, append_assoc}
 use Rattle.std.specs.Prelude.{min}
 use Rattle.std.proofs.lemmas.Option.{same_Some, none-some}
@@ -75,8 +74,7 @@ module _ (slot n : ℕ) where
   leads_before (j ∷ body) zero i there some = omega arith
   leads_before (j ∷ body) (suc p) i there some = omega (arith, leads_before body p i there some)
 
--- Each jump to the position of an exception block reaches that block, and each jump comes before
--- the exception blocks.
+-- Each jump to the position of an exception block reaches that block, and each jump comes before the exception blocks.
 pub record BlocksStand (code : List Instruction) (raises slot : ℕ) : Type 0 where
   pub each : (p tag : ℕ) (i : Instruction) → 1 ≤ tag → tag ≤ 4 → At code p i → target_of i ≡ raises + 2 + tag → At code (raises + 2 + tag) (raising tag)
   pub reported : (p : ℕ) (i : Instruction) → At code p i → target_of i ≡ raises + 1 → HasAt code (raises + 1) (telling slot)

@@ -75,8 +75,7 @@ module _ (code : List Instruction) (b : Numbering) (types : Types) (raised : Blo
   all_through (ThenPointer o c os) f h t all = absurd (let z : false ≡ true = all in cc)
   all_through (ThenPointerPeek n o c os) f h t all = absurd (let z : false ≡ true = all in cc)
 
-  -- The code of a condition: the code of its further operands begins at position p, and the jump for the last
-  -- operand is at position q.
+  -- The code of a condition: the code of its further operands begins at position p, and the jump for the last operand is at position q.
   others_stand : (os : Operations) (ty : Ty) (words : ℕ) (o : Condition) (f t p q : ℕ) → all_test logical.OrElse os ≡ true → FitOperations b types words ty os
       → p + length (others_code (starts_of types) logical.OrElse os o (q + 1) p t) ≡ q → HasAt code p (others_code (starts_of types) logical.OrElse os o (q + 1) p t)
       → At code q (failing_jump (last_condition (starts_of types) os o t) f)
@@ -115,8 +114,7 @@ module _ (code : List Instruction) (b : Numbering) (types : Types) (raised : Blo
   tests_stand a (ThenPointer u c os) ty f t p q all fits end has jump = absurd (let z : false ≡ true = all in cc)
   tests_stand a (ThenPointerPeek n u c os) ty f t p q all fits end has jump = absurd (let z : false ≡ true = all in cc)
 
-  -- A chain of tests by `&&` with the jump that is taken if the last operand holds; if an operand fails,
-  -- control continues after the chain.
+  -- A chain of tests by `&&` with the jump that is taken if the last operand holds; if an operand fails, control continues after the chain.
   all_over : (os : Operations) (f h t : ℕ) → all_test logical.AndThen os ≡ true → TestsAt code b types os true t f (Ends code b types f h)
   all_over NoOperations f h t all = refl
   all_over (ThenTest logical.AndThen c os) f h t all = all_over os f h t all
@@ -163,8 +161,7 @@ module _ (code : List Instruction) (b : Numbering) (types : Types) (raised : Blo
   tests_follow a (ThenPointer u c os) ty h t p q all fits end has jump = absurd (let z : false ≡ true = all in cc)
   tests_follow a (ThenPointerPeek n u c os) ty h t p q all fits end has jump = absurd (let z : false ≡ true = all in cc)
 
-  -- A condition that is one comparison has a jump that is taken if the comparison fails, or one
-  -- that is taken if it holds.
+  -- A condition that is one comparison has a jump that is taken if the comparison fails, or one that is taken if it holds.
   whole_stands : (a : Expression) (f t p q : ℕ) → Fits b types a → p + length (condition_code (starts_of types) a p t) ≡ q → HasAt code p (condition_code (starts_of types) a p t)
       → At code q (failing_jump (condition_of (starts_of types) a t) f) → BranchesAt code b types a f (q + 1) t p
   whole_stands a f t p q fits end has jump =
@@ -254,8 +251,7 @@ module _ (code : List Instruction) (b : Numbering) (types : Types) (raised : Blo
   tests_fail a (ThenPointer u c os) ty f t p q all fits end has jump = absurd (let z : false ≡ true = all in cc)
   tests_fail a (ThenPointerPeek n u c os) ty f t p q all fits end has jump = absurd (let z : false ≡ true = all in cc)
 
-  -- The condition of a branch that is a chain of `||`, with the jump that is taken if the condition
-  -- holds.
+  -- The condition of a branch that is a chain of `||`, with the jump that is taken if the condition holds.
   others_hold : (os : Operations) (ty : Ty) (words : ℕ) (o : Condition) (h t p q : ℕ) → all_test logical.OrElse os ≡ true → FitOperations b types words ty os
       → p + length (others_code (starts_of types) logical.OrElse os o h p t) ≡ q → HasAt code p (others_code (starts_of types) logical.OrElse os o h p t)
       → At code q (holding_jump (last_condition (starts_of types) os o t) h)

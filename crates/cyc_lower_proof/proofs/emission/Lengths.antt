@@ -56,8 +56,7 @@ module _ (starts : Starts) (raises : ℕ) where
   abbrev Alike : (a x : List Instruction) → Type 0
   Alike a x = AreAlike starts.raises raises a x
 
-  -- The operand of an expression does not depend on the position of the blocks that raise
-  -- exceptions.
+  -- The operand of an expression does not depend on the position of the blocks that raise exceptions.
 
   same_operand : (a : Expression) → operand_of starts a ≡ operand_of other a
   same_operand (Copy (Local w n) t) = refl
@@ -457,8 +456,7 @@ module _ (starts : Starts) (raises : ℕ) where
   caught_alike None t = still refl
   caught_alike (Some n) t = still refl
 
-  -- `is_light`, the test if a condition is cheap, has the same result for every position of the
-  -- exception blocks.
+  -- `is_light`, the test if a condition is cheap, has the same result for every position of the exception blocks.
   same_light : (a : Expression) → is_light starts a ≡ is_light (other starts raises) a
   same_light (Load (Element a i ty)) = λ k. is_some (same_operand starts raises a k) && same_simple starts raises i k
   same_light (Load x) = refl

@@ -1,5 +1,4 @@
--- This file proves that operands, and the code that converts them, are where the simulation
--- relation requires them.
+-- This file proves that operands, and the code that converts them, are where the simulation relation requires them.
 use Rattle.std.proofs.Common.{◌≡◌, ℕ, zero, suc, ◌+◌, ◌<◌, ◌≤◌, Bool, true, false, List, [], ◌∷◌, ◌++◌, length, Option, None, Some, slice_get, refl, sym, ap, subst, ◌∙◌, arith, length-append, ◌⊎◌, ◌≢◌, inl, inr}
 use Rattle.std.specs.Prelude.{if◌then◌else◌, ◌==◌}
 use Rattle.cyc_meaning.specs.Operators.{array_size, null_exception, division_by_zero, array_bounds}
@@ -66,8 +65,7 @@ module _ (code : List Instruction) (b : Numbering) (types : Types) (raised : Blo
   returned_by (Some (operands.Word n)) computed x slot p q end has stands = (refl, stands end has)
   returned_by None computed x slot p q end has stands = (refl, stands end has)
 
-  -- The right operand of an operator either needs no code, or its code is at this position beside a
-  -- left operand.
+  -- The right operand of an operator either needs no code, or its code is at this position beside a left operand.
   pub right_by : (known : Option Operand) (left computed : Type 0) (x : List Instruction) (slot p q : ℕ) → left → p + length (code_unless known x) ≡ q → HasAt code p (code_unless known x)
       → (p + length x ≡ q → HasAt code p x → computed) → OperandBy code b types known (left × computed) slot (operand_or known slot) p q
   right_by (Some o) left computed x slot p q there end has stands = (refl, omega (arith, end))

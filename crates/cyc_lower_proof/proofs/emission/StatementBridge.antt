@@ -130,8 +130,7 @@ module _ (code : List Instruction) (b : Numbering) (types : Types) (raised : Blo
       let r = p + length front in
       (r, handlers_stand opened.handler p r refl (has_front code p front back has), marks_stand opened.mark r q (cut p q front back end) (has_back code p front back has))
 
-  -- The code that opens a region and declares its handle is where the simulation relation requires
-  -- it.
+  -- The code that opens a region and declares its handle is where the simulation relation requires it.
   opened_stands : (n place t p q : ℕ) → types.scopes ≡ Some place → n < b.locals → HasLocal types n kinds.Handle → p + length (opened_code (starts_of types) n t) ≡ q → HasAt code p (opened_code (starts_of types) n t)
       → OpenedAt code b types n t p q
   opened_stands n place t p q counts few room end (ask, (move, (named, none))) = (place, counts, ask, move, (few, room, named, omega (arith, end)))

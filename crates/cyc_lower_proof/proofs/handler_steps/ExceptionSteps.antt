@@ -1,5 +1,4 @@
--- This file proves the steps of exceptions: entering a `try`, throwing, and reaching the clauses of
--- a handler.
+-- This file proves the steps of exceptions: entering a `try`, throwing, and reaching the clauses of a handler.
 use Rattle.std.proofs.Common.{◌≡◌, ◌≢◌, ℕ, suc, ◌+◌, ◌≤◌, ◌<◌, Bool, true, false, List, [], ◌∷◌, length, Option, None, Some, refl, sym, ap, subst, ◌∙◌, arith, inl, inr}
 use Rattle.std.specs.List.{AllByRecursion}
 use Rattle.cyc_words.specs.Distinct.{IsDistinct}
@@ -80,8 +79,7 @@ module _ (source : Program) (pages calls : ℕ) where
   opens_one choice c first p (plain.Open index other contents ∷ handlers) g slots frames k stand = refl
   opens_one choice c first p (plain.Caught ∷ handlers) g slots frames k stand = absurd (never_caught g slots handlers frames k stand)
 
-  -- The slots after entering a `try`: the number of open lexical regions is stored after the
-  -- handler's record.
+  -- The slots after entering a `try`: the number of open lexical regions is stored after the handler's record.
   abbrev kept_slots : (scopes : Option ℕ) → Configuration → (slot : ℕ) → Words
   kept_slots None c slot = c.active.slots
   kept_slots (Some place) c slot = put c.active.slots slot (lexical_count c.store.regions % 2 ^ 32)
@@ -164,8 +162,7 @@ module _ (source : Program) (pages calls : ℕ) where
           ∙ ap (λ (o : Option ℕ). with_slots (at c r) (kept_slots o c slot)) (sym some)))
           opening (λ equal. omega (arith, equal, following)) (λ choice. opens_here choice)
 
-  -- When the body of a `try` is complete, its handler is closed, and the `catch` clauses are
-  -- skipped.
+  -- When the body of a `try` is complete, its handler is closed, and the `catch` clauses are skipped.
   pub ends : (handler : Clauses) (k : List Entry) (e : Environment) (w : World) (c : Configuration) (exits : Exits) → (shared : SharedAt source pages calls k e w c)
       → DataIn source shared.tables c.active.slots (Handler handler ∷ k) e w c → StatementStack source c.active.function exits c.active.next c.frames (Handler handler ∷ k)
       → IsMatched source pages calls (Running Proceeding (Handler handler ∷ k) e w) (plain.Running c)
@@ -231,8 +228,7 @@ module _ (source : Program) (pages calls : ℕ) where
   beyond_all tag value c a rest none last =
       ap (throws c tag value a) last ∙ ap (λ (handlers : List plain.Handler). lands c tag value a [] (plain.Ended (Uncaught tag (signed value)) c.output c.input) handlers) none
 
-  -- The exception reaches the newest handler; the record of this handler then contains the
-  -- exception's number and int.
+  -- The exception reaches the newest handler; the record of this handler then contains the exception's number and int.
   abbrev catching_in : (tag value index first : ℕ) → List plain.Handler → Configuration → Activation → List Frame → Configuration
   catching_in tag value index first later c a rest = record c {
     active = record a { next = index; slots = put (put a.slots first tag) (suc first) value; handlers = plain.Caught ∷ later };
@@ -306,8 +302,7 @@ module _ (source : Program) (pages calls : ℕ) where
     written t facts others =
         data_written source t a.function a.base w.objects e.locals k a.slots reported_slots later c.globals rest first 2 (omega (arith, first_is)) (λ n away. both_elsewhere a.slots first tag value n away) (facts, others)
 
-    -- A step is matched by two instructions, followed by the instructions at the given code
-    -- positions.
+    -- A step is matched by two instructions, followed by the instructions at the given code positions.
     by_handler : (places : List CodePlace) → Inside source pages calls w resumed → plain.seen_of (plain.Running c) ≡ seen_in w
         → AllByRecursion (λ r. place_in source pages calls c ≢ r) places → AllByRecursion (λ r. place_in source pages calls thrown_to ≢ r) places → IsDistinct places
         → AllByRecursion (Contains (places_of (lower_program source))) places

@@ -1,5 +1,4 @@
--- This file proves the effect that a statement has on the open handlers when it leaves some of
--- them.
+-- This file proves the effect that a statement has on the open handlers when it leaves some of them.
 use Rattle.std.proofs.Common.{◌≡◌, ℕ, suc, ◌+◌, ◌<◌, Bool, true, false, List, [], ◌∷◌, Option, None, Some, refl, sym, ap, subst, ◌∙◌, arith}
 use Rattle.std.specs.Prelude.{◌==◌, if◌then◌else◌}
 use Rattle.std.proofs.lemmas.Bool.{eq-eqb, eqb-true, and_from, false_from_ne_true}
@@ -55,8 +54,7 @@ newest_open (plain.Caught ∷ handlers) P is = absurd is
 newest_open (plain.Open index first contents ∷ handlers) P is = (index, first, contents, handlers, refl, is)
 
 module _ (source : Program) where
-  -- The exits recorded for a loop or function agree with the exception handlers that are open
-  -- inside it.
+  -- The exits recorded for a loop or function agree with the exception handlers that are open inside it.
   pub record_left : (g : ℕ) (exits : Exits) (p : ℕ) (frames : List Frame) (k : List Entry) → StatementStack source g exits p frames k
       → (exits.in_loop ≡ opened_by source true g k) × (exits.in_function ≡ opened_by source false g k)
   record_left g exits p frames (Rest items ∷ k) (q, at, stack) = record_left g exits q frames k stack
@@ -143,8 +141,7 @@ module _ (source : Program) where
   left_closed loop c handlers first (CloseLexical region ∷ k) is (marked, stand) = left_closed loop c handlers first k is stand
   left_closed loop c handlers first (entry ∷ k) is stand = left_closed loop c handlers first k is stand
 
-  -- If an exit has no saved region count to restore, then no lexical regions are open that the exit
-  -- must close.
+  -- If an exit has no saved region count to restore, then no lexical regions are open that the exit must close.
   pub unmarked : (loop : Bool) (g : ℕ) (k : List Entry) → (opened_by source loop g k).mark ≡ None → scopes_in (left_by loop k) ≡ scopes_in k
   unmarked loop g [] none = refl
   unmarked true g (Loop condition body ∷ k) none = refl

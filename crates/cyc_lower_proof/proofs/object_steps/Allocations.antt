@@ -1,5 +1,4 @@
--- This file proves the steps that allocate objects: a block is allocated, and then each cell is
--- written.
+-- This file proves the steps that allocate objects: a block is allocated, and then each cell is written.
 use Rattle.std.proofs.Common.{◌≡◌, ℕ, suc, ◌+◌, ◌*◌, ◌≤◌, ◌<◌, Bool, true, false, List, [], ◌∷◌, ◌++◌, length, reverse, None, Some, slice_get, refl, sym, ap, subst, ◌∙◌, inl, inr, arith, length-append, append_assoc, append-nil}
 use Rattle.std.proofs.lemmas.List.{reverse-append}
 use Rattle.std.specs.Prelude.{◌==◌, nat_lt, if◌then◌else◌}
@@ -399,8 +398,7 @@ module _ (source : Program) (pages calls : ℕ) where
         add_is address (begins kind (bytes_of_kinds done)) (omega (arith, fits, place, inside)) ∙ ap (λ n. address + n) (sym place);
   }
 
-  -- The next cell of a new object is written, by one store for one word or by three stores for
-  -- three words.
+  -- The next cell of a new object is written, by one store for one word or by three stores for three words.
   module _ (x : Write) (writes : List Write) (pointer : Kinded) (object : ℕ) (done : List Kind) (u : Kinded) (us : List Kinded) (address slot d m q : ℕ) (k : List Entry) (e : Environment) (w : World) (c : Configuration)
       (does : step source (Running (Writing (x ∷ writes) (Some pointer)) k e w) ≡ stored (cell_at w object (length done)) object (length done) u (Writing (writes_from object (suc (length done)) us) (Some pointer)) k e w)
       (words : plain.HoldsWords (plain.Running c)) (names : AreNamed source e.locals (callers k) w c.active.function c.active.base c.frames c.store) (well : IsWell (step source (Running (Writing (x ∷ writes) (Some pointer)) k e w)))
@@ -544,8 +542,7 @@ module _ (source : Program) (pages calls : ℕ) where
     writes_cell true narrow = writes_word (eqb-true (words_of_kind u.kind) 1 narrow)
     writes_cell false wide = writes_three (wide_kind u.kind wide)
 
-  -- A cell of a new object is written; after the last cell, the pointer to the object is moved to
-  -- its slot.
+  -- A cell of a new object is written; after the last cell, the pointer to the object is moved to its slot.
   pub writing : (writes : List Write) (pointer : Kinded) (k : List Entry) (e : Environment) (w : World) (c : Configuration) → plain.HoldsWords (plain.Running c)
       → AreNamed source e.locals (callers k) w c.active.function c.active.base c.frames c.store → IsStep source pages calls (Writing writes (Some pointer)) k e w c
   writing [] pointer k e w c words names well (shared, facts, (object, done, [], address, slot, d, m, q, are, is, there, single, high, above, held_in, at, move, end, holds, lands)) =

@@ -1,5 +1,4 @@
--- This file proves facts about the words of arrays: the largest number of elements, the offset of each
--- element, and the words of the block.
+-- This file proves facts about the words of arrays: the largest number of elements, the offset of each element, and the words of the block.
 use Rattle.std.proofs.Common.{◌≡◌, ℕ, zero, suc, ◌+◌, ◌*◌, ◌/◌, ◌%◌, ◌≤◌, ◌<◌, max, ap, ◌∙◌, arith}
 use Rattle.std.specs.Prelude.{◌==◌}
 use Rattle.std.proofs.lemmas.Bool.{eqb-true, false_from_ne_true}
@@ -77,8 +76,7 @@ quarter_is n few =
     ap (λ m. sar_of m 2) (add_is n 3 (omega (arith, few)))
     ∙ (quarter (n + 3) (omega (arith, few)) ∙ (let e : (n + 3) / 4 ≡ (n * 1 + 3) / 4 = omega arith in e))
 
--- The number of words of an array that is not of chars is the number of elements times the words of
--- one element.
+-- The number of words of an array that is not of chars is the number of elements times the words of one element.
 pub product_is : (n words : ℕ) → n * words ≤ MOST_BLOCK_WORDS → mul_of n words ≡ n * words
 product_is n words few = mod-eq_of_lt (omega (arith, few))
 

@@ -261,8 +261,7 @@ module _ (source : Program) (pages calls : ℕ) where
     facts_there : DataIn source shared.tables s2 k e w c2
     facts_there = data_written source shared.tables g c.active.base w.objects e.locals k slots s2 c.active.handlers c.globals c.frames z 1 (omega (arith, height-least (floor source g k) (held k))) outside_both facts
 
-    -- The configuration after a store has changed the store, the globals or the slots of locals, at
-    -- instruction m of the code.
+    -- The configuration after a store has changed the store, the globals or the slots of locals, at instruction m of the code.
     abbrev reached : Parts → (m : ℕ) → Configuration
     reached s m = stage c2 s m
 

@@ -10,8 +10,7 @@ use Rattle.cyc_meaning.specs.State.{Owner, InRegion, Unique, heap_number, Beside
 use Rattle.cyc_memory_relation.specs.inside.Tables.{Tables}
 use Rattle.cyc_lower_proof.proofs.relation.contents.HeldValues.{Holds, held, height, kept, IsHandleOf, HasHandle}
 
--- The region handles that are kept during an evaluation are among the values that the evaluation
--- holds.
+-- The region handles that are kept during an evaluation are among the values that the evaluation holds.
 pub kept_holds : (t : Tables) (slots : Words) (base : ℕ) (k : List Entry) → Holds t slots base (held k) → Holds t slots base (kept k)
 kept_holds t slots base (Needs (BesideHandle region) ∷ k) (is, holds) = kept_holds t slots base k holds
 kept_holds t slots base k holds = holds

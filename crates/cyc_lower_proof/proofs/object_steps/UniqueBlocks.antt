@@ -1,5 +1,4 @@
--- This file proves the steps that free objects: freeing null does nothing; freeing any other pointer frees the block
--- of a live object.
+-- This file proves the steps that free objects: freeing null does nothing; freeing any other pointer frees the block of a live object.
 use Rattle.std.proofs.Common.{◌≡◌, ◌≢◌, ℕ, ◌+◌, Bool, true, false, List, [], ◌∷◌, length, set, Option, None, Some, slice_get, refl, sym, ap, subst, ◌∙◌, arith, length-set}
 use Rattle.std.specs.Prelude.{◌==◌, if◌then◌else◌}
 use Rattle.std.proofs.lemmas.Bool.{eqb-true, false_from_ne_true}
@@ -48,8 +47,7 @@ use Rattle.cyc_store.specs.declared.range.TheConstants.{UNIQUE}
 
 -- ---- the freed object
 
--- A record of the facts about freeing: the word is the address of a live unique object, which the
--- source frees.
+-- A record of the facts about freeing: the word is the address of a live unique object, which the source frees.
 pub record IsFreed (t : Tables) (word : ℕ) (s : State) (k : List Entry) (e : Environment) (w : World) : Type 0 where
   pub number : ℕ
   pub object : Object

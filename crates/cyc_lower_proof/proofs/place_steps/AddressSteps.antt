@@ -1,5 +1,4 @@
--- This file moves the address of a cell to a slot: the address is already in the slot, or one
--- instruction moves it there.
+-- This file moves the address of a cell to a slot: the address is already in the slot, or one instruction moves it there.
 use Rattle.std.proofs.Common.{◌≡◌, ℕ, zero, suc, ◌+◌, ◌^◌, ◌<◌, Bool, true, false, refl, subst, ◌∙◌, arith, add-zero}
 use Rattle.std.proofs.lemmas.Bool.{eqb-true}
 use Rattle.cyc_words.specs.Word.{add_of}

@@ -1,5 +1,4 @@
--- This file loads the words of a cell into slots one by one, through an address in a slot that no
--- load overwrites.
+-- This file loads the words of a cell into slots one by one, through an address in a slot that no load overwrites.
 use Rattle.std.proofs.Common.{◌≡◌, ℕ, zero, suc, ◌+◌, ◌*◌, ◌<◌, List, [], ◌∷◌, Some, ap, ◌∙◌, arith, ◌≤◌, refl}
 use Rattle.cyc_words.specs.Word.{add_of}
 use Rattle.cyc_types.specs.declared.typed.Kind.{Kind}

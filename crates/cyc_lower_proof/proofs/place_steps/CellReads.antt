@@ -1,5 +1,4 @@
--- This file is about the content of a cell at an address: the cell belongs to the store, to a global, or to a local
--- of an active call.
+-- This file is about the content of a cell at an address: the cell belongs to the store, to a global, or to a local of an active call.
 use Rattle.std.proofs.Common.{◌≡◌, ℕ, ◌+◌, ◌*◌, ◌<◌, List, length, Option, None, Some, refl, sym, ap, subst, ◌∙◌, arith, false, inl, inr, ◌%◌, [], ◌∷◌}
 use Rattle.std.specs.Prelude.{slice_get, option_map}
 use Rattle.std.proofs.lemmas.Option.{none-some, same_Some}
@@ -59,8 +58,7 @@ globals_long source number few =
 abbrev pub AreSame : (here : Option ℕ) → (words : ℕ) → (old new : Words) → Type 0
 AreSame here words old new = (slot j : ℕ) → here ≡ Some slot → j < words → new (slot + j) ≡ old (slot + j)
 
--- Says that the slot `here`, if it exists, is the first slot of a local of the running call that
--- has room for a value of this kind.
+-- Says that the slot `here`, if it exists, is the first slot of a local of the running call that has room for a value of this kind.
 abbrev pub IsOwn : Program → (g : ℕ) → Kind → (here : Option ℕ) → Type 0
 IsOwn source g kind here = (slot : ℕ) → here ≡ Some slot → (number : ℕ) × (slot_of (starts_at source g) number ≡ slot) × (number < length (types_at source g).locals) × HasRoom (types_at source g) number kind
 
@@ -132,8 +130,7 @@ module _ (source : Program) {t : Tables} {w : World} (c : Configuration) {locals
     | inr wide ↦ wide_stored object offset address h cell wide points alive there
   ]
 
-  -- If consecutive words represent a value, then the same words counted from 0 represent the value
-  -- too.
+  -- If consecutive words represent a value, then the same words counted from 0 represent the value too.
   in_row : (kind : Kind) (v : Value) (words : Words) (first : ℕ) → Is t kind v words first → Is t kind v (λ j. words (first + j)) 0
   in_row kind v words first is = Is-same t kind v words (λ j. words (first + j)) first 0 (λ i below. ap words (let e : first + (0 + i) ≡ first + i = omega arith in e)) is
 

@@ -107,8 +107,7 @@ module _ (t : Tables) (source : Program) where
 
 -- ---- a cell is written
 
--- If a value is stored in a cell without a fault, then the cell exists and has the kind of the
--- value.
+-- If a value is stored in a cell without a fault, then the cell exists and has the kind of the value.
 pub cell_is_there : (a : Access Located) (number offset : ℕ) (v : Kinded) (focus : Focus) (k : List Entry) (e : Environment) (w : World) → IsWell (stored a number offset v focus k e w)
     → (at : Located) × (a ≡ Found at) × (at.cell.kind ≡ v.kind) × (stored a number offset v focus k e w ≡ Running focus k e (written w number offset at v.value))
 cell_is_there (Found at) number offset v focus k e w well =
@@ -162,8 +161,7 @@ module _ (source : Program) (pages calls : ℕ) (k : List Entry) (e : Environmen
   byte_fits : at.cell.kind ≡ kinds.Char → word < 256
   byte_fits char = small_word shared.tables at.cell.kind v word is char
 
-  -- If a cell of the store is written, then the facts that the tables record about variables are
-  -- preserved.
+  -- If a cell of the store is written, then the facts that the tables record about variables are preserved.
   data_there : (h : ℕ) → objects.Alive shared.tables (silent w) object h at.object
       → DataAt source shared.tables c.active.function c.active.base next.objects e.locals (callers k) c.active.slots c.globals c.frames
   data_there h alive =

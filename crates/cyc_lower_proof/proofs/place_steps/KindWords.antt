@@ -61,8 +61,7 @@ saved_wide program kind c address word wide = refl
 
 -- ---- variables
 
--- Loading a word by the address of a variable and loading it by the address of the variable's first
--- word yield the same word.
+-- Loading a word by the address of a variable and loading it by the address of the variable's first word yield the same word.
 pub loaded_variable : (program : Program) (kind : Kind) (c : Configuration) (start j word : ℕ) → start % 4 ≡ 0 → j < words_of_kind kind → (kind ≡ kinds.Char → word < 256)
     → memory_at program c (start + 4 * j) ≡ Some word → loaded_at program kind c (start + variable_bytes kind + 4 * j) ≡ Some word
 loaded_variable program kinds.Char c start j word even below small there =
@@ -80,8 +79,7 @@ loaded_variable program kinds.Fat c start j word even below small there = ap (me
 loaded_variable program kinds.Handle c start j word even below small there = ap (memory_at program c) (plus_zero_plus start (4 * j)) ∙ there
 loaded_variable program kinds.Key c start j word even below small there = ap (memory_at program c) (plus_zero_plus start (4 * j)) ∙ there
 
--- Storing a word by the address of a variable has the effect of storing it by the address of the
--- variable's first word.
+-- Storing a word by the address of a variable has the effect of storing it by the address of the variable's first word.
 pub saved_variable : (program : Program) (kind : Kind) (c : Configuration) (start word old : ℕ) → start % 4 ≡ 0 → (kind ≡ kinds.Char → (old < 256) × (word < 256))
     → memory_at program c start ≡ Some old → saved_at program kind c (start + variable_bytes kind) word ≡ saves program c start word (memory_at program c start)
 saved_variable program kinds.Char c start word old even small there =

@@ -93,8 +93,7 @@ module _ (source : Program) (pages calls : ℕ) where
 
   -- ---- the pending address of a store
 
-  -- The right side of an assignment is evaluated next, and the address of the left side is in the
-  -- temporary before those of the right side.
+  -- The right side of an assignment is evaluated next, and the address of the left side is in the temporary before those of the right side.
   abbrev StoresAfter : (from to : Kind) → Expression → List Entry → Environment → Configuration → (s : ℕ) → Type 0
   StoresAfter from to a k e c s =
       (x : Operand) × (u : ℕ) × (q : ℕ) × ConvertedOperandAt (code_of source c.active.function) (bounds_at source c.active.function) (types_on source c.active.function k) (Convert from to a) (top source c.active.function k + 1) x s u
@@ -169,8 +168,7 @@ module _ (source : Program) (pages calls : ℕ) where
   lands_apart g locals kind d q frames k fat (in_temporary least stack) = inl least
   lands_apart g locals kind d q frames k fat (in_local below stack) = inr (omega (arith, below, ap words_of_kind fat, floor-least source g k, height-least (floor source g k) (held k)))
 
-  -- While some words of a cell are loaded into slots, the words that are not yet loaded stay
-  -- unchanged.
+  -- While some words of a cell are loaded into slots, the words that are not yet loaded stay unchanged.
   reads_mixed : {t : Tables} {address : ℕ} {X : Type 0} (c : Configuration) (d : ℕ) (at : Located) {kind : Kind} → kind ≡ kinds.Fat → at.cell.kind ≡ kinds.Fat → (reads : IsCellRead source t c address at.cell.kind at.cell.content) → ComesTo source c.active.function d
       → (slots : Words) → AreMixed d reads.word c.active.slots slots → {j : ℕ} → (AreSame reads.here (words_of_kind at.cell.kind) c.active.slots slots → j < words_of_kind at.cell.kind → X) → j < 3 → X
   reads_mixed {t} {address} {X} c d at {kind} fat wide reads comes slots mixed {j} goes below =

@@ -32,16 +32,14 @@ use Rattle.cyc_plain.specs.inside.Memory.{Range, OfGlobals, OfStore, OfSlots, ra
 pub add_is : (a b : ℕ) → a + b < 4294967296 → add_of a b ≡ a + b
 add_is a b below = remainder_of_word (a + b) below
 
--- The index of a cell of four bytes is multiplied by a shift, and the index of a cell of twelve bytes by a
--- multiplication.
+-- The index of a cell of four bytes is multiplied by a shift, and the index of a cell of twelve bytes by a multiplication.
 pub shifted_is : (i : ℕ) → 4 * i < 4294967296 → shl_of i 2 ≡ i * 4
 shifted_is i below = remainder_of_word (i * 4) (omega (arith, below))
 
 pub multiplied_is : (i : ℕ) → 12 * i < 4294967296 → mul_of i 12 ≡ i * 12
 multiplied_is i below = remainder_of_word (i * 12) (omega (arith, below))
 
--- The number of bytes before a field is the number of bytes before its cell, if this number fits in
--- a 32-bit word.
+-- The number of bytes before a field is the number of bytes before its cell, if this number fits in a 32-bit word.
 field_before : (ts : List Ty) (field bytes : ℕ) → before_from bytes field (map kind_of ts) < 4294967296 → field_from bytes ts field ≡ before_from bytes field (map kind_of ts)
 field_before [] field bytes below = refl
 field_before (t ∷ ts) zero bytes below = begins_is (kind_of t) bytes below
@@ -83,8 +81,7 @@ module _ {t : Tables} where
       below : w + before field p.kinds < 4294967296
       below = pointer-word (member-points p field inside)
 
-  -- The code computes the address of a field of an object whose cells have the kinds of these
-  -- fields.
+  -- The code computes the address of a field of an object whose cells have the kinds of these fields.
   pub field_is : {o w : ℕ} (p : Points t o 0 w) (fields : List Kind) (field : ℕ) → p.kinds ≡ fields → field < length fields
       → Points t o field (add_of w (before field fields))
   field_is {o} {w} p fields field same inside =
@@ -93,13 +90,11 @@ module _ {t : Tables} where
 
   -- ---- elements
 
-  -- If an index is within bounds, then neither its number of bytes nor the sum of this number and
-  -- the address overflows.
+  -- If an index is within bounds, then neither its number of bytes nor the sum of this number and the address overflows.
   element_below : {o start n w : ℕ} (i : ℕ) (part : IsPartOf t o start n w) → i < n → w + i * bytes_of_kind part.kind < 4294967296
   element_below i part below = pointer-word (thinned i part below)
 
-  -- The code computes the address of the cell at an index, for cells of four bytes, of one byte and of twelve
-  -- bytes.
+  -- The code computes the address of the cell at an index, for cells of four bytes, of one byte and of twelve bytes.
   pub narrow_element : {o start n w : ℕ} (i : ℕ) (part : IsPartOf t o start n w) → i < n → bytes_of_kind part.kind ≡ 4
       → Points t o (start + i) (add_of w (shl_of i 2))
   narrow_element {o} {start} {n} {w} i part below four =
@@ -175,8 +170,7 @@ three_written t v m w a b c is = Is-same t kinds.Fat v (λ j. if j == 0 then a e
     each (suc (suc zero)) below = when_equal (w + 4 * (0 + 2)) (w + 4 * 2) c (put (put m (w + 4 * 0) a) (w + 4 * 1) b (w + 4 * (0 + 2))) refl
     each (suc (suc (suc j))) below = absurd (omega (arith, below))
 
--- If three consecutive words represent a fat value, then the same words taken one by one represent
--- it.
+-- If three consecutive words represent a fat value, then the same words taken one by one represent it.
 pub three_words_of : (t : Tables) (v : Value) (words : ℕ → ℕ) (p : ℕ) → Is t kinds.Fat v words p
     → Is t kinds.Fat v (λ j. if j == 0 then words p else if j == 1 then words (p + 1) else words (p + 2)) 0
 three_words_of t v words p is = Is-same t kinds.Fat v words (λ j. if j == 0 then words p else if j == 1 then words (p + 1) else words (p + 2)) p 0 each is
@@ -204,8 +198,7 @@ module _ {t : Tables} {w : World} {s : StoreState} (related : Related t w s) whe
   field_there {o} p x fields field there same inside =
       field_is p fields field (related.shapes o p.address p.kinds x there p.row ∙ same) inside
 
-  -- The address of a field is the address of the object plus the number of bytes of the cells
-  -- before the field.
+  -- The address of a field is the address of the object plus the number of bytes of the cells before the field.
   pub member_there : {o a : ℕ} (p : Points t o 0 a) (x : Object) (fields : List Kind) (field c : ℕ) → slice_get w.objects o ≡ Some x
       → kinds_of x.cells ≡ fields → field < length fields → (before field fields < 4294967296 → c ≡ before field fields) → Points t o field (add_of a c)
   member_there {o} {a} p x fields field c there same inside is =

@@ -18,8 +18,7 @@ use Rattle.cyc_lower_proof.proofs.relation.code.Fitting.{Fits, FitsConverted}
 use Rattle.cyc_types.specs.declared.typed.UnaryOperator.TheVariants as unary
 
 module _ (types : Types) where
-  -- Says that the stored operand is one word, lies in slots after the slot of the address, or is a
-  -- local.
+  -- Says that the stored operand is one word, lies in slots after the slot of the address, or is a local.
   abbrev pub IsApart : (words address : ℕ) → Operand → Type 0
   IsApart words address (operands.Slot n) = (words ≡ 1) ⊎ ((address < n) ⊎ ((number : ℕ) × (number < length types.locals) × (slot_of (starts_of types) number ≡ n) × (words ≤ words_in types.locals number)))
   IsApart words address (operands.Word w) = Unit {0}

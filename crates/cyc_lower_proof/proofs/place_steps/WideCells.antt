@@ -233,8 +233,7 @@ module _ (source : Program) (pages calls : ℕ) (k : List Entry) (e : Environmen
   fat_value : Is shared.tables cell.cell.kind v slots n
   fat_value = subst (λ i. Is shared.tables i v slots n) (sym fat) is
 
-  -- The slots after `many` consecutive words from slot `start` on are replaced by the words of a
-  -- value.
+  -- The slots after `many` consecutive words from slot `start` on are replaced by the words of a value.
   abbrev after : Words → (start many : ℕ) → Words
   after from start many = each_put slots from many n start
 
@@ -481,8 +480,7 @@ module _ (source : Program) (pages calls : ℕ) (k : List Entry) (e : Environmen
   pub value_stays : (j : ℕ) → j < 3 → stored.active.slots (n + j) ≡ c.active.slots (n + j)
   value_stays = is_saved.value
 
-  -- After the three stores, the shared state still holds with the same tables of objects, and so do
-  -- the data of all calls.
+  -- After the three stores, the shared state still holds with the same tables of objects, and so do the data of all calls.
   abbrev pub shared_stored : SharedAt source pages calls k e next stored
   shared_stored = record {
     tables = shared.tables;

@@ -58,8 +58,7 @@ mixed_same source g d word here old new own stays comes mixed slot j is below = 
       ]
 ]
 
--- Three words are loaded into the slots from d on, through the address in slot s, which may be the
--- first destination slot.
+-- Three words are loaded into the slots from d on, through the address in slot s, which may be the first destination slot.
 module _ (source : Program) (t : Tables) (c : Configuration) (d s : ℕ) (apart : (s ≤ d) ⊎ (d + 3 ≤ s)) (v : Value) (word : ℕ → ℕ)
     (there : (slots : Words) (next j : ℕ) → AreMixed d word c.active.slots slots → j < 3 → memory_at (lower_program source) (at (with_slots c slots) next) (add_of (c.active.slots s) (4 * j)) ≡ Some (word j))
     (is : Is t kinds.Fat v word 0) where

@@ -110,8 +110,7 @@ pub scaled_elsewhere : (slots : Words) (t x m : ℕ) → Outside t 4 m → put s
 scaled_elsewhere slots t x m (inl short) = put-other slots (t + 3) m x (λ same. absurd (omega (arith, same, short)))
 scaled_elsewhere slots t x m (inr long) = put-other slots (t + 3) m x (λ same. absurd (omega (arith, same, long)))
 
--- The tag of the exception that an access out of bounds raises, computed from the first word of the
--- pointer.
+-- The tag of the exception that an access out of bounds raises, computed from the first word of the pointer.
 abbrev pub failing_tag : (word : ℕ) → ℕ
 failing_tag word = add_of (truth (not (word == 0))) null_exception
 

@@ -51,8 +51,7 @@ use Rattle.cyc_lower_proof.proofs.pointer_steps.ElementWords.{scaled, parts_of, 
 module _ (source : Program) (pages calls : ℕ) where
   -- ---- the comparison of an index with the length, which is 0 for null
 
-  -- A source step is matched by instructions that take the plain machine from one configuration to
-  -- another.
+  -- A source step is matched by instructions that take the plain machine from one configuration to another.
   by_path_from : (focus : Focus) (k : List Entry) (e : Environment) (w : World) (c b : Configuration) (next : State) (first rest : List Link) (i : Instruction)
       → step source (Running focus k e w) ≡ next → SharedAt source pages calls k e w c → IsPath source c first → end_of c first ≡ b → IsPath source b rest
       → At (code_of source (end_of b rest).active.function) (end_of b rest).active.next i
@@ -71,8 +70,7 @@ module _ (source : Program) (pages calls : ℕ) where
     abbrev comparison : Instruction
     comparison = instructions.Branch comparisons.LessUnsigned (operands.Slot m) (operands.Slot (n + 1)) u
 
-    -- The two outcomes of the bounds comparison: the index is out of bounds, or it is within
-    -- bounds.
+    -- The two outcomes of the bounds comparison: the index is out of bounds, or it is within bounds.
     abbrev outside : Link
     outside = record { instruction = comparison; following = at b (b.active.next + 1) }
 
@@ -86,8 +84,7 @@ module _ (source : Program) (pages calls : ℕ) where
     within_path : nat_lt (b.active.slots m) (b.active.slots (n + 1)) ≡ true → IsPath source b (within ∷ [])
     within_path less = (here.0, (λ choice. branch_taken b (nat_lt (b.active.slots m) (b.active.slots (n + 1))) u less), omega (arith, here.3), is_quiet b (at b u).active, tt)
 
-    -- The slot for the tag receives the first word of the pointer, and then the tag of the
-    -- exception.
+    -- The slot for the tag receives the first word of the pointer, and then the tag of the exception.
     abbrev tag_slot : ℕ
     tag_slot = base_of source b.active.function
 
@@ -126,8 +123,7 @@ module _ (source : Program) (pages calls : ℕ) where
           (jump, (λ choice. refl), on, is_quiet third fourth.active, tt),
         )
 
-    -- An index out of bounds raises an exception: the null exception if the pointer is null, else
-    -- the bounds exception.
+    -- An index out of bounds raises an exception: the null exception if the pointer is null, else the bounds exception.
     stops_outside : (tag : ℕ) → IsNumber tag → failing_tag (b.active.slots n) ≡ tag → (shared_after : SharedAt source pages calls k e w b) → DataIn source shared_after.tables b.active.slots k e w b → nat_lt (b.active.slots m) (b.active.slots (n + 1)) ≡ false
         → step source (Running focus k₀ e w) ≡ Running (Throwing tag 0) k e w → IsMatched source pages calls (Running focus k₀ e w) (plain.Running c)
     stops_outside tag number tag_is shared_after facts least does =
@@ -183,8 +179,7 @@ module _ (source : Program) (pages calls : ℕ) where
     index_stays : before m ≡ c.active.slots m
     index_stays = put-other c.active.slots (t + 3) m far (λ same. absurd (omega (arith, same, apart)))
 
-    -- The comparison of the index with the length has the same result after a temporary has
-    -- changed.
+    -- The comparison of the index with the length has the same result after a temporary has changed.
     below_stays : (less : Bool) → nat_lt (c.active.slots m) (c.active.slots (n + 1)) ≡ less → nat_lt (before m) (before (n + 1)) ≡ less
     below_stays less is = ap (λ (x : ℕ). nat_lt x (before (n + 1))) index_stays ∙ (ap (nat_lt (c.active.slots m)) length_stays ∙ is)
 
@@ -376,8 +371,7 @@ module _ (source : Program) (pages calls : ℕ) where
       )
       (omega arith)
 
-  -- The index is added to the fat pointer, and then the access is made: only the third word of the pointer
-  -- changes, in a temporary.
+  -- The index is added to the fat pointer, and then the access is made: only the third word of the pointer changes, in a temporary.
   pub advances_pointer : (peek : Option ℕ) (target : Option Kind) (base : Kinded) (j : Kind) (x : Value) (k : List Entry) (e : Environment) (w : World) (c : Configuration)
       → IsWell (step source (Running (Given (record { kind = j; value = x })) (Needs (Advance peek target base) ∷ k) e w)) → (shared : SharedAt source pages calls k e w c) → DataIn source shared.tables c.active.slots k e w c
       → ReadyAt source shared.tables (record { kind = j; value = x }) e.locals c.active.function c.active.next c.active.slots c.frames (Needs (Advance peek target base) ∷ k)

@@ -172,8 +172,7 @@ module _ (source : Program) (pages calls : ℕ) where
 
 -- ---- converting thin pointers to fat pointers
 
--- The second and third words of a converted pointer: they describe one cell, or no cell if the
--- first word is 0.
+-- The second and third words of a converted pointer: they describe one cell, or no cell if the first word is 0.
 abbrev many_of : ℕ → ℕ
 many_of word = truth (not (word == 0))
 
@@ -186,8 +185,7 @@ widened_elsewhere slots n m (inl below) =
 widened_elsewhere slots n m (inr above) =
     put-other (put slots (n + 1) (many_of (slots n))) (n + 2) m 0 (λ same. absurd (omega (arith, same, above))) ∙ put-other slots (n + 1) m (many_of (slots n)) (λ same. absurd (omega (arith, same, above)))
 
--- The three words are those of a fat pointer to one cell, and the first word is the address of this
--- cell.
+-- The three words are those of a fat pointer to one cell, and the first word is the address of this cell.
 widened_is : (t : Tables) (kind : Kind) (v u : Value) (slots : Words) (n : ℕ) → words_of_kind kind ≢ 3 → conversion kinds.Fat v ≡ Gives u → Is t kind v slots n → Is t kinds.Fat u (widened slots n) n
 widened_is t kind v u slots n narrow gives is = by kind v is gives narrow
   where

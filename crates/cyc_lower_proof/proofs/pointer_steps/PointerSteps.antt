@@ -232,8 +232,7 @@ module _ (k : List Entry) (e : Environment) (w : World) where
   null_reported t negated i left words p is well =
       ap (λ (r : Result). computed kinds.Int r k e w) (null_on_right negated left (words p) 0 (pointer_has_word t i left words p is (is_pointer negated left well)) refl)
 
-  -- Says that comparing a pointer with null yields the comparison of the pointer's first word with
-  -- 0.
+  -- Says that comparing a pointer with null yields the comparison of the pointer's first word with 0.
   abbrev Tells : PointerOperator → (failing : Comparison) → (left v : Value) → (word : ℕ) → Type 0
   Tells u failing left v word = (n : ℕ) × (applies_pointer u left v k e w ≡ Running (Given (record { kind = kinds.Int; value = Int n })) k e w) × ((n == 0) ≡ compares failing word 0)
 
@@ -352,14 +351,12 @@ module _ (source : Program) (pages calls : ℕ) where
       (λ choice. subst (Matches source pages calls (Running (Given (record { kind = kinds.Int; value = Int n })) k e w)) (sym (compares_words u (operands.Slot free) o d choice c test))
       (landed_word source pages calls n n d k e w c q refl shared facts holds end lands))
 
-  -- The index of the result is moved to a slot that holds neither of the first two words of the
-  -- pointer.
+  -- The index of the result is moved to a slot that holds neither of the first two words of the pointer.
   lands_apart : (g : ℕ) (locals : ℕ → Option ℕ) (d q : ℕ) (frames : List Frame) (k : List Entry) → LandsStack source g locals kinds.Fat d q frames k → (i : ℕ) → i < 2 → top source g k + i ≡ d + 2 → ⊥
   lands_apart g locals d q frames k (in_temporary least stack) i below same = absurd (omega (arith, below, same, least))
   lands_apart g locals d q frames k (in_local inside stack) i below same = absurd (omega (arith, below, same, inside, height-least (floor source g k) (held k), floor-least source g k))
 
-  -- The index is moved to its destination, and the first two words of the fat pointer are moved
-  -- with it.
+  -- The index is moved to its destination, and the first two words of the fat pointer are moved with it.
   index_moves : (there : Bool) (u : PointerOperator) (peek : Option ℕ) (x : ℕ) (left v : Kinded) (value : Value) (o : Operand) (d q : ℕ) (k : List Entry) (e : Environment) (w : World) (c : Configuration)
       → (top source c.active.function k == d) ≡ there → step source (Running (Given v) (Needs (ApplyPointer peek u left) ∷ k) e w) ≡ Running (Given (record { kind = kinds.Fat; value = value })) k e w
       → ((choice : Choice) → performed (lower_program source) choice c (instructions.Binary (pointer_operator u) (d + 2) (operands.Slot (top source c.active.function k + 2)) o)

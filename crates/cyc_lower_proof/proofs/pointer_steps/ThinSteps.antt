@@ -34,8 +34,7 @@ use Rattle.cyc_lower_proof.proofs.pointer_steps.ElementWords.{scaled, first_is, 
 use Rattle.cyc_lower_proof.proofs.pointer_steps.Narrowing.{leaves_null, raises_null, raises_bounds, reaches_first, reaches_cell, RaisesNull}
 
 module _ (source : Program) (pages calls : ℕ) where
-  -- The converted pointer is in the slots from n on; `null` states an assumption about the code
-  -- position to which a null pointer jumps.
+  -- The converted pointer is in the slots from n on; `null` states an assumption about the code position to which a null pointer jumps.
   module _ (from to : Kind) (target : Option Kind) (v : Kinded) (n q : ℕ) (k : List Entry) (e : Environment) (w : World) (c : Configuration) (null : ℕ → Type 0) (shared : SharedAt source pages calls k e w c)
       (facts : DataIn source shared.tables c.active.slots k e w c) (holds : Holds shared.tables c.active.slots (floor source c.active.function k) (held k)) (there : n ≡ top source c.active.function k)
       (stack : ValueStack source c.active.function e.locals to (operands.Slot n) q c.frames k) where

@@ -43,8 +43,7 @@ abbrev pub closed_down : Configuration → services.Choice → (many q : ℕ) �
 closed_down c choice many q = record (at c q) { store = served c.store (CloseTo many) choice }
 
 module _ (source : Program) (pages calls : ℕ) where
-  -- An instruction other than the one that closes regions down to this slot's count is at a
-  -- different code position.
+  -- An instruction other than the one that closes regions down to this slot's count is at a different code position.
   pub closing_apart : (c : Configuration) (slot : ℕ) → At (code_of source c.active.function) c.active.next (instructions.Ask (requests.CloseTo (operands.Slot slot)))
       → (place : CodePlace) (i : Instruction) → At (code_of source place.function) place.index i → (i ≢ instructions.Ask (requests.CloseTo (operands.Slot slot)))
       → AllByRecursion (λ q. place ≢ q) (place_in source pages calls c ∷ [])
@@ -90,8 +89,7 @@ module _ (source : Program) (pages calls : ℕ) where
 
   -- ---- the shared state
 
-  -- The shared state after the source closes its newest lexical region, while the store still has
-  -- this region.
+  -- The shared state after the source closes its newest lexical region, while the store still has this region.
   abbrev pub shared_after : (closing : Option ℕ) (region : ℕ) (k : List Entry) (e : Environment) (w : World) (c : Configuration) (ends : Ends w region)
       → HasScopes (scopes_of source) → HasScopes closing
       → SharedBy source closing pages calls (CloseLexical region ∷ k) e w c → SharedBy source closing pages calls k e (closed w region ends.region) c

@@ -63,8 +63,7 @@ module _ (source : Program) (pages calls : ℕ) where
   locals_in None = refl
   locals_in (Some h) = sym (slot_types-many h)
 
-  -- A number that is a valid local of a function is below the number of the function's types of
-  -- locals.
+  -- A number that is a valid local of a function is below the number of the function's types of locals.
   pub local_there : (g n : ℕ) → n < (bounds_at source g).locals → n < length (types_at source g).locals
   local_there g n few = omega (arith, few, locals_in (slice_get source.functions g))
 
@@ -75,8 +74,7 @@ module _ (source : Program) (pages calls : ℕ) where
     abbrev t : ℕ
     t = floor source c.active.function k
 
-    -- The configuration after the store has opened a lexical region and the number of regions open
-    -- before is in its slot.
+    -- The configuration after the store has opened a lexical region and the number of regions open before is in its slot.
     abbrev asked : Configuration
     asked = served_to choice c (t + 1) OpenLexical
 

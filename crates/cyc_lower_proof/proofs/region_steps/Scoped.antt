@@ -1,5 +1,4 @@
--- This file counts the lexical regions that are open in the store by the stack entries that close
--- them.
+-- This file counts the lexical regions that are open in the store by the stack entries that close them.
 use Rattle.std.proofs.Common.{◌≡◌, ◌≤◌, List, ◌∙◌, arith}
 use Rattle.std.specs.Prelude.{◌%◌, ◌^◌}
 use Rattle.cyc_store.specs.State.{StoreState, lexical_count}

@@ -1,5 +1,4 @@
--- This module says where the code of each construct is, and which requirements the code has on the
--- tree.
+-- This module says where the code of each construct is, and which requirements the code has on the tree.
 pub mod Stands
 pub mod Statements
 pub mod Tested

@@ -1,5 +1,4 @@
--- This module describes the contents of slots, variables and memory, and shows which contents are
--- preserved.
+-- This module describes the contents of slots, variables and memory, and shows which contents are preserved.
 pub mod HeldValues
 pub mod Data
 pub mod HandlerData

@@ -1,5 +1,4 @@
--- This module defines the relation between a source state and a plain state, and how steps and runs
--- are matched.
+-- This module defines the relation between a source state and a plain state, and how steps and runs are matched.
 pub mod Shared
 pub mod Stacks
 pub mod Relation

@@ -370,8 +370,7 @@ module _ (starts : Starts) where
       )
   simple_size a p d t simple = known_operand_size a p d t simple
 
--- The code of a load at a simple index through a pointer that needs no code has at most half the
--- bound of other expressions.
+-- The code of a load at a simple index through a pointer that needs no code has at most half the bound of other expressions.
 module _ (starts : Starts) where
   known_few_size : (a : Expression) (p d t : ℕ) → is_some (operand_of starts a) ≡ true → code_size (expression_code starts a p d t) ≤ 30
   known_few_size (Number n) p d t some = omega arith

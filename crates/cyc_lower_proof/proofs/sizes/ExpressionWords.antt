@@ -1,5 +1,4 @@
--- The constants in the code of an expression are 32-bit words if the constants in the expression
--- are.
+-- The constants in the code of an expression are 32-bit words if the constants in the expression are.
 use Rattle.std.proofs.Common.{ℕ, zero, suc, ◌+◌, Bool, true, false, [], ◌∷◌, ◌++◌, length, Option, None, Some, arith, slice_get}
 use Rattle.cyc_words.proofs.WordLemmas.{IsWord-add_of}
 use Rattle.cyc_words.specs.Word.{IsWord, add_of, mul_of}

@@ -1,5 +1,4 @@
--- This file proves that the lowered program has the properties that the contract of lowering
--- states.
+-- This file proves that the lowered program has the properties that the contract of lowering states.
 use Rattle.std.proofs.Common.{ℕ, ◌≤◌, ◌*◌, List, [], ◌∷◌, map, Option, refl, sym, arith}
 use Rattle.std.specs.Prelude.{sum_by}
 use Rattle.std.proofs.lemmas.List.Sums.{sum_by-cons}

@@ -385,8 +385,7 @@ pub restored_size : (scopes : Option ℕ) (t : ℕ) → code_size (restored_code
 restored_size None t = omega arith
 restored_size (Some place) t = closed_size (t + RECORD_WORDS)
 
--- A list of arguments with a comma before each argument has at most one token more than the list
--- without the first comma.
+-- A list of arguments with a comma before each argument has at most one token more than the list without the first comma.
 pub more_weight : (cs : Arguments) → more_arguments_weight cs ≤ arguments_weight cs + 1
 more_weight NoArguments = omega arith
 more_weight (MoreArguments c cs) = omega arith

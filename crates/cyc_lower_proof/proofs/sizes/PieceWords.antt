@@ -1,5 +1,4 @@
--- The pieces of code of which expressions and statements consist contain only 32-bit words if their
--- parts do.
+-- The pieces of code of which expressions and statements consist contain only 32-bit words if their parts do.
 use Rattle.std.proofs.Common.{◌≡◌, ℕ, zero, suc, ◌+◌, ◌*◌, ◌≤◌, max, Bool, true, false, List, [], ◌∷◌, ◌++◌, length, take, Option, None, Some, refl, arith}
 use Rattle.cyc_meaning.specs.Operators.{null_exception, division_by_zero, array_bounds}
 use Rattle.std.specs.List.{AllByRecursion}
@@ -301,8 +300,7 @@ pub blank_words : (kind : Kind) (slot : ℕ) → HaveWords (blank_code kind slot
 blank_words kinds.Char slot = (omega arith, tt)
 blank_words kind slot = tt
 
--- The code that writes the cells of an object contains only 32-bit words, if at most n words come
--- before these cells.
+-- The code that writes the cells of an object contains only 32-bit words, if at most n words come before these cells.
 cells_words : (ks : List Kind) (address at n slot : ℕ) → at ≤ 4 * n → n + slots_of_kinds ks ≤ 3000 → HaveWords (cells_code ks address at slot)
 cells_words [] address at n slot within few = tt
 cells_words (kind ∷ ks) address at n slot within few =

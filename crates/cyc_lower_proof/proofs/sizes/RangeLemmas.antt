@@ -1,5 +1,4 @@
--- This file has lemmas for the bounds of instructions: on the number of temporaries, and on instructions whose
--- operands are in range.
+-- This file has lemmas for the bounds of instructions: on the number of temporaries, and on instructions whose operands are in range.
 use Rattle.std.proofs.Common.{◌≡◌, ℕ, zero, suc, ◌+◌, ◌-◌, ◌≤◌, ◌<◌, true, false, List, [], ◌∷◌, length, take, min, Option, None, Some, All, IsSomeAnd, slice_get, refl, sym, subst, arith, length-take, inl, inr}
 use Rattle.std.specs.List.{AllByRecursion}
 use Rattle.cyc_types.specs.Types.{Ty, words_of, ValueType, Void, Null, Value}
@@ -49,8 +48,7 @@ made_needs (Plain kind a) before own = omega arith
 made_needs (Fields cs) before own = omega arith
 made_needs (Array p level n kind a) before own = omega arith
 
--- A function's result has at most as many words as the returned value, and this value has at most
--- as many words as the result, or one.
+-- A function's result has at most as many words as the returned value, and this value has at most as many words as the result, or one.
 pub result_least : (t : Option Ty) → (results_of t ≤ words_of_kind (kind_of_result t)) × (words_of_kind (kind_of_result t) ≤ max 1 (results_of t))
 result_least None = (omega arith, omega arith)
 result_least (Some t) = (omega (arith, type_words t), omega (arith, type_words t))
@@ -65,8 +63,7 @@ levels_inside r types levels slot inside l other found = elim (slice_get_last_ca
 
 -- ---- instructions
 
--- Holds if all exception blocks come after the body of the function, and a slot comes after the
--- locals.
+-- Holds if all exception blocks come after the body of the function, and a slot comes after the locals.
 abbrev pub HasEnd : Routine → Types → Type 0
 HasEnd r types = (types.raises + 6 < length r.code) × (words_of_all types.locals < r.slots)
 
@@ -85,8 +82,7 @@ abbrev pub TakesLocal : (locals : List Ty) → Instruction → Type 0
 TakesLocal locals (instructions.AddressOf d first count) = (n : ℕ) × (t : Ty) × (slice_get locals n ≡ Some t) × (first ≡ slot_in locals n) × (count ≡ words_of t)
 TakesLocal locals i = Unit {0}
 
--- Holds if all parts of an instruction exist, and if the instruction takes only the address of a
--- whole local.
+-- Holds if all parts of an instruction exist, and if the instruction takes only the address of a whole local.
 abbrev pub IsIn : PlainProgram → Routine → (locals : List Ty) → Instruction → Type 0
 IsIn program r locals (instructions.AddressOf d first count) = (d < r.slots) × (first + count ≤ r.slots) × TakesLocal locals (instructions.AddressOf d first count)
 IsIn program r locals i = IsInRange program r i
@@ -107,8 +103,7 @@ takes_locals program r locals (i ∷ code) (first, rest) = (by i first, takes_lo
     by (instructions.AddressOf d slot count) (there, few, takes) = takes
     by i inside = tt
 
--- If no jump goes past the shorter code of a function, then everything to which its instructions
--- refer still exists.
+-- If no jump goes past the shorter code of a function, then everything to which its instructions refer still exists.
 module _ (program : PlainProgram) (r : Routine) (longer : List Instruction) (locals : List Ty) (far : ℕ) (reaches : (t : ℕ) → t ≤ far → t < length longer → t < length r.code) (no_return : All (λ i. is_return i ≡ false) r.code) where
   abbrev full : Routine
   full = record r { code = longer }

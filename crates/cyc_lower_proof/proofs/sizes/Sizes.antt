@@ -132,8 +132,7 @@ module _ (starts : Starts) where
       by false = choice_size (turned_test u) (Binary a os ty) p t
   branch_size u a x p t = choice_size (turned_test u) a p t
 
-  -- The code of a condition that may be emitted twice has at most half the bound of other
-  -- conditions.
+  -- The code of a condition that may be emitted twice has at most half the bound of other conditions.
   light_first_size : (a b : Expression) (p t : ℕ) → is_light starts a ≡ true → code_size (first_code starts a b p t) ≤ 50 * expression_weight a
   light_first_size a b p t light =
       let slot = slot_with starts (is_simple starts b) a t in
@@ -258,8 +257,7 @@ module _ (starts : Starts) where
   named_size : (ty : Ty) (n : ℕ) (o : Operand) → code_size (named_code starts (words_of ty) n o) ≤ 20
   named_size ty n o = move_size (words_of ty) (slot_of starts n) o (omega (arith, type_words ty, kind_few (kind_of ty)))
 
-  -- The size of the code of one side of a swap, and of the two instructions that read and write
-  -- this side.
+  -- The size of the code of one side of a swap, and of the two instructions that read and write this side.
   side_size : (a : Side) (p t : ℕ) → code_size (side_code starts a p t) ≤ size_per_weight * side_weight a
   side_size (VariableSide l ty) p t = omega arith
   side_size (CellSide x) p t = omega (arith, store_address_size starts x p t)

@@ -249,8 +249,7 @@ module _ (program : PlainProgram) (r : Routine) (b : Numbering) (types : Types) 
   caught_in None t numbered few = tt
   caught_in (Some n) t (within, room) few = ((omega (arith, locals n within, room), few), tt)
 
-  -- Inside a `try` one more handler is open, and after the item that opens a region one more region
-  -- is open.
+  -- Inside a `try` one more handler is open, and after the item that opens a region one more region is open.
   record_after : (first : Option ℕ) (slot : ℕ) → IsRecord first → slot + RECORD_WORDS ≤ r.slots → IsRecord (outermost first slot)
   record_after None slot inside room = room
   record_after (Some first) slot inside room = inside

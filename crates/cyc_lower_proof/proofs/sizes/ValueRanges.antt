@@ -1,5 +1,4 @@
--- This file proves that the code of values, pointers, memory accesses and objects refers only to
--- existing things.
+-- This file proves that the code of values, pointers, memory accesses and objects refers only to existing things.
 use Rattle.std.proofs.Common.{◌≡◌, ℕ, zero, suc, ◌+◌, ◌≤◌, ◌<◌, Bool, true, false, List, [], ◌∷◌, ◌++◌, length, Option, None, Some, slice_get, refl, sym, ap, subst, ◌∙◌, arith, length-append, inl, inr}
 use Rattle.std.specs.List.{AllByRecursion}
 use Rattle.cyc_types.specs.declared.typed.Kind.{Kind}
@@ -203,8 +202,7 @@ module _ (program : PlainProgram) (r : Routine) (b : Numbering) (types : Types) 
   blank_in kinds.Char slot few = ((few, tt), tt)
   blank_in kind slot few = tt
 
-  -- The code that loads words of globals into slots is in range, and so is the code that stores
-  -- them.
+  -- The code that loads words of globals into slots is in range, and so is the code that stores them.
   pub loads_in : (words first d : ℕ) → first + words ≤ length program.globals → d + words ≤ r.slots → AreIn (word_by_word load_word words first d)
   loads_in zero first d inside few = tt
   loads_in (suc words) first d inside few = ((omega (arith, few), omega (arith, inside)), loads_in words (suc first) (suc d) (omega (arith, inside)) (omega (arith, few)))
@@ -232,8 +230,7 @@ module _ (program : PlainProgram) (r : Routine) (b : Numbering) (types : Types) 
   copy_in true c o d inside few = tt
   copy_in false c o d inside few = (subst (λ words. IsIn program r types.locals (move_of words d o)) (sym (passed_is c)) (move_in (kind_passed c) d o few inside), tt)
 
-  -- The code that copies a fat pointer to another slot is in range, that is, it refers only to
-  -- existing slots.
+  -- The code that copies a fat pointer to another slot is in range, that is, it refers only to existing slots.
   pub pointer_copied : (d t : ℕ) → d + 3 ≤ r.slots → t + 3 ≤ r.slots → AreIn (copy_code 3 (operands.Slot t) d)
   pointer_copied d t few inside = by (t == d)
     where
@@ -315,8 +312,7 @@ module _ (program : PlainProgram) (r : Routine) (b : Numbering) (types : Types) 
         ),
       ))
 
-  -- The code that stores an element of an array in its cell is in range, that is, it refers only to
-  -- existing slots.
+  -- The code that stores an element of an array in its cell is in range, that is, it refers only to existing slots.
   pub filled_in : (kind : Kind) (head t : ℕ) → t + 3 + words_of_kind kind < r.slots → head < length r.code → AreIn (filled_code kind head t)
   filled_in kind head t few short =
       let z = t + 3 + words_of_kind kind in
@@ -438,8 +434,7 @@ module _ (program : PlainProgram) (r : Routine) (b : Numbering) (types : Types) 
       (unless_in (operand_of (starts_of types) a) inner p (omega (arith, short, length-append operand back)) (λ less. computed slot (slot_fits r b types locals levels a u numbered free) less))
       (pointer_in o l m d room all inside (value_in r b types locals levels a u numbered free))
 
-  -- An int that becomes a char is an operand, and the code that moves its low byte to a slot is in
-  -- range.
+  -- An int that becomes a char is an operand, and the code that moves its low byte to a slot is in range.
   pub brought_by : (masking : Bool) (a : Expression) (p d t : ℕ) → Fits b types a → d + words_of_kind (kind_at r b types locals levels a) ≤ r.slots → t + words_of_kind (kind_at r b types locals levels a) ≤ r.slots
       → ((slot : ℕ) → slot + words_of_kind (kind_at r b types locals levels a) ≤ r.slots → p + length (expression_code (starts_of types) a p slot t) < length r.code → AreIn (expression_code (starts_of types) a p slot t))
       → p + length (if masking then masked_by (operand_of (starts_of types) a) (expression_code (starts_of types) a p (value_slot (starts_of types) a t) t) (value_operand (starts_of types) a t) d else expression_code (starts_of types) a p d t) < length r.code

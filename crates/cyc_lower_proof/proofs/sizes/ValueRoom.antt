@@ -43,8 +43,7 @@ module _ (r : Routine) (b : Numbering) (types : Types) (locals : (n : ℕ) → n
   pub assigned_kind : (l : Lvalue) (c : Converted) (ty : ValueType) → kind_at (Assign l c ty) ≡ kind_passed c
   assigned_kind l (Convert from to a) ty = refl
 
-  -- The result of a pointer operator or of a chain has at most as many words as the left operand or
-  -- as the operators need.
+  -- The result of a pointer operator or of a chain has at most as many words as the left operand or as the operators need.
   pub operator_few : (o : PointerOperator) → words_of_kind (operator_kind o) ≤ words_of_kind (left_kind o)
   operator_few pointers.AddFat = omega arith
   operator_few pointers.SubtractFat = omega arith

@@ -59,8 +59,7 @@ module _ (starts : Starts) where
 
   -- ---- statements
 
-  -- The compared operands of a condition contain only 32-bit words if the condition's expressions
-  -- do.
+  -- The compared operands of a condition contain only 32-bit words if the condition's expressions do.
   sides_words : (null beside : Option Comparison) (a b whole : Expression) → IsOfWords a → IsOfWords b → IsOfWords whole
       → IsOfWords (nulled_or null beside a b whole).left × IsOfWords (nulled_or null beside a b whole).right
   sides_words (Some failing) beside a b whole first second all = (first, omega arith)
@@ -245,8 +244,7 @@ module _ (starts : Starts) where
       (append second (third ++ fourth) (read_words y kind (right_slot x t) (t + 2 + words))
       (append third fourth (write_words x kind t (t + 2 + words)) (write_words y kind (right_slot x t) (t + 2))))))
 
-  -- The code that throws an exception contains only 32-bit words; the exception's tag is less than
-  -- 2 ^ 32.
+  -- The code that throws an exception contains only 32-bit words; the exception's tag is less than 2 ^ 32.
   throw_words : (tag : ℕ) (v : Option Expression) (p : ℕ) (exits : Exits) (t : ℕ) → IsOfWordsThrown v → HaveWords (statement_code starts (Throw tag v) p exits t)
   throw_words tag None p exits t words = ((omega arith, omega arith), tt)
   throw_words tag (Some a) p exits t words =

@@ -31,8 +31,7 @@ wide_cell kinds.Fat wide more = refl
 wide_cell kinds.Char wide more = absurd (let f : true ≡ false = more in cc)
 wide_cell kind wide more = absurd (let f : true ≡ false = wide in cc)
 
--- The computation of the first byte of a cell does not overflow if its result fits in a 32-bit
--- word.
+-- The computation of the first byte of a cell does not overflow if its result fits in a 32-bit word.
 pub begins_is : (kind : Kind) (at : ℕ) → begins kind at < 4294967296 → begins_word kind at ≡ begins kind at
 begins_is kinds.Int at below = omega (arith, below)
 begins_is kinds.Char at below = refl

@@ -1,5 +1,4 @@
--- This file has the invariants of the loop that computes the words of globals and their first
--- words.
+-- This file has the invariants of the loop that computes the words of globals and their first words.
 use Rattle.std.proofs.Common.{◌≡◌, ℕ, ◌+◌, ◌-◌, List, ◌++◌, map, drop}
 use Rattle.std.specs.Prelude.{replicate}
 use Rattle.cyc_types.specs.declared.typed.Global.{Global}
@@ -22,8 +21,7 @@ StartsLeft gs i first starts =
 
 -- ---- the initial words
 
--- Says that the words computed so far, extended by the zeros that are left, are the words of the
--- earlier globals and of this global.
+-- Says that the words computed so far, extended by the zeros that are left, are the words of the earlier globals and of this global.
 abbrev pub ZerosLeft : (old words : List ℕ) → (g : GlobalVariable) → (left : ℕ) → Type 0
 ZerosLeft old words g left = words ++ replicate (left - 1) 0 ≡ old ++ lower_global g
 

@@ -1,5 +1,4 @@
--- This file has the invariants of the loops that compute the first slots of locals and the bytes
--- before a field.
+-- This file has the invariants of the loops that compute the first slots of locals and the bytes before a field.
 use Rattle.std.proofs.Common.{◌≡◌, ℕ, suc, ◌+◌, ◌<◌, ◌≤◌, List, [], ◌∷◌, ◌++◌, length, get_or, drop, sym, ap, ◌∙◌, arith, append_assoc, append-nil}
 use Rattle.std.proofs.lemmas.List.{drop_all, drop_more}
 use Rattle.cyc_words.specs.Word.{add_of}
@@ -45,8 +44,7 @@ module _ (view : List TyCode → List Ty) (one : TyCode → Ty) where
 
   -- ---- fields
 
-  -- Says that the bytes counted so far and the bytes of the remaining fields add up to the bytes
-  -- before the field.
+  -- Says that the bytes counted so far and the bytes of the remaining fields add up to the bytes before the field.
   abbrev pub BytesLeft : List TyCode → (field i bytes left : ℕ) → Type 0
   BytesLeft ts field i bytes left = field_from bytes (view (drop i ts)) left ≡ field_from 0 (view ts) field
 

@@ -90,8 +90,7 @@ low-from (t ∷ ts) slot (suc n) = omega (arith, low-from ts (slot + words_of t)
 pub slot-low : (ts : Types) (n : ℕ) → slot_of (starts_of ts) n ≤ words_of_all ts.locals
 slot-low ts n = omega (arith, low-from ts.locals 0 n)
 
--- The words of a local end before those of the next local begin, and all of them end before the first
--- temporary.
+-- The words of a local end before those of the next local begin, and all of them end before the first temporary.
 pub words-there : (ts : List Ty) (n : ℕ) (t : Ty) → slice_get ts n ≡ Some t → words_in ts n ≡ words_of t
 words-there [] n t at = absurd (none-some t at)
 words-there (u ∷ ts) zero t at = ap words_of (same_Some u t at)
@@ -134,8 +133,7 @@ room-inside ts n kind room = has-words ts.locals n (omega (arith, room, kind_pos
 
 -- ---- globals
 
--- The types of globals are treated as types of locals, because the words of globals are
--- consecutive, like the slots of locals.
+-- The types of globals are treated as types of locals, because the words of globals are consecutive, like the slots of locals.
 abbrev as_locals : Types → Types
 as_locals ts = record { locals = ts.globals; structs = ts.structs; raises = ts.raises; counters = []; globals = []; scopes = None }
 
@@ -197,8 +195,7 @@ starts-append slot (t ∷ ts) us =
 pub slots-few : (h : Function) → tag_slot h ≡ words_of_all h.parameters + words_of_all h.locals
 slots-few h = words-append h.parameters h.locals
 
--- The first slots of the parameters, followed by those of the other locals, are the first slots of
--- all locals.
+-- The first slots of the parameters, followed by those of the other locals, are the first slots of all locals.
 pub slots-made : (h : Function) (following end : ℕ) (first all : List ℕ) → following ≡ words_of_all h.parameters → first ≡ starts_from 0 h.parameters
     → end ≡ following + words_of_all h.locals → all ≡ first ++ starts_from following h.locals → (all ≡ starts_from 0 (slot_types h)) × (end ≡ tag_slot h) × (end + 1 ≡ first_temporary h)
 slots-made h following end first all following_is first_is end_is all_is = (

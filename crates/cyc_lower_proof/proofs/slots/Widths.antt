@@ -59,8 +59,7 @@ one_or_three kinds.NonNull = inl refl
 one_or_three kinds.Handle = inl refl
 one_or_three kinds.Key = inl refl
 
--- If a conversion changes the number of words, then the value has three words before or after the
--- conversion.
+-- If a conversion changes the number of words, then the value has three words before or after the conversion.
 pub more_words : (from to : Kind) → (words_of_kind from == words_of_kind to) ≡ false → 3 ≤ max (words_of_kind from) (words_of_kind to)
 more_words from to apart = elim (one_or_three from) [
   | inl one ↦ elim (one_or_three to) [
@@ -85,8 +84,7 @@ masks_are : (from to : Kind) → masks from to ≡ true → (from ≡ kinds.Int)
 masks_are kinds.Int kinds.Char is = (refl, refl)
 masks_are from to is = absurd (let f : false ≡ true = is in cc)
 
--- A conversion that does not keep the words of a value is from an int to a char, or changes the
--- number of words.
+-- A conversion that does not keep the words of a value is from an int to a char, or changes the number of words.
 pub changes_words : (from to : Kind) → keeps_words from to ≡ false → ((from ≡ kinds.Int) × (to ≡ kinds.Char)) ⊎ (are_as_wide from to ≡ false)
 changes_words from to changes = elim (cases_Bool (are_as_wide from to)) [
   | inl wide ↦ elim (cases_Bool (masks from to)) [
@@ -225,8 +223,7 @@ HasLocal types n kind = HasRoom types n kind × (kind_in types.locals n ≡ kind
 abbrev pub HasGlobal : Types → ℕ → Kind → Type 0
 HasGlobal types n kind = words_of_kind kind ≤ words_in types.globals n
 
--- Holds if the local or global with this number has the kind to which a pointer of type `pointer`
--- points.
+-- Holds if the local or global with this number has the kind to which a pointer of type `pointer` points.
 abbrev pub HasVariable : List Ty → ℕ → (pointer : Ty) → Type 0
 HasVariable ts n pointer = (t : Ty) × (slice_get ts n ≡ Some t) × (kind_after pointer ≡ kind_of t)
 

@@ -1,5 +1,4 @@
--- This file proves the steps that pass a value to an assigned variable or cell, and then to the code
--- that uses the value of the assignment.
+-- This file proves the steps that pass a value to an assigned variable or cell, and then to the code that uses the value of the assignment.
 use Rattle.std.proofs.Common.{◌≡◌, ◌≢◌, ℕ, ◌+◌, ◌<◌, Bool, true, false, List, [], ◌∷◌, Option, Some, refl, sym, ap, subst, ◌∙◌, arith, inl, inr, length, ◌*◌, ◌++◌, ◌≤◌}
 use Rattle.std.specs.Prelude.{◌==◌}
 use Rattle.std.proofs.lemmas.Bool.{eqb-true}
@@ -224,8 +223,7 @@ module _ (source : Program) (pages calls : ℕ) where
       (All_at HasWord (code_of source g) p (store_of kind address bytes (operands.Word n))
       (of_words.functions g no_routine (function_known (lower_program source) place (store_of kind address bytes (operands.Word n)) here)) here)
 
-  -- Writing the word of a one-word value over words of the same content does not change the value
-  -- in an operand.
+  -- Writing the word of a one-word value over words of the same content does not change the value in an operand.
   stays_in : (t : Tables) (v : Kinded) (o : Operand) (slots other : Words) → ((n : ℕ) → slots n ≡ operand_word slots o → other n ≡ operand_word slots o) → IsWord t v.kind v.value (operand_word slots o) → IsIn t v slots o → IsIn t v other o
   stays_in t v (operands.Slot n) slots other same tells is = IsWord-is t v.kind v.value (slots n) other n (same n refl) tells
   stays_in t v (operands.Word w) slots other same tells is = is
@@ -260,8 +258,7 @@ module _ (source : Program) (pages calls : ℕ) where
         Holds-above shared.tables c.active.slots after.active.slots (floor source g k) (held k) (λ m above. above_there source pages calls k e w c shared names facts object offset address word at v.value found points is_word fits m (omega (arith, above, floor-least source g k))) holds,
       ) (hands_moves source g e.locals v.kind o q c.frames after.frames (frames_there source pages calls k e w c shared names facts object offset address word at v.value found points is_word fits) k hands))
 
-  -- A value of three words is stored in a cell, whose address waits in a temporary. After the store, the value of three words is
-  -- passed on.
+  -- A value of three words is stored in a cell, whose address waits in a temporary. After the store, the value of three words is passed on.
   stores_words : (peek : Option ℕ) (object offset : ℕ) (v : Kinded) (n q : ℕ) (k : List Entry) (e : Environment) (w : World) (c : Configuration) → plain.HoldsWords (plain.Running c) → AreNamed source e.locals (callers k) w c.active.function c.active.base c.frames c.store
       → IsWell (step source (Running (Given v) (Needs (StoreCell peek (Thin object offset)) ∷ k) e w)) → Stands source pages calls v (operands.Slot n) (Needs (StoreCell peek (Thin object offset)) ∷ k) e w c
       → IsStanding source c.active.function n → v.kind ≡ kinds.Fat → StoresAt (code_of source c.active.function) (bounds_at source c.active.function) (types_on source c.active.function k) kinds.Fat 3 (top source c.active.function k) 0 n c.active.next q

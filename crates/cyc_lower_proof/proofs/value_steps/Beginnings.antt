@@ -1,5 +1,4 @@
--- This file proves the steps that begin an expression whose value is moved to a slot or to an
--- operand, or is dropped.
+-- This file proves the steps that begin an expression whose value is moved to a slot or to an operand, or is dropped.
 use Rattle.std.proofs.Common.{◌≡◌, ℕ, ◌+◌, ◌≤◌, ◌<◌, Bool, true, false, List, [], ◌∷◌, Option, None, Some, slice_get, refl, sym, ap, subst, ◌∙◌, arith, inr, zero, suc, ◌-◌, ◌*◌, add-zero}
 use Rattle.std.specs.Prelude.{if◌then◌else◌}
 use Rattle.std.proofs.lemmas.Bool.{eq-eqb}
@@ -101,8 +100,7 @@ module _ (source : Program) (pages calls : ℕ) where
   plain_operand kinds.Int kinds.Char a k c slot o m whole at = absurd (let f : true ≡ false = whole in cc)
   plain_operand from to a k c slot o m whole at = at
 
-  -- A value that will be converted is in an operand, or in a temporary if the conversion changes
-  -- its words.
+  -- A value that will be converted is in an operand, or in a temporary if the conversion changes its words.
   pub sources : (t : Tables) (from to : Kind) (a : Expression) (k : List Entry) (e : Environment) (w : World) (c : Configuration) (o : Operand) (m q : ℕ)
       → OperandBy (code_of source c.active.function) (bounds_at source c.active.function) (types_on source c.active.function k) (source_of (starts_on source c.active.function k) (Convert from to a))
       (BroughtAt (code_of source c.active.function) (bounds_at source c.active.function) (types_on source c.active.function k) (Convert from to a) (source_slot (starts_on source c.active.function k) (Convert from to a) (top source c.active.function k)) (top source c.active.function k) c.active.next m)
@@ -330,8 +328,7 @@ module _ (source : Program) (pages calls : ℕ) where
       (landed source pages calls v (put c.active.slots d word) d k e w c q shared (subst (Points shared.tables object 0) (sym (put-same c.active.slots d word)) points)
       (λ m out. put_elsewhere c.active.slots d word 1 m (omega arith) out) facts holds end lands))
 
-  -- The address of a variable of type char is the address of the last byte of its word, and this
-  -- address is moved to a slot.
+  -- The address of a variable of type char is the address of the last byte of its word, and this address is moved to a slot.
   addresses_last : (kind : Kind) (object x d : ℕ) (a : Expression) (i : Instruction) (k : List Entry) (e : Environment) (w : World) (c : Configuration) (q : ℕ)
       → step source (Running (Evaluating a) k e w) ≡ Running (Given (record { kind = kinds.NonNull; value = Thin object 0 })) k e w → CodeAt (code_of source c.active.function) c.active.next i
       → ((choice : Choice) → performed (lower_program source) choice c i ≡ plain.Running (advanced (with_slots c (put c.active.slots d x))))

@@ -1,5 +1,4 @@
--- This file proves the checks that raise an exception, and the steps that pass a value to a
--- conversion.
+-- This file proves the checks that raise an exception, and the steps that pass a value to a conversion.
 use Rattle.std.proofs.Common.{◌≡◌, ℕ, ◌+◌, Bool, true, false, List, ◌∷◌, Option, refl, sym, ap, subst, ◌∙◌, arith, inl, inr, bit_and}
 use Rattle.std.specs.Prelude.{◌==◌, ◌&&◌, if◌then◌else◌, ◌%◌, option_map}
 use Rattle.std.proofs.lemmas.Bool.{eqb-false, and_parts}
@@ -203,8 +202,7 @@ module _ (source : Program) (pages calls : ℕ) where
       converts_by (keeps_words from to) from to target v o q k e w c refl whole (converts_kind from to target v k e w well) (converted_leads from to target v k e w well) (converted_from from to target v k e w well)
       (subst IsWell (converts_kind from to target v k e w well) well) stands at stack
 
-  -- A value is converted, without an exception, in the slots of the local to which it will be
-  -- assigned.
+  -- A value is converted, without an exception, in the slots of the local to which it will be assigned.
   converted_ahead : (t : Tables) (from to i : Kind) (v : Value) (words : Words) (n : ℕ) (k : List Entry) (e : Environment) (w : World)
       → IsWell (computed to (conversion to v) k e w) → converts_there from to ≡ true → masks i to ≡ false → words_of_kind i ≡ words_of_kind to → Is t i v words n
       → (computed to (conversion to v) k e w ≡ Running (Given (of_kind to v)) k e w) × Is t to v words n

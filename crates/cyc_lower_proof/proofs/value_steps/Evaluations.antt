@@ -1,5 +1,4 @@
--- This file proves the steps that begin an expression, for every destination of its value, also beside a left operand
--- and in a condition.
+-- This file proves the steps that begin an expression, for every destination of its value, also beside a left operand and in a condition.
 use Rattle.std.proofs.Common.{◌≡◌, ℕ, ◌+◌, Bool, true, false, List, [], ◌∷◌, map, Option, None, Some, refl, sym, ap, subst, ◌∙◌, arith, inl, inr}
 use Rattle.std.specs.Prelude.{option_map, is_some}
 use Rattle.std.proofs.lemmas.List.{length-map}
@@ -73,8 +72,7 @@ module _ (source : Program) (pages calls : ℕ) where
   counters_beside t e g o p slots frames (Needs (Operate u) ∷ k) counted (at, beside) = counters_beside t e g (operands.Slot (top source g k)) (p + 1) slots frames k counted beside
   counters_beside t e g o p slots frames k counted beside = absurd beside
 
-  -- If an operator chain is a simple right operand, then the first operand of the chain is simple
-  -- too.
+  -- If an operator chain is a simple right operand, then the first operand of the chain is simple too.
   simple_begins : (u : Operator) (a b : Expression) (os : Operations) (ty : Ty) (k : List Entry) (e : Environment) (w : World) (c : Configuration) (r : Operand) (q : ℕ) (shared : SharedAt source pages calls k e w c) → DataIn source shared.tables c.active.slots k e w c
       → is_simple (starts_on source c.active.function k) (Binary a (ThenCompute u b os) ty) ≡ true
       → ValueAt (code_of source c.active.function) (bounds_at source c.active.function) (types_on source c.active.function k) (Binary a (ThenCompute u b os) ty) (top source c.active.function k) r c.active.next q

@@ -127,8 +127,7 @@ module _ (source : Program) where
       let (path, end) = save_path (with_global c first (c.active.slots n)) words (suc first) (suc n) q rest in
       ((here, (λ choice. refl), omega arith, global_quiet c first (c.active.slots n), path), omega (arith, end))
 
-  -- A value is stored in a global by at least one instruction, and execution then continues after the last of
-  -- these instructions.
+  -- A value is stored in a global by at least one instruction, and execution then continues after the last of these instructions.
   pub record IsStoredBy (c : Configuration) (words first : ℕ) (o : Operand) (q : ℕ) : Type 0 where
     pub last : ℕ
     pub some : 0 < length (global_links c words first o)

@@ -217,8 +217,7 @@ module _ (source : Program) (pages calls : ℕ) where
       (inl (top source g k, refl, here, in_temporary (omega arith) (subst (λ x. ValueStack source g locals kinds.Char (operands.Slot (top source g k)) x frames k) (sym (end ∙ there)) stack)))
   brings t from to a k locals g p slots frames m q at_a at_to holds stack = into_slot (top source g k) m at_a holds (in_temporary (omega arith) (inr (q, refl, at_to, stack)))
 
-  -- If the conversion raises no exception, then a value is moved to the slots of the local to which it will
-  -- be assigned.
+  -- If the conversion raises no exception, then a value is moved to the slots of the local to which it will be assigned.
   pub brings_ahead : (t : Tables) (from to : Kind) (a : Expression) (k : List Entry) (locals : ℕ → Option ℕ) (g p : ℕ) (slots : Words) (frames : List Frame) (d m : ℕ)
       → converts_there from to ≡ true → words_of_kind (given_at source g a) ≡ words_of_kind to → d + words_of_kind to ≤ base_of source g
       → BroughtAt (code_of source g) (bounds_at source g) (types_on source g k) (Convert from to a) d (top source g k) p m

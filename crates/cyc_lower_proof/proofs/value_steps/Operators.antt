@@ -312,8 +312,7 @@ module _ (source : Program) (pages calls : ℕ) where
   chain_lands (ThenPointer u b os) kind g locals d p q frames k ops lands = in_temporary (omega arith) (omega arith, to_slot (d, q, ops, lands))
   chain_lands (ThenPointerPeek n u b os) kind g locals d p q frames k ops lands = in_temporary (omega arith) (omega arith, to_slot (d, q, ops, lands))
 
-  -- If the left operand of `&&` or `||` decides the result, then the code jumps over the right
-  -- operand.
+  -- If the left operand of `&&` or `||` decides the result, then the code jumps over the right operand.
   decided_at_once : (u : LogicalOperator) (b : Expression) (os : Operations) (v : Kinded) (f : Bool) (k : List Entry) (e : Environment) (w : World) (c : Configuration) (i : Instruction) (d m r : ℕ)
       → step source (Running (Given v) (Needs (Chain (ThenTest u b os)) ∷ k) e w) ≡ Running (Given (int_of (if f then 0 else 1))) (Needs (Chain os) ∷ k) e w
       → At (code_of source c.active.function) c.active.next i → ((choice : Choice) → plain_step.performed (lower_program source) choice c i ≡ plain.Running (at c m))
@@ -365,8 +364,7 @@ module _ (source : Program) (pages calls : ℕ) where
       (λ same. let f : jump_if_nonzero _ m ≡ instructions.Binary plain_binary.NotEqual _ _ _ = same in cc) reported shared facts holds truths
       (chain_lands os kinds.Int c.active.function e.locals d r q c.frames k ops lands)
 
-  -- If the step that awaits the right operand is not a fault, then the left operand fits the
-  -- operator.
+  -- If the step that awaits the right operand is not a fault, then the left operand fits the operator.
   pub awaited : (fits : Bool) (waiting : Awaiting) (b : Expression) (os : Operations) (k : List Entry) (e : Environment) (w : World) → IsWell (awaits_right fits waiting b os k e w)
       → awaits_right fits waiting b os k e w ≡ Running (Evaluating b) (Needs waiting ∷ Needs (Chain os) ∷ k) e w
   awaited true waiting b os k e w well = refl
@@ -389,8 +387,7 @@ module _ (source : Program) (pages calls : ℕ) where
   left_there code b types (Some x) left computed slot o p q none at = absurd (none-some x (sym none))
   left_there code b types None left computed slot o p q none (is, (there, at)) = there
 
-  -- The left operand of an operator stays in its operand if the right operand is simple, and the right operand is
-  -- evaluated after it.
+  -- The left operand of an operator stays in its operand if the right operand is simple, and the right operand is evaluated after it.
   chain_goes_on : (simple : Bool) (u : Operator) (b : Expression) (os : Operations) (v : Kinded) (l : Operand) (k : List Entry) (e : Environment) (w : World) (c : Configuration) (r : Operand) (m : ℕ)
       → IsWell (step source (Running (Given v) (Needs (Chain (ThenCompute u b os)) ∷ k) e w)) → is_simple (starts_on source c.active.function k) b ≡ simple → IsLow l (top source c.active.function k) → Stands source pages calls v l k e w c
       → OperandBy (code_of source c.active.function) (bounds_at source c.active.function) (types_on source c.active.function k) (operand_of (starts_on source c.active.function k) b)
@@ -465,8 +462,7 @@ module _ (source : Program) (pages calls : ℕ) where
       (omega arith)
   peek_goes_on n u b v o r failing q k e w c well stands low fails same end stack = absurd (none-some failing fails)
 
-  -- When two pointers are compared, the left pointer stays in its operand if the right one is
-  -- simple.
+  -- When two pointers are compared, the left pointer stays in its operand if the right one is simple.
   pointer_beside : (simple : Bool) (peek : Option ℕ) (u : PointerOperator) (b : Expression) (v : Kinded) (l r : Operand) (failing : Comparison) (m : ℕ) (k : List Entry) (e : Environment) (w : World) (c : Configuration)
       → pointers_failing u ≡ Some failing → takes_kind u v.kind ≡ true → is_simple (starts_on source c.active.function k) b ≡ simple → IsLow l (top source c.active.function k)
       → (t : Tables) → IsIn t v c.active.slots l → Holds t c.active.slots (floor source c.active.function k) (held k)

@@ -1,5 +1,4 @@
--- This file is about the relation between values and their words, and about the effect of operators
--- on the words.
+-- This file is about the relation between values and their words, and about the effect of operators on the words.
 use Rattle.std.proofs.Common.{◌≡◌, ◌≢◌, ℕ, ◌+◌, Bool, true, false, not, List, None, Some, slice_get, refl, sym, ap, ◌∙◌, arith, inl, inr, ◌%◌}
 use Rattle.std.specs.Prelude.{ℤ, nat_lt, ◌==◌, ◌<ℤ◌, ◌≤ℤ◌, int_le, if◌then◌else◌}
 use Rattle.std.proofs.lemmas.Int.{ints}
@@ -177,8 +176,7 @@ module _ (t : Tables) where
   kept_in from to v slots (operands.Slot n) wide gives is = kept_at from to v slots n wide gives is
   kept_in from to v slots (operands.Word w) wide gives is = kept_word from to v w wide gives is
 
--- A value that may be converted at its destination has as many words before the conversion as after
--- it.
+-- A value that may be converted at its destination has as many words before the conversion as after it.
 pub as_wide : (from to : Kind) → converts_there from to ≡ true → words_of_kind from ≡ words_of_kind to
 as_wide from kinds.NonNull quiet = absurd (let f : false ≡ true = quiet in cc)
 as_wide from kinds.Int quiet = eqb-true (words_of_kind from) (words_of_kind kinds.Int) quiet
@@ -247,8 +245,7 @@ opposite_twice comparisons.GreaterOrEqualUnsigned = refl
 pub other_place : (code : List Instruction) (p q : ℕ) (i j : Instruction) → At code p i → At code q j → i ≢ j → p ≢ q
 other_place code p q i j at_p at_q other same = other (same_Some i j (sym at_p ∙ ap (slice_get code) same ∙ at_q))
 
--- The configuration after a branch that is taken, and the configuration after a branch that is not
--- taken.
+-- The configuration after a branch that is taken, and the configuration after a branch that is not taken.
 pub branch_taken : (c : Configuration) (b : Bool) (target : ℕ) → b ≡ true → branches c b target ≡ plain.Running (at c target)
 branch_taken c b target is = ap (λ (x : Bool). branches c x target) is
 

@@ -198,8 +198,7 @@ module _ (source : Program) (pages calls : ℕ) where
 
   -- ---- all entries that await a value
 
-  -- An access through null raises an exception; an access through any other thin pointer finds the
-  -- cell.
+  -- An access through null raises an exception; an access through any other thin pointer finds the cell.
   follows_thin : (pointer : Kind) (target : Option Kind) (i : Kind) (v : Value) (o : Operand) (k : List Entry) (e : Environment) (w : World) (c : Configuration)
       → IsWell (step source (Running (Given (of_kind i v)) (Needs (Follow pointer target) ∷ k) e w)) → Stands source pages calls (of_kind i v) o k e w c
       → (q : ℕ) × (is_thin pointer ≡ true) × CheckAt (code_of source c.active.function) (bounds_at source c.active.function) (types_on source c.active.function k) null_exception o c.active.next q × PlaceStack source c.active.function e.locals o 0 q c.frames k → GoesAfter source pages calls (of_kind i v) (Needs (Follow pointer target) ∷ k) e w c
@@ -240,8 +239,7 @@ module _ (source : Program) (pages calls : ℕ) where
       by true thin check place = follows_thin pointer target v.kind v.value o k e w c well (shared, facts, is, holds) (q, thin, check, place)
       by false thin access place = follows_fat source pages calls pointer target v o q k e w c thin kind well shared facts is holds low access place
 
-  -- An access to a field is evaluated; the address of the field is some bytes after the address of
-  -- its struct.
+  -- An access to a field is evaluated; the address of the field is some bytes after the address of its struct.
   follows_member : (pointer : Kind) (fields : List Kind) (field : ℕ) (i : Kind) (v : Value) (o : Operand) (k : List Entry) (e : Environment) (w : World) (c : Configuration)
       → IsWell (step source (Running (Given (of_kind i v)) (Needs (FollowMember pointer fields field) ∷ k) e w)) → Stands source pages calls (of_kind i v) o k e w c
       → ValueStack source c.active.function e.locals i o c.active.next c.frames (Needs (FollowMember pointer fields field) ∷ k)
@@ -390,8 +388,7 @@ module _ (source : Program) (pages calls : ℕ) where
       room of_type (subst (Is shared.tables v.kind v.value c.active.slots) (sym there) is) (q, items, stack)
   ahead_given v n old k e w c well shared same facts is holds stack = absurd stack
 
-  -- An operator chain is a simple right operand, and its next operator has a right operand without
-  -- code.
+  -- An operator chain is a simple right operand, and its next operator has a right operand without code.
   simple_goes_on : (u : Operator) (b : Expression) (os : Operations) (v : Kinded) (o : Operand) (q : ℕ) (k : List Entry) (e : Environment) (w : World) (c : Configuration) → IsWell (step source (Running (Given v) (Needs (Chain (ThenCompute u b os)) ∷ k) e w))
       → (shared : SharedAt source pages calls k e w c) → DataIn source shared.tables c.active.slots k e w c → IsIn shared.tables v c.active.slots o → IsLow o (top source c.active.function k)
       → are_simple (starts_on source c.active.function k) (ThenCompute u b os) ≡ true

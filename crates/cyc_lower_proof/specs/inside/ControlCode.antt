@@ -1,5 +1,4 @@
--- This file defines the code of conditions, branches, loops, regions, exits from statements, and
--- handlers.
+-- This file defines the code of conditions, branches, loops, regions, exits from statements, and handlers.
 use Rattle.std.specs.Prelude.{ℕ, ◌+◌, Bool, true, false, ◌&&◌, ◌||◌, List, [], ◌∷◌, ◌++◌, length, Option, None, Some, ◌%◌, ◌^◌}
 use Rattle.cyc_types.specs.declared.typed.UnaryOperator.TheVariants as unary
 use Rattle.cyc_types.specs.declared.typed.LogicalOperator.{LogicalOperator}
@@ -24,8 +23,7 @@ use Rattle.cyc_lower_proof.specs.inside.ValueCode.{failing_comparison, move_of}
 
 -- ---- conditions, branches and loops
 
--- A condition as a comparison of two expressions. The comparison `failing` holds exactly if the
--- condition fails.
+-- A condition as a comparison of two expressions. The comparison `failing` holds exactly if the condition fails.
 pub record Compared : Type 0 where
   pub failing : Comparison
   pub left : Expression
@@ -50,8 +48,7 @@ abbrev pub compared_or : Option Comparison → (left right whole : Expression) �
 compared_or (Some failing) left right whole = record { failing = failing; left = left; right = right }
 compared_or None left right whole = with_zero whole
 
--- The comparison of a pointer's first word with 0 that holds exactly if the comparison of the pointer
--- with null fails.
+-- The comparison of a pointer's first word with 0 that holds exactly if the comparison of the pointer with null fails.
 abbrev pub null_failing : PointerOperator → Option Comparison
 null_failing pointers.ThinIsNull = Some comparisons.NotEqual
 null_failing pointers.ThinIsNotNull = Some comparisons.Equal
@@ -76,8 +73,7 @@ abbrev pub nulled_or : (null beside : Option Comparison) → (left right whole :
 nulled_or (Some failing) beside left right whole = record { failing = failing; left = left; right = Number 0 }
 nulled_or None beside left right whole = compared_or beside left right whole
 
--- A negated condition compares the expressions of the original condition, and fails exactly if the
--- original condition holds.
+-- A negated condition compares the expressions of the original condition, and fails exactly if the original condition holds.
 abbrev pub negated : Compared → Compared
 negated x = record { failing = opposite x.failing; left = x.left; right = x.right }
 
@@ -94,16 +90,14 @@ compared_of a = with_zero a
 abbrev pub negated_condition : Condition → Condition
 negated_condition c = record { failing = opposite c.failing; left = c.left; right = c.right }
 
--- The jump that is taken if a condition fails; below it, the jump that is taken if the condition
--- holds.
+-- The jump that is taken if a condition fails; below it, the jump that is taken if the condition holds.
 abbrev pub failing_jump : Condition → (target : ℕ) → Instruction
 failing_jump c target = instructions.Branch c.failing c.left c.right target
 
 abbrev pub holding_jump : Condition → (target : ℕ) → Instruction
 holding_jump c target = instructions.Branch (opposite c.failing) c.left c.right target
 
--- The condition that fails exactly if the left operand decides `&&` or `||`; below it, the jump
--- that is taken then.
+-- The condition that fails exactly if the left operand decides `&&` or `||`; below it, the jump that is taken then.
 abbrev pub deciding_condition : LogicalOperator → Condition → Condition
 deciding_condition logical.AndThen c = c
 deciding_condition logical.OrElse c = negated_condition c
@@ -111,8 +105,7 @@ deciding_condition logical.OrElse c = negated_condition c
 abbrev pub deciding_jump : LogicalOperator → Condition → (target : ℕ) → Instruction
 deciding_jump u c target = failing_jump (deciding_condition u c) target
 
--- Tells if two logical operators are equal; below it, if all tests of a chain use one operator and
--- there is at least one test.
+-- Tells if two logical operators are equal; below it, if all tests of a chain use one operator and there is at least one test.
 abbrev pub is_same : (u o : LogicalOperator) → Bool
 is_same logical.AndThen logical.AndThen = true
 is_same logical.OrElse logical.OrElse = true
@@ -299,8 +292,7 @@ kept_code_in (Some place) t = instructions.CountLexical (t + RECORD_WORDS) ∷ [
 abbrev pub kept_code : Starts → (t : ℕ) → List Instruction
 kept_code starts t = kept_code_in starts.scopes t
 
--- The code that closes the lexical regions opened inside a `try` when an exception reaches the
--- handler.
+-- The code that closes the lexical regions opened inside a `try` when an exception reaches the handler.
 abbrev pub restored_code_in : Option ℕ → (t : ℕ) → List Instruction
 restored_code_in None t = []
 restored_code_in (Some place) t = closed_code (t + RECORD_WORDS)
@@ -330,13 +322,11 @@ handled_code starts body clauses p t =
     ++ clauses (p + 1 + length (body (p + 1) ++ instructions.Leave t ∷ []) + 1 + length (restored_code starts t)) (p + 1 + length (body (p + 1) ++ instructions.Leave t ∷ [])))
     p
 
--- The jump over a `catch` clause, which is taken if the exception in slot t has a number other than
--- `tag`.
+-- The jump over a `catch` clause, which is taken if the exception in slot t has a number other than `tag`.
 abbrev pub other_jump : (tag t target : ℕ) → Instruction
 other_jump tag t target = instructions.Branch comparisons.NotEqual (operands.Slot t) (tag_operand tag) target
 
--- The code of a `catch` clause at position p. The code of a clause ends with a jump to the jump over
--- all clauses.
+-- The code of a `catch` clause at position p. The code of a clause ends with a jump to the jump over all clauses.
 abbrev pub clause_code : (tag t : ℕ) → (items : List Instruction) → (p out : ℕ) → List Instruction
 clause_code tag t items p out = other_jump tag t (p + 1 + length items + 1) ∷ items ++ instructions.Jump out ∷ []
 
@@ -344,13 +334,11 @@ clause_code tag t items p out = other_jump tag t (p + 1 + length items + 1) ∷ 
 abbrev pub goes_on : (t : ℕ) → Instruction
 goes_on t = instructions.Throw (operands.Slot t) (operands.Slot (t + 1))
 
--- The exits from a statement, for statements that leave a loop or the function. This definition gives the exits
--- outside any loop.
+-- The exits from a statement, for statements that leave a loop or the function. This definition gives the exits outside any loop.
 abbrev pub outside_loops : Exits
 outside_loops = record { head = 0; leaving = 0; in_loop = nothing_opened; in_function = nothing_opened }
 
--- The exits inside a loop that begins at position `head` and whose jump to the end is at position
--- `leaving`.
+-- The exits inside a loop that begins at position `head` and whose jump to the end is at position `leaving`.
 abbrev pub inside_loop : (head leaving : ℕ) → Exits → Exits
 inside_loop head leaving exits = record { head = head; leaving = leaving; in_loop = nothing_opened; in_function = exits.in_function }
 

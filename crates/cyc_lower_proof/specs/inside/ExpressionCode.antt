@@ -57,8 +57,7 @@ module _ (starts : Starts) where
   value_slot (Unary unary.Widen a) t = value_slot a t
   value_slot a t = t
 
-  -- The slot that receives the value of a left operand; `simple` tells if the right operand is
-  -- simple.
+  -- The slot that receives the value of a left operand; `simple` tells if the right operand is simple.
   abbrev pub slot_with : (simple : Bool) → Expression → (t : ℕ) → ℕ
   slot_with true a t = value_slot a t
   slot_with false a t = t
@@ -113,8 +112,7 @@ module _ (starts : Starts) where
   load_code words (Local p n) d = move_of words d (operands.Slot (slot_of starts n)) ∷ []
   load_code words (Global n) d = word_by_word load_word words (global_of starts n) d
 
--- The code of an expression at position p, which moves the value to slot d and uses temporaries from slot t
--- on.
+-- The code of an expression at position p, which moves the value to slot d and uses temporaries from slot t on.
 abbrev mutual
   pub expression_code : (starts : Starts) → Expression → (p d t : ℕ) → List Instruction
   expression_code starts (Number n) p d t = instructions.Move d (operands.Word n) ∷ []
@@ -206,8 +204,7 @@ abbrev mutual
   printed_code starts (MoreArguments c cs) p t =
       converted_operand_code starts c p t ++ printed_code starts cs (p + length (converted_operand_code starts c p t)) t
 
-  -- Moves an initial value to slot d. The move is the last instruction, and no exception can be
-  -- raised after it.
+  -- Moves an initial value to slot d. The move is the last instruction, and no exception can be raised after it.
   pub initial_code : (starts : Starts) → Converted → (p d t : ℕ) → List Instruction
   initial_code starts (Convert from to a) p d t =
       if converts_there from to
@@ -239,8 +236,7 @@ abbrev mutual
       (p + length (pointer_code o l (value_operand starts b (after_left o t)) (code_unless (operand_of starts b) (expression_code starts b p (value_slot starts b (after_left o t)) (after_left o t))) (next_slot os d t)))
       (operands.Slot (next_slot os d t)) d t
 
--- Moves a value that is to be converted to slot d; for an int that becomes a char, only the low
--- byte.
+-- Moves a value that is to be converted to slot d; for an int that becomes a char, only the low byte.
 abbrev pub brought_code : (starts : Starts) → Converted → (p d t : ℕ) → List Instruction
 brought_code starts (Convert from to a) p d t =
     brought_by from to (operand_of starts a) (expression_code starts a p (value_slot starts a t) t) (value_operand starts a t) (expression_code starts a p d t) d

@@ -1,5 +1,4 @@
--- This file states the contract of the lowering: the plain program that it produces, and the programs
--- that it accepts.
+-- This file states the contract of the lowering: the plain program that it produces, and the programs that it accepts.
 use Rattle.std.specs.Prelude.{◌≡◌, ℕ, ◌*◌, ◌≤◌, ◌<◌, List, [], ◌∷◌, length}
 use Rattle.std.specs.List.{AllByRecursion}
 use Rattle.cyc_types.specs.TypedTrees.{Function, Program}

@@ -2,8 +2,7 @@
 -- emitted for a position p. The last instruction of an expression's code moves the value to slot d, so d may be the slot of a local that
 -- the expression reads. All other writes go to the slots from t on. Numbers and locals are used as operands directly.
 --
--- A value occupies as many consecutive slots as its kind has words, and a global occupies as many
--- consecutive words.
+-- A value occupies as many consecutive slots as its kind has words, and a global occupies as many consecutive words.
 use Rattle.std.specs.Prelude.{◌≡◌, ◌<◌, ◌≤◌, ℕ, zero, suc, ◌+◌, Bool, false, List, [], ◌∷◌, ◌++◌, length, map, replicate, ◌-◌, Option, None, Some, true, ◌||◌, ◌&&◌, is_some, if◌then◌else◌, max, take, not}
 use Rattle.std.specs.List.{list_any}
 use Rattle.cyc_words.specs.declared.span.Span.{Span}
@@ -46,8 +45,7 @@ module _ (starts : Starts) where
   assigned_operand (Local w n) c t = operands.Slot (slot_of starts n)
   assigned_operand (Global n) c t = converted_operand starts c t
 
-  -- Moves the address of a cell to slot t, where it waits until the right side of the assignment is
-  -- evaluated.
+  -- Moves the address of a cell to slot t, where it waits until the right side of the assignment is evaluated.
   abbrev pub store_address_code : Dereference → (p t : ℕ) → List Instruction
   store_address_code x p t = addressed_by (place_code starts x p t) (place_operand starts x t) (place_offset starts x) t
 
@@ -66,8 +64,7 @@ module _ (starts : Starts) where
 
   -- ---- statements
 
-  -- The first of two compared operands. The first operand is used without code only if the second operand is
-  -- simple.
+  -- The first of two compared operands. The first operand is used without code only if the second operand is simple.
   abbrev pub first_operand : (a b : Expression) → (t : ℕ) → Operand
   first_operand a b t = operand_or (left_with (is_simple starts b) (operand_of starts a)) (slot_with starts (is_simple starts b) a t)
 
@@ -146,8 +143,7 @@ module _ (starts : Starts) where
       if are_tests u os then last_condition os (condition_of a t) t else choice_of (turned_test u) (Binary a os ty) t
   branch_of u a t = choice_of (turned_test u) a t
 
-  -- Tells if an expression is light, that is, has little code: it is simple, or it loads through a pointer without code
-  -- at a simple index.
+  -- Tells if an expression is light, that is, has little code: it is simple, or it loads through a pointer without code at a simple index.
   abbrev pub is_light_place : Dereference → Bool
   is_light_place (Element a i ty) = is_some (operand_of starts a) && is_simple starts i
   is_light_place x = false
@@ -175,8 +171,7 @@ module _ (starts : Starts) where
   abbrev pub goes_through : Expression → Statement → Bool
   goes_through a s = is_guard a && not (breaks s)
 
-  -- A returned value is in a slot: the slot of a local, or slot t. A returned value is converted before handlers
-  -- are closed.
+  -- A returned value is in a slot: the slot of a local, or slot t. A returned value is converted before handlers are closed.
   abbrev pub return_code : Option Converted → (p : ℕ) → Exits → (t : ℕ) → List Instruction
   return_code None p exits t = leave_code exits.in_function ++ instructions.Finish t ∷ []
   return_code (Some (Convert from to a)) p exits t =
@@ -186,8 +181,7 @@ module _ (starts : Starts) where
       ++ instructions.Finish (slot_or (source_of starts (Convert from to a)) t)
       ∷ []
 
-  -- Moves the address of one side of a swap to slot t, if this side is a cell. A side that is a variable
-  -- needs no code.
+  -- Moves the address of one side of a swap to slot t, if this side is a cell. A side that is a variable needs no code.
   abbrev pub side_code : Side → (p t : ℕ) → List Instruction
   side_code (VariableSide l ty) p t = []
   side_code (CellSide x) p t = store_address_code x p t
@@ -233,8 +227,7 @@ module _ (starts : Starts) where
   caught_code None t = []
   caught_code (Some n) t = instructions.Move (slot_of starts n) (operands.Slot (t + 1)) ∷ []
 
-  -- The code of a statement at position p, with the exits of the statement and the first slot for
-  -- temporaries.
+  -- The code of a statement at position p, with the exits of the statement and the first slot for temporaries.
   abbrev mutual
     pub statement_code : Statement → (p : ℕ) → Exits → (t : ℕ) → List Instruction
     statement_code (Block r js) p exits t = items_code js p exits t
@@ -264,8 +257,7 @@ module _ (starts : Starts) where
         statement_code s p exits t ++ items_code js (p + length (statement_code s p exits t)) exits t
     items_code (MoreItems (Declare n ty v) js) p exits t =
         declaration_code n ty v p t ++ items_code js (p + length (declaration_code n ty v p t)) exits t
-    -- After a region is opened, temporaries begin after the slot with the saved region count; at the end of
-    -- the block the region is closed.
+    -- After a region is opened, temporaries begin after the slot with the saved region count; at the end of the block the region is closed.
     items_code (MoreItems (DeclareRegion r n) js) p exits t =
         opened_code starts n t ++ (items_code js (p + length (opened_code starts n t)) (inside_region exits t) (t + 1) ++ closed_code t)
     -- The word of a key is the handle of the key's region.
@@ -273,8 +265,7 @@ module _ (starts : Starts) where
     items_code (MoreItems (DeclareAlias r n ty w s) js) p exits t = named_code starts (words_of ty) n (operands.Slot (slot_of starts s)) ++ items_code js (p + 1) exits t
     items_code (MoreItems (DeclareKey r n) js) p exits t = dynamic_code starts n t ++ items_code js (p + length (dynamic_code starts n t)) exits t
 
-    -- The code of the clauses of a `try`; the number and the int of the exception are in the slots
-    -- from t on.
+    -- The code of the clauses of a `try`; the number and the int of the exception are in the slots from t on.
     pub clauses_code : Clauses → (p out : ℕ) → Exits → (t : ℕ) → List Instruction
     clauses_code NoClauses p out exits t = goes_on t ∷ []
     clauses_code (Default r js) p out exits t = items_code js p exits t
@@ -304,8 +295,7 @@ raises_of structs globals scopes h = length (body_code (starts_with 0 structs gl
 abbrev pub types_of : List StructType → (globals : List Ty) → (scopes : Option ℕ) → Function → Types
 types_of structs globals scopes h = record { locals = slot_types h; structs = structs; raises = raises_of structs (starts_from 0 globals) scopes h; counters = []; globals = globals; scopes = scopes }
 
--- The position to which an instruction may jump: the target of a jump, or the handler of a `try`; 0
--- for all other instructions.
+-- The position to which an instruction may jump: the target of a jump, or the handler of a `try`; 0 for all other instructions.
 abbrev pub target_of : Instruction → ℕ
 target_of (instructions.Jump target) = target
 target_of (instructions.Branch comparison left right target) = target
@@ -323,8 +313,7 @@ turned far near (instructions.Jump target) = instructions.Jump (target - far + n
 turned far near (instructions.Branch comparison left right target) = instructions.Branch comparison left right (target - far + near)
 turned far near i = i
 
--- Says that the instruction j is the adjusted instruction i, or is equal to i if i does not jump
--- past `far`.
+-- Says that the instruction j is the adjusted instruction i, or is equal to i if i does not jump past `far`.
 abbrev pub IsTurned : (far near : ℕ) → (i j : Instruction) → Type 0
 IsTurned far near i j = (far < target_of i → j ≡ turned far near i) × (target_of i ≤ far → j ≡ i)
 
@@ -338,8 +327,7 @@ AreTurned far near (i ∷ old) (j ∷ new) = IsTurned far near i j × AreTurned 
 abbrev pub with_blocks : (body : List Instruction) → (slot count : ℕ) → List Instruction
 with_blocks body slot count = body ++ instructions.Finish slot ∷ take count (blocks slot)
 
--- The number of exception blocks that are kept: up to the last block that is a jump target; the first two
--- blocks form one unit.
+-- The number of exception blocks that are kept: up to the last block that is a jump target; the first two blocks form one unit.
 abbrev pub blocks_kept : (farthest : ℕ) → ℕ
 blocks_kept (suc zero) = 2
 blocks_kept n = n
@@ -363,8 +351,7 @@ span_of_place p = record { line = p.line; column = p.column }
 abbrev pub spare_slots : ℕ
 spare_slots = 3
 
--- The slots of a function: its locals, the tag slot, the records of its handlers, its temporaries, and the slots of one more
--- value.
+-- The slots of a function: its locals, the tag slot, the records of its handlers, its temporaries, and the slots of one more value.
 abbrev pub lower_function : List StructType → (globals : List ℕ) → (scopes : Option ℕ) → Function → Routine
 lower_function structs globals scopes h = record {
   name = span_of_place h.place;
@@ -392,8 +379,7 @@ lower_globals (g ∷ gs) = lower_global g ++ lower_globals gs
 abbrev pub globals_of : Program → List ℕ
 globals_of p = starts_from 0 (global_types p.globals)
 
--- True if some local is a region handle; a function that opens a region has the region's handle as
--- a local.
+-- True if some local is a region handle; a function that opens a region has the region's handle as a local.
 abbrev pub is_handle : Ty → Bool
 is_handle (Handle r) = true
 is_handle t = false
@@ -401,8 +387,7 @@ is_handle t = false
 abbrev pub may_open : Function → Bool
 may_open h = list_any is_handle h.parameters || list_any is_handle h.locals
 
--- The offset from the start of a handler record at which a `try` stores the number of open lexical regions, if the
--- program may open any.
+-- The offset from the start of a handler record at which a `try` stores the number of open lexical regions, if the program may open any.
 abbrev pub scopes_if : Bool → Option ℕ
 scopes_if true = Some RECORD_WORDS
 scopes_if false = None

@@ -1,5 +1,4 @@
--- This file defines the code that allocates objects and arrays, frees them, and swaps their
--- contents.
+-- This file defines the code that allocates objects and arrays, frees them, and swaps their contents.
 use Rattle.std.specs.Prelude.{ℕ, zero, suc, ◌+◌, max, ◌==◌, if◌then◌else◌, List, [], ◌∷◌, ◌++◌, length, ◌*◌}
 use Rattle.cyc_types.specs.declared.typed.Kind.{Kind}
 use Rattle.cyc_types.specs.declared.typed.Kind.TheVariants as kinds
@@ -26,8 +25,7 @@ stores_code kind zero address offset slot = []
 stores_code kind (suc many) address offset slot =
     store_of kind (operands.Slot address) offset (operands.Slot slot) ∷ stores_code kind many address (offset + 4) (suc slot)
 
--- Stores a value of a kind in the cell whose address is in a slot. An operand that is a constant
--- has one word.
+-- Stores a value of a kind in the cell whose address is in a slot. An operand that is a constant has one word.
 abbrev pub saved_code : Kind → (address : ℕ) → Operand → List Instruction
 saved_code kind address (operands.Slot n) = stores_code kind (words_of_kind kind) address 0 n
 saved_code kind address (operands.Word n) = store_of kind (operands.Slot address) 0 (operands.Word n) ∷ []
@@ -59,8 +57,7 @@ object_code handle ks d t =
 
 -- ---- arrays
 
--- The largest number of elements of an array, for elements of 4, 1 or 12 bytes: as many as fit into 1000
--- words.
+-- The largest number of elements of an array, for elements of 4, 1 or 12 bytes: as many as fit into 1000 words.
 abbrev pub most_elements : (bytes : ℕ) → ℕ
 most_elements bytes = if bytes == 4 then 1000 else if bytes == 1 then 4000 else 333
 
@@ -72,8 +69,7 @@ measured_code starts kind x y t =
     ∷ instructions.Move y (operands.Word 0)
     ∷ []
 
--- Replaces a number of elements in slot t by the number of words that these elements take. A word of the block
--- contains four chars.
+-- Replaces a number of elements in slot t by the number of words that these elements take. A word of the block contains four chars.
 abbrev pub sized_code : Kind → (t : ℕ) → List Instruction
 sized_code kinds.Char t =
     instructions.Binary plain_binary.Add t (operands.Slot t) (operands.Word 3)
@@ -127,8 +123,7 @@ elements_code kind element head d t =
     instructions.Branch comparisons.Equal (operands.Slot (t + 2)) (operands.Slot (t + 1)) (head + 1 + length (element ++ filled_code kind head t))
     ∷ ((element ++ filled_code kind head t) ++ ended_code d t)
 
--- The code of a new array; the code of the length is at position p, and the code of an element is
--- emitted for its own position.
+-- The code of a new array; the code of the length is at position p, and the code of an element is emitted for its own position.
 abbrev pub array_code : Starts → Kind → (count : List Instruction) → (element : ℕ → List Instruction) → (handle : Operand) → (p d t : ℕ) → List Instruction
 array_code starts kind count element handle p d t =
     count
@@ -141,8 +136,7 @@ free_code o p = jump_if_zero o (p + 2) ∷ instructions.Ask (requests.Free o) �
 
 -- ---- swaps
 
--- Loads a word of a cell of this kind, given the word's index in the cell, from the address in a
--- slot.
+-- Loads a word of a cell of this kind, given the word's index in the cell, from the address in a slot.
 abbrev pub load_at : Kind → (address : ℕ) → (index slot : ℕ) → Instruction
 load_at kind address index slot = load_of kind slot (operands.Slot address) (4 * index)
 

@@ -1,5 +1,4 @@
--- This file defines the code that moves words to slots: for operands, addresses, operators and
--- conversions.
+-- This file defines the code that moves words to slots: for operands, addresses, operators and conversions.
 use Rattle.std.specs.Prelude.{ℕ, zero, suc, ◌+◌, ◌==◌, Bool, false, not, ◌&&◌, if◌then◌else◌, List, [], ◌∷◌, ◌++◌, length, Option, None, Some, ◌%◌, ◌^◌, true, option_map, unwrap_or}
 use Rattle.cyc_words.specs.Word.{add_of, mul_of}
 use Rattle.cyc_types.specs.declared.typed.Kind.{Kind}
@@ -36,8 +35,7 @@ use Rattle.cyc_meaning.specs.Parts.{target_of, target_by, target_of_value}
 abbrev pub slot_types : Function → List Ty
 slot_types h = h.parameters ++ h.locals
 
--- The slot after a function's locals, in which a failing access stores a word that tells which
--- exception it raises.
+-- The slot after a function's locals, in which a failing access stores a word that tells which exception it raises.
 abbrev pub tag_slot : Function → ℕ
 tag_slot h = words_of_all (slot_types h)
 
@@ -49,8 +47,7 @@ first_temporary h = tag_slot h + 1
 abbrev pub low_byte : Operand → (d : ℕ) → Instruction
 low_byte o d = instructions.Binary plain_binary.And d o (operands.Word 255)
 
--- The instruction for a unary operator; the conversion of a char to an int keeps the word of the
--- char.
+-- The instruction for a unary operator; the conversion of a char to an int keeps the word of the char.
 abbrev pub unary_instruction : UnaryOperator → (d : ℕ) → Operand → Instruction
 unary_instruction unary.Negate d o = instructions.Unary plain_unary.Negate d o
 unary_instruction unary.Not d o = instructions.Unary plain_unary.Not d o
@@ -76,8 +73,7 @@ binary_operator operators.Multiply = plain_binary.Multiply
 binary_operator operators.Divide = plain_binary.Divide
 binary_operator operators.Remainder = plain_binary.Remainder
 
--- The operation of a pointer operator on words: it compares the first words of two pointers (0 for null), or
--- changes an index.
+-- The operation of a pointer operator on words: it compares the first words of two pointers (0 for null), or changes an index.
 abbrev pub pointer_operator : PointerOperator → PlainBinary
 pointer_operator pointers.AddFat = plain_binary.Add
 pointer_operator pointers.SubtractFat = plain_binary.Subtract
@@ -102,8 +98,7 @@ left_kind o = kinds.Nullable
 abbrev pub after_left : PointerOperator → (t : ℕ) → ℕ
 after_left o t = t + words_of_kind (left_kind o)
 
--- The comparison that holds exactly if the operator's comparison fails, or `None` if the operator
--- is not a comparison.
+-- The comparison that holds exactly if the operator's comparison fails, or `None` if the operator is not a comparison.
 abbrev pub failing_comparison : Operator → Option Comparison
 failing_comparison operators.Equal = Some comparisons.NotEqual
 failing_comparison operators.NotEqual = Some comparisons.Equal
@@ -133,14 +128,12 @@ abbrev pub code_unless_slot : Option Operand → List Instruction → List Instr
 code_unless_slot (Some (operands.Slot n)) code = []
 code_unless_slot o code = code
 
--- A left operand is used without code only if the right operand is simple, so that no code can assign the left
--- operand before it is used.
+-- A left operand is used without code only if the right operand is simple, so that no code can assign the left operand before it is used.
 abbrev pub left_with : (simple : Bool) → (left : Option Operand) → Option Operand
 left_with true left = left
 left_with false left = None
 
--- The slot for the result of all operators before the list `os`; it is the destination if the list
--- is empty.
+-- The slot for the result of all operators before the list `os`; it is the destination if the list is empty.
 abbrev pub next_slot : Operations → (d t : ℕ) → ℕ
 next_slot NoOperations d t = d
 next_slot os d t = t
@@ -181,8 +174,7 @@ guard_code starts tag failing l r = instructions.Branch failing l r (starts.rais
 abbrev pub check_code : Starts → (tag : ℕ) → Operand → List Instruction
 check_code starts tag o = guard_code starts tag comparisons.Equal o (operands.Word 0)
 
--- Moves a value of this many words to a slot and the following slots. A number has one word; a value with more words is always in
--- slots.
+-- Moves a value of this many words to a slot and the following slots. A number has one word; a value with more words is always in slots.
 abbrev pub move_of : (words d : ℕ) → Operand → Instruction
 move_of words d (operands.Slot n) = if words == 1 then instructions.Move d (operands.Slot n) else instructions.MoveWords d n words
 move_of words d (operands.Word n) = instructions.Move d (operands.Word n)
@@ -269,8 +261,7 @@ widened_code (operands.Slot n) =
     instructions.Binary plain_binary.NotEqual (n + 1) (operands.Slot n) (operands.Word 0) ∷ instructions.Move (n + 2) (operands.Word 0) ∷ []
 widened_code (operands.Word n) = []
 
--- The length of the code that computes a cell's address with a bounds check, including a jump over
--- that code.
+-- The length of the code that computes a cell's address with a bounds check, including a jump over that code.
 abbrev pub past_bounded : (span : Option ℕ) → ℕ
 past_bounded None = 2
 past_bounded (Some bytes) = 4
@@ -369,8 +360,7 @@ compute_code starts o l r operand d = operand ++ operator_code starts o l r d
 abbrev pub pointer_code : PointerOperator → (l r : Operand) → (operand : List Instruction) → (d : ℕ) → List Instruction
 pointer_code o l r operand d = operand ++ pointer_instructions o l r d
 
--- The code at position p of a test by `&&` or `||` with its right operand, which comes after the
--- jump.
+-- The code at position p of a test by `&&` or `||` with its right operand, which comes after the jump.
 abbrev pub test_code : LogicalOperator → (operand : List Instruction) → (p d t : ℕ) → List Instruction
 test_code o operand p d t = test_jump o t (p + 1 + length operand) ∷ operand ++ truth_code t d
 
@@ -455,8 +445,7 @@ blank_code kind slot = []
 
 -- ---- conversions
 
--- Holds if a value may be moved to its destination before its conversion: the conversion keeps its number of words
--- and does not check it.
+-- Holds if a value may be moved to its destination before its conversion: the conversion keeps its number of words and does not check it.
 abbrev pub converts_there : (from to : Kind) → Bool
 converts_there from kinds.NonNull = false
 converts_there from to = are_as_wide from to
@@ -481,8 +470,7 @@ kinds_passed (MoreArguments c cs) = kind_passed c ∷ kinds_passed cs
 abbrev pub masked_by : Option Operand → (code : List Instruction) → Operand → (d : ℕ) → List Instruction
 masked_by known code o d = code_unless known code ++ low_byte o d ∷ []
 
--- The code of a value, which is moved to slot d before its conversion; for an int that becomes a char, only the low byte
--- is moved.
+-- The code of a value, which is moved to slot d before its conversion; for an int that becomes a char, only the low byte is moved.
 abbrev pub brought_by : (from to : Kind) → Option Operand → (code : List Instruction) → Operand → (at_once : List Instruction) → (d : ℕ) → List Instruction
 brought_by from to known code o at_once d = if masks from to then masked_by known code o d else at_once
 
@@ -498,8 +486,7 @@ moved_by starts known code from to span o p d = converted_by starts known code f
 abbrev pub followed_by : Starts → Option Operand → (code : List Instruction) → (thin : Bool) → (span : Option ℕ) → Operand → (t p : ℕ) → List Instruction
 followed_by starts known code thin span o t p = code_unless known code ++ followed_code starts thin span o t (p + length (code_unless known code))
 
--- The code of a fat pointer in slot n and of an index, which is added to the pointer before the
--- access.
+-- The code of a fat pointer in slot n and of an index, which is added to the pointer before the access.
 abbrev pub element_by : Starts → (pointer index : List Instruction) → (span : Option ℕ) → (n : ℕ) → Operand → (t p : ℕ) → List Instruction
 element_by starts pointer index span n o t p =
     pointer

@@ -75,8 +75,7 @@ impl<S: Store + Drop> Machine<S> {
         Event::Ran
     }
 
-    /// Writes the word that the heap returned to the result register, and advances to the next
-    /// instruction.
+    /// Writes the word that the heap returned to the result register, and advances to the next instruction.
     fn give_word(&mut self, word: u32) -> Event
         ensures event { result ≡ Event.Ran }
         ensures state { state_of S.held self.new ≡ answered (state_of S.held self.old) (Allocated word) }
@@ -85,8 +84,7 @@ impl<S: Store + Drop> Machine<S> {
         self.go_on()
     }
 
-    /// Continues or ends the run after the heap refused to open a region or to allocate a block,
-    /// depending on the reason.
+    /// Continues or ends the run after the heap refused to open a region or to allocate a block, depending on the reason.
     fn refuse_service(&mut self, why: No) -> Event
         ensures { GoesOnWith (refused why) (state_of S.held self.old) result (state_of S.held self.new) }
     {

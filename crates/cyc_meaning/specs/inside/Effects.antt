@@ -40,14 +40,14 @@ calls_after focus stack = calls_in stack
 
 -- ---- changes of the world
 
--- The effect of one step on the world: no change, or one of these changes. The bytes that it prints and the number of bytes that it reads
--- are given.
+-- The effect of one step on the world: no change, or one of the changes listed. The bytes that the step prints and the number of bytes
+-- that it reads are given.
 pub data Changes (w : World) : (printed : List ℕ) → (count : ℕ) → World → Type 0 where
   Keeps : Changes w [] 0 w
   Opens : (sort : Sort) → Changes w [] 0 (opened_as sort w)
   Closes : (number : ℕ) (r : Region) → region_at w number ≡ Found r → Changes w [] 0 (closed w number r)
   Makes : (number : ℕ) (r : Region) (kind : Kind) (content : Option Value) → region_at w number ≡ Found r → Changes w [] 0 (made w (variable number kind content))
-  -- allocates an object that is not a variable: in a region, or as a unique object
+  -- Allocates an object that is not a variable: in a region, or as a unique object.
   MakesIn : (number : ℕ) (r : Region) (cells : List Cell) → region_at w number ≡ Found r → Changes w [] 0 (made_in w number r cells)
   MakesUnique : (cells : List Cell) → Changes w [] 0 (made_unique w cells)
   Frees : (number : ℕ) (x : Object) → slice_get w.objects number ≡ Some x → x.owner ≡ Unique true → Changes w [] 0 (freed w number x)
@@ -57,16 +57,16 @@ pub data Changes (w : World) : (printed : List ℕ) → (count : ℕ) → World 
 
 -- ---- demand
 
--- the number of pages in use in total, and those of one region, if it has any
+-- Returns the number of pages in use in total, and `pages_in` that of one region, which is 0 if the region has no pages.
 abbrev pub pages_of : World → ℕ
 pages_of w = demand_of (counted w.regions) w.classes
 
 abbrev pub pages_in : Region → ℕ
 pages_in r = if has_pages r.sort r.is_open then region_pages r.blocks else 0
 
--- The effect of a change on the demand. A region that opens needs its first page if it has pages at all, and a region that closes frees its
--- pages. A block may need one more page in its region or in its class; the pages of a class never decrease. No other step changes the
--- demand for pages.
+-- States the effect of a change on the demand for pages. A region that opens needs its first page if it has pages at all, and a region that
+-- closes frees its pages. A block may need one more page in its region or in its size class; the pages of a size class never decrease. No
+-- other step changes the demand for pages.
 abbrev pub DemandChanges : {w new : World} {printed : List ℕ} {count : ℕ} → Changes w printed count new → Type 0
 DemandChanges {w} {new} (Opens sort) = pages_of new ≡ pages_of w + pages_in (new_region sort)
 DemandChanges {w} {new} (Closes number r found) = pages_of new + pages_in r ≡ pages_of w + pages_in (record r { is_open = false })
@@ -75,7 +75,7 @@ DemandChanges {w} {new} (MakesIn number r cells found) =
 DemandChanges {w} {new} (MakesUnique cells) = pages_of new + total w.classes ≡ pages_of w + total new.classes
 DemandChanges {w} {new} change = pages_of new ≡ pages_of w
 
--- the change made by a step that does not end the run
+-- The change of the world that a step makes, if the step does not end the run.
 abbrev pub ChangesIn : World → (printed : List ℕ) → (count : ℕ) → State → Type 0
 ChangesIn old printed count (Running focus stack e new) = Changes old printed count new
 ChangesIn old printed count (Ended ending output input) = Unit {0}
@@ -84,30 +84,30 @@ ChangesIn old printed count (Wrong output input) = Unit {0}
 
 -- ---- facts that are preserved
 
--- a region keeps its sort, and stays closed once it is closed
+-- Says that a region keeps its sort, and stays closed once it is closed.
 pub record RegionStays (old new : Region) : Type 0 where
   pub sort : new.sort ≡ old.sort
   pub closed : old.is_open ≡ false → new.is_open ≡ false
 
--- the owner of an object: a region stays the owner, a unique object stays unique, and a freed object stays freed
+-- Says how an object's owner may change: a region stays the owner, a unique object stays unique, and a freed object stays freed.
 abbrev pub OwnerStays : (old new : Owner) → Type 0
 OwnerStays (InRegion region) new = new ≡ InRegion region
 OwnerStays (Unique true) new = (live : Bool) × (new ≡ Unique live)
 OwnerStays (Unique false) new = new ≡ Unique false
 
--- an object keeps its owner and the kinds of its cells
+-- Says that an object keeps its owner and the kinds of its cells.
 pub record ObjectStays (old new : Object) : Type 0 where
   pub owner : OwnerStays old.owner new.owner
   pub kinds : kinds_of new.cells ≡ kinds_of old.cells
 
--- No number is reused: each region and each object keeps its number.
+-- Says that no number is reused: each region and each object keeps its number.
 pub record WorldStays (old new : World) : Type 0 where
   pub regions : (number : ℕ) (r : Region) → slice_get old.regions number ≡ Some r
       → (s : Region) × (slice_get new.regions number ≡ Some s) × RegionStays r s
   pub objects : (number : ℕ) (x : Object) → slice_get old.objects number ≡ Some x
       → (y : Object) × (slice_get new.objects number ≡ Some y) × ObjectStays x y
 
--- the facts that stay in a running state
+-- Says that regions and objects keep their numbers if the new state is running.
 abbrev pub StaysIn : World → State → Type 0
 StaysIn old (Running focus stack e new) = WorldStays old new
 StaysIn old (Ended ending output input) = Unit {0}

@@ -1,5 +1,6 @@
 -- Regions of blocks and lexical regions are closed in the reverse order of their opening (Grossman et al. 2002). The nesting of regions is
--- an invariant of every state, stated on its control stack. Dynamic regions are closed by programs at any time, and are not covered.
+-- an invariant of every state, stated on the state's control stack. Dynamic regions are closed by programs at any time, and are not
+-- covered.
 use Rattle.std.specs.Prelude.{◌≡◌, ℕ, ◌<◌, ◌==◌, Bool, true, false, List, [], ◌∷◌, length, Option, None, Some, slice_get}
 use Rattle.std.specs.List.{list_any}
 use Rattle.cyc_types.specs.declared.typed.PointerOperator.TheVariants as pointers
@@ -7,14 +8,14 @@ use Rattle.cyc_types.specs.TypedTrees.{NoArguments, Expression, Copy, Move, Peek
 use Rattle.cyc_meaning.specs.State.{Sort, Lexical, Dynamic, Region, World, Access, Found, Closed, Missing, found_region, globals_number, Environment, Awaiting, ApplyPointer, Store, StoreCell, FreeObject, CloseByKey, PlaceBy, MakePlain, MakeFields}
 use Rattle.cyc_meaning.specs.State.{FillElement, OpenBy, LoadFrom, Entry, Needs, NeedsPlace, Rest, CloseRegion, CloseLexical, Handler, Caller, Focus, Evaluating, Given, GivenPlace, Proceeding, Writing, Beginning, Swapping, State, Running, Ended, Dead, Wrong}
 
--- the regions that stack entries will close, innermost first, followed by the region of the globals, which is never closed
+-- Returns the regions that the stack entries will close, innermost first, followed by the region of the globals, which is never closed.
 abbrev pub ends_of : List Entry → List ℕ
 ends_of [] = globals_number ∷ []
 ends_of (CloseRegion region home ∷ stack) = region ∷ ends_of stack
 ends_of (CloseLexical region ∷ stack) = region ∷ ends_of stack
 ends_of (entry ∷ stack) = ends_of stack
 
--- true if the program cannot close regions of this sort by a statement
+-- Holds if the program cannot close regions of the given sort by a statement.
 abbrev pub IsScoped : Sort → Type 0
 IsScoped Dynamic = ⊥
 IsScoped sort = Unit {0}
@@ -28,25 +29,25 @@ abbrev pub AreOpen : List Region → List ℕ → Type 0
 AreOpen regions [] = Unit {0}
 AreOpen regions (n ∷ ns) = IsFound (found_region (slice_get regions n)) × AreOpen regions ns
 
--- the numbers are decreasing and below this bound, so a region that was opened later has a greater number
+-- Says that region numbers are decreasing and below a bound, so that a region that was opened later has a greater number.
 abbrev pub AreBelow : ℕ → List ℕ → Type 0
 AreBelow bound [] = Unit {0}
 AreBelow bound (n ∷ ns) = (n < bound) × AreBelow n ns
 
--- the home of variables is the region of variables that closes next; a call begins without one
+-- Says that variables are allocated in (their home is) the region of variables that closes next; a call begins without such a region.
 abbrev pub IsHome : ℕ → List Entry → Type 0
 IsHome home [] = home ≡ globals_number
 IsHome home (CloseRegion region outer ∷ stack) = (home ≡ region) × IsHome outer stack
 IsHome home (Caller outer ∷ stack) = (home ≡ globals_number) × IsHome outer.home stack
 IsHome home (entry ∷ stack) = IsHome home stack
 
--- the lexical regions among those that will be closed
+-- Returns the lexical regions among the regions that the stack entries will close.
 abbrev pub lexicals_of : List Entry → List ℕ
 lexicals_of [] = []
 lexicals_of (CloseLexical region ∷ stack) = region ∷ lexicals_of stack
 lexicals_of (entry ∷ stack) = lexicals_of stack
 
--- true for an open lexical region
+-- Returns true for an open lexical region.
 abbrev pub is_scope : Sort → (flag : Bool) → Bool
 is_scope Lexical flag = flag
 is_scope sort flag = false
@@ -55,17 +56,18 @@ abbrev pub is_open_scope : Option Region → Bool
 is_open_scope None = false
 is_open_scope (Some r) = is_scope r.sort r.is_open
 
--- these are exactly the open lexical regions
+-- Says that the given numbers are exactly those of the open lexical regions.
 abbrev pub AreScopes : List Region → List ℕ → Type 0
 AreScopes regions ns = (number : ℕ) → is_open_scope (slice_get regions number) ≡ list_any (λ (n : ℕ). n == number) ns
 
--- All regions that will be closed are open and nested, the innermost region of variables is the home, and no other lexical region is open.
+-- The nesting invariant: all regions that will be closed are open and nested, variables are allocated in the innermost region of
+-- variables, and no other lexical region is open.
 abbrev pub IsNested : List Entry → Environment → World → Type 0
 IsNested stack e w =
     AreOpen w.regions (ends_of stack) × AreBelow (length w.regions) (ends_of stack) × IsHome e.home stack × AreScopes w.regions (lexicals_of stack)
 
--- True if the focus accesses a cell, an object or a region. An access reads or writes a variable or a cell, or compares pointers.
--- Allocating or freeing an object is also an access, and so is opening or closing a region by its key.
+-- Returns true if the focus accesses a cell, an object or a region. An access reads or writes a variable or a cell, or compares
+-- pointers. Allocating or freeing an object is also an access, and so is opening or closing a region by its key.
 abbrev pub is_access_of : Awaiting → Bool
 is_access_of (ApplyPointer peek pointers.EqualThin left) = true
 is_access_of (ApplyPointer peek pointers.NotEqualThin left) = true
@@ -102,14 +104,14 @@ is_access (Beginning owner count level kind element) stack = true
 is_access (Swapping kind left right before) stack = true
 is_access focus stack = false
 
--- the invariant of every state of a run
+-- The invariant of every state of a run: regions nest.
 abbrev pub Nests : State → Type 0
 Nests (Running focus stack e w) = IsNested stack e w
 Nests (Ended ending output input) = Unit {0}
 Nests (Dead output input) = Unit {0}
 Nests (Wrong output input) = Unit {0}
 
--- no `try` is active
+-- Says that no `try` is active.
 abbrev pub IsUntried : List Entry → Type 0
 IsUntried [] = Unit {0}
 IsUntried (Handler handler ∷ stack) = ⊥

@@ -1,6 +1,6 @@
 -- The live variables of blocks: each is a local of one active call. If a local is declared again, its former object was in a block that was
--- left. The former object is out of scope by the numbering in the text: the numbers of a block's locals are above those in scope around it.
--- The invariant on live variables is this project's own choice.
+-- left. The former object is out of scope because of the numbering in the text: the numbers of a block's locals are above those in scope
+-- around the block. The invariant on live variables is this project's own choice.
 use Rattle.std.specs.Prelude.{◌≡◌, ◌⊎◌, ℕ, suc, ◌+◌, ◌<◌, ◌≤◌, Bool, true, false, List, [], ◌∷◌, length, Option, Some, None, slice_get}
 use Rattle.cyc_types.specs.TypedTrees.{Statement, Block, If, While, Try, Items, NoItems, MoreItems, Execute, Declare, DeclareRegion, OpenRegion, DeclareAlias, DeclareKey, Clauses, NoClauses, Default, Case, Function, Program}
 use Rattle.cyc_meaning.specs.State.{Sort, Globals, Stack, Region, Owner, InRegion, Unique, Object, Closed, found_region, globals_number, Initialise, Choose, Test, OpenBy, AliasOf, Entry, Needs, Rest}
@@ -8,7 +8,7 @@ use Rattle.cyc_meaning.specs.State.{Loop, CloseRegion, CloseLexical, EndLoan, Ha
 
 -- ---- the numbers of locals in the text
 
--- All locals that the statement declares have numbers from this one on, above those of all locals in scope around it.
+-- Says that all locals that a statement declares have numbers from a given one on, above those of all locals in scope around the statement.
 abbrev mutual
   pub StatementRises : ℕ → Statement → Type 0
   StatementRises m (Block region items) = ItemsRise m items
@@ -32,7 +32,7 @@ abbrev mutual
   ClausesRise m (Case tag None region items clauses) = ItemsRise m items × ClausesRise m clauses
   ClausesRise m (Case tag (Some number) region items clauses) = (m ≤ number) × ItemsRise (suc number) items × ClausesRise m clauses
 
--- the parameters have the lowest numbers
+-- Says that the numbers of locals increase along the text of every function; the parameters have the lowest numbers.
 abbrev pub FunctionsRise : Program → Type 0
 FunctionsRise program = (number : ℕ) (h : Function) → slice_get program.functions number ≡ Some h → ItemsRise (length h.parameters) h.body
 
@@ -46,14 +46,14 @@ abbrev pub region_in : Option Object → Option ℕ
 region_in None = None
 region_in (Some x) = region_of x.owner
 
--- the object of this number belongs to this region
+-- Says that the object with the given number belongs to the given region.
 abbrev pub LivesIn : List Object → (object region : ℕ) → Type 0
 LivesIn objects object region = region_in (slice_get objects object) ≡ Some region
 
 abbrev pub IsShut : List Region → (region : ℕ) → Type 0
 IsShut regions region = found_region (slice_get regions region) ≡ Closed
 
--- true for a region that contains only variables
+-- Returns true for a region that contains only variables.
 abbrev pub is_of_variables : Sort → Bool
 is_of_variables Globals = true
 is_of_variables Stack = true
@@ -69,24 +69,24 @@ pub record HasVariables (r : Region) : Type 0 where
 abbrev pub Locals : Type 0
 Locals = ℕ → Option ℕ
 
--- the locals of the suspended calls, newest first
+-- Returns the locals of the suspended calls, newest first.
 abbrev pub waiting : List Entry → List Locals
 waiting [] = []
 waiting (Caller outer ∷ stack) = outer.locals ∷ waiting stack
 waiting (entry ∷ stack) = waiting stack
 
--- the object is the local of this number of the call at this position
+-- Says that an object is the local with the given number, of the call at the given position in the list of calls.
 abbrev pub IsLocal : List Locals → (call number object : ℕ) → Type 0
 IsLocal calls call number object = (locals : Locals) × (slice_get calls call ≡ Some locals) × (locals number ≡ Some object)
 
--- the region is that of a block of the newest call
+-- Says that a region is that of a block of the newest call.
 abbrev pub IsOfCall : (region : ℕ) → List Entry → Type 0
 IsOfCall region [] = ⊥
 IsOfCall region (CloseRegion ending home ∷ stack) = (region ≡ ending) ⊎ IsOfCall region stack
 IsOfCall region (Caller outer ∷ stack) = ⊥
 IsOfCall region (entry ∷ stack) = IsOfCall region stack
 
--- execution continues directly in a block, not inside one of its statements
+-- Says that execution continues directly in a block, not inside one of the block's statements.
 abbrev pub IsInBlock : List Entry → Type 0
 IsInBlock [] = ⊥
 IsInBlock (CloseRegion region home ∷ stack) = Unit {0}
@@ -94,7 +94,7 @@ IsInBlock (CloseLexical region ∷ stack) = IsInBlock stack
 IsInBlock (EndLoan lent ∷ stack) = IsInBlock stack
 IsInBlock (entry ∷ stack) = ⊥
 
--- the newest call's locals that are in its open blocks have numbers below this one
+-- Says that the newest call's locals that are in its open blocks have numbers below m.
 abbrev pub AreLow : ℕ → List Entry → Locals → List Object → Type 0
 AreLow m stack locals objects = (number object : ℕ) → locals number ≡ Some object → (region : ℕ) × LivesIn objects object region × (IsOfCall region stack → number < m)
 
@@ -109,7 +109,7 @@ ItemsDeclare items stack locals objects = (m : ℕ) × ItemsRise m items × AreL
 abbrev pub ClausesDeclare : Clauses → List Entry → Locals → List Object → Type 0
 ClausesDeclare clauses stack locals objects = (m : ℕ) × ClausesRise m clauses × AreLow m stack locals objects
 
--- the declaration of the local of this number, followed by the rest of its block
+-- The condition for declaring the local with a given number, after which the rest of its block follows.
 abbrev pub Names : (number : ℕ) → Items → List Entry → Locals → List Object → Type 0
 Names number items stack locals objects = ItemsRise (suc number) items × AreLow number stack locals objects × IsInBlock stack
 
@@ -138,7 +138,7 @@ DeclareNow focus stack locals objects = Unit {0}
 
 -- ---- live variables
 
--- each local's object is in an open block of its call, or in a block that was left
+-- Says that each local's object is in an open block of its call, or in a block that was left.
 abbrev pub LiveInBlocks : List Entry → Locals → List Object → List Region → Type 0
 LiveInBlocks stack locals objects regions =
     (number object : ℕ) → locals number ≡ Some object → (region : ℕ) × LivesIn objects object region × (IsOfCall region stack ⊎ IsShut regions region)
@@ -148,30 +148,30 @@ WaitInBlocks [] objects regions = Unit {0}
 WaitInBlocks (Caller outer ∷ stack) objects regions = LiveInBlocks stack outer.locals objects regions × WaitInBlocks stack objects regions
 WaitInBlocks (entry ∷ stack) objects regions = WaitInBlocks stack objects regions
 
--- each live variable is a global or a local of an active call
+-- Says that each live variable is a global or a local of an active call.
 abbrev pub HaveNames : (globals : ℕ) → List Locals → List Object → List Region → Type 0
 HaveNames globals calls objects regions =
     (object region : ℕ) (r : Region) → LivesIn objects object region → slice_get regions region ≡ Some r → HasVariables r
     → (object < globals) ⊎ ((call number : ℕ) × IsLocal calls call number object)
 
--- no two locals are one object
+-- Says that no two locals are one object.
 abbrev pub AreDistinct : List Locals → Type 0
 AreDistinct calls = (call other number beside object : ℕ) → IsLocal calls call number object → IsLocal calls other beside object → (call ≡ other) × (number ≡ beside)
 
--- the globals are the first objects
+-- Says that the globals are the first objects.
 abbrev pub AreGlobals : (globals : ℕ) → List Object → Type 0
 AreGlobals globals objects = (object : ℕ) → object < globals → LivesIn objects object globals_number
 
 abbrev pub LiveInRegions : List Object → List Region → Type 0
 LiveInRegions objects regions = (object region : ℕ) → LivesIn objects object region → region < length regions
 
--- the whole invariant, for the newest call with these locals and for the suspended calls
+-- The invariant of variable names, for the newest call with its locals and for the suspended calls.
 abbrev pub AreNamed : (globals : ℕ) → List Entry → Locals → List Object → List Region → Type 0
 AreNamed globals stack locals objects regions =
     DeclareLater stack locals objects × LiveInBlocks stack locals objects regions × WaitInBlocks stack objects regions
     × HaveNames globals (locals ∷ waiting stack) objects regions × AreDistinct (locals ∷ waiting stack) × AreGlobals globals objects × LiveInRegions objects regions
 
--- the invariant of every state of a run of a program with this many globals
+-- The invariant of every state of a run of a program with the given number of globals.
 abbrev pub HasNames : (globals : ℕ) → State → Type 0
 HasNames globals (Running focus stack e w) = DeclareNow focus stack e.locals w.objects × (AreNamed globals stack e.locals w.objects w.regions)
 HasNames globals (Ended ending output input) = Unit {0}
@@ -180,7 +180,7 @@ HasNames globals (Wrong output input) = Unit {0}
 
 -- ---- declaring a local
 
--- the local that the next step declares, if any
+-- Returns the local that the next step declares, if any.
 abbrev pub declared_by : Focus → List Entry → Option ℕ
 declared_by (Naming number operand items) stack = Some number
 declared_by (Binding number (t ∷ types) arguments body) stack = Some number

@@ -99,8 +99,7 @@ abbrev pub HasKinds : List Cell → Row → Type 0
 HasKinds cells Variable = Unit {0}
 HasKinds cells (Placed address kinds) = kinds ≡ kinds_of cells
 
--- Says that the table has a row for each global, and that each of these rows is the row of a
--- variable.
+-- Says that the table has a row for each global, and that each of these rows is the row of a variable.
 pub record AreGlobals (program : Program) (rows : List Row) : Type 0 where
   pub many : length rows ≡ length program.globals
   pub each : (o : ℕ) (g : GlobalVariable) → slice_get program.globals o ≡ Some g → (row : Row) × (slice_get rows o ≡ Some row) × HasKinds (global_object g).cells row × IsOfVariable row
@@ -113,8 +112,7 @@ pub record LiveVariable (t : Tables) (w : World) (number : ℕ) (x : Object) : T
   pub entry : slice_get t.handles region ≡ Some None
   pub live : is_live w x.owner ≡ true
 
--- Says that no word belongs to two live variables. The compiler pass that assigns addresses to
--- variables ensures this property.
+-- Says that no word belongs to two live variables. The compiler pass that assigns addresses to variables ensures this property.
 abbrev pub AreApart : Tables → World → Type 0
 AreApart t w = (number other offset beside word : ℕ) (x y : Object) → LiveVariable t w number x → LiveVariable t w other y
     → Points t number offset word → Points t other beside word → number ≡ other

@@ -84,8 +84,7 @@ Is t kind value words place = ⊥
 
 -- ---- cells
 
--- Says that the cell of this kind at an address contains the value: its words, or the byte of a
--- char.
+-- Says that the cell of this kind at an address contains the value: its words, or the byte of a char.
 abbrev pub Holds : Tables → Kind → Value → Memory → (address : ℕ) → Type 0
 Holds t kinds.Int value memory address = Is t kinds.Int value (words_from memory address) 0
 Holds t kinds.Char (Int byte) memory address = byte_at memory address ≡ byte
@@ -101,8 +100,7 @@ abbrev pub IsContent : Tables → Kind → Option Value → Memory → (address 
 IsContent t kind None memory address = Unit {0}
 IsContent t kind (Some value) memory address = Holds t kind value memory address
 
--- Says that consecutive cells of an object at an address, laid out after `at` bytes, contain what
--- the source says.
+-- Says that consecutive cells of an object at an address, laid out after `at` bytes, contain what the source says.
 abbrev pub AreCells : Tables → List Cell → Memory → (address at : ℕ) → Type 0
 AreCells t [] memory address at = Unit {0}
 AreCells t (c ∷ cells) memory address at =

@@ -1,4 +1,4 @@
--- Operands, places and new objects of the code, as the rules see them.
+-- Operands, memory locations and new objects of the code, in the form that the typing rules use.
 use Rattle.std.specs.Prelude.{◌≡◌, None, Result, Ok, Err}
 use Rattle.std.specs.declared.boxed.Box.{Box}
 use Rattle.std.specs.declared.alloc.Global.{Global}
@@ -18,7 +18,7 @@ use Rattle.cyc_operands.specs.declared.given.Given.TheVariants as given
 use Rattle.cyc_operands.specs.declared.found.Found.{Found as FoundCode}
 use Rattle.cyc_operands.specs.declared.made.Made.{Made as MadeCode}
 
--- the type of an expression
+-- Returns the specification's value type for the type that the code stores.
 abbrev pub view_given : Given → ValueType
 view_given given.Void = Void
 view_given given.Null = Null
@@ -27,11 +27,11 @@ view_given given.Char = Value Char
 view_given given.HeapHandle = Value (Handle Heap)
 view_given (given.Value t) = Value (view_ty t.now)
 
--- the expression in a box
+-- Returns the specified typed expression for one that the code stores in a box.
 abbrev pub view_boxed : Box Expr Global → typed.Expression
 view_boxed b = view.view_expression b.value
 
--- the value of an argument before its conversion
+-- Returns the value of an argument before its conversion.
 abbrev pub value_in : ConvertedCode → typed.Expression
 value_in c = view.view_expression c.value
 
@@ -43,14 +43,14 @@ found_of f = record { side = view.view_side f.side; region = f.region }
 abbrev pub view_found : Box FoundCode Global → Found
 view_found b = found_of b.value
 
--- The demands are already settled.
+-- Says that the code's new object represents the rule's, and that the rule's requirements are already checked.
 pub record IsMade (r : Box MadeCode Global) (m : Made) : Type 0 where
   pub asked : r.value.settled.known ≡ settled None m.asked
   pub initial : r.value.settled.known ≡ None → view.view_initial r.value.initial.value ≡ m.initial
   pub target : view_ty r.value.target ≡ m.target
   pub mark : r.value.mark ≡ m.mark
 
--- The result of the code represents that of the rule, unless memory ran out.
+-- Says that the code's result represents the rule's result, unless memory ran out.
 abbrev pub GivesOne : {X Y : Type 0} → (X → Y → Type 0) → Result X Stop → Checked Y → Type 0
 GivesOne meets (Ok x) (Ok y) = meets x y
 GivesOne meets (Ok x) (Err f) = ⊥

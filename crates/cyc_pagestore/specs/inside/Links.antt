@@ -1,4 +1,4 @@
--- The rows of a page table with the links between them, as data, and the effect of the table's calls on them.
+-- The rows of a page table and the links between them, as data, and the effect of the table's calls on them.
 use Rattle.std.specs.Prelude.{ℕ, zero, suc, ◌+◌, ◌==◌, if◌then◌else◌, List, [], ◌∷◌, replicate, set}
 use Rattle.cyc_store.specs.Table.{free_row, row_at, given_rows, given_free}
 use Rattle.cyc_store.specs.inside.Kept.{numbers_from}
@@ -9,7 +9,7 @@ use Rattle.cyc_store.specs.declared.row.TheConstants.{NONE}
 use Rattle.cyc_pagestore.specs.declared.step.Step.{Step}
 use Rattle.cyc_pagestore.specs.declared.step.Step.TheVariants.{Made, Taken, Began, Added, Filled, Cut, Closed}
 
--- The row of each page, the first free page, and all free pages in the order of their links.
+-- The links of a page table: the row of each page, the first free page, and all free pages in the order of their links.
 pub record Links : Type 0 where
   pub rows : List Row
   pub free : ℕ
@@ -22,7 +22,7 @@ abbrev pub head_or_none : List ℕ → ℕ
 head_or_none [] = NONE
 head_or_none (x ∷ xs) = x
 
--- The rows after each page of the list is linked to the next one.
+-- Returns the rows after each page of the list is linked to the next one.
 abbrev pub relinked : List Row → List ℕ → List Row
 relinked rows [] = rows
 relinked rows (x ∷ xs) = set (relinked rows xs) x (record (row_at rows x) { next = head_or_none xs })
@@ -31,12 +31,12 @@ abbrev pub removed : List ℕ → (page : ℕ) → List ℕ
 removed [] page = []
 removed (x ∷ xs) page = if x == page then removed xs page else x ∷ removed xs page
 
--- The elements of the first list in reverse order, followed by those of the second.
+-- Returns the elements of the first list in reverse order, followed by those of the second.
 abbrev pub moved : List ℕ → List ℕ → List ℕ
 moved [] ys = ys
 moved (x ∷ xs) ys = moved xs (x ∷ ys)
 
--- The `count` elements of a chain from `page` on.
+-- Returns the `count` pages of a chain from `page` on.
 abbrev pub chain_from : List Row → (page count : ℕ) → List ℕ
 chain_from rows page zero = []
 chain_from rows page (suc count) = page ∷ chain_from rows (row_at rows page).next count

@@ -1,21 +1,21 @@
--- The live words of a page, by serials, and the effect of renumbering all pages.
+-- The live words of a page depend on serial numbers; the definitions describe them, and the effect of renumbering all pages.
 use Rattle.std.specs.Prelude.{◌≡◌, ℕ, ◌+◌, ◌*◌, ◌-◌, ◌^◌, ◌<◌, ◌≤◌, ◌==◌, if◌then◌else◌, List, length, slice_index}
 use Rattle.cyc_rawpages.specs.inside.Pool.{PoolState}
 
--- The number of filled words of a page. A page's fill mark counts the words of all pages up to its last filled word; a smaller fill mark
--- means that no word of the page is filled.
+-- Returns the number of filled words of a page. A page's fill mark counts the words of all pages up to the page's last filled word; a
+-- smaller fill mark means that no word of the page is filled.
 abbrev pub filled_by : (fills : List ℕ) → (page : ℕ) → ℕ
 filled_by fills page = slice_index fills page - 1024 * page
 
--- The filled words, if the page has the serial of its owner: it belongs to a region that is still open. If the region of the page is
--- closed, no word is filled.
+-- Returns the number of live words of a page: its filled words if the page has the serial of its owner, so that its region is still
+-- open. If the region of the page is closed, no word is live.
 abbrev pub reach_by : (serial owner fill : ℕ → ℕ) → (page : ℕ) → ℕ
 reach_by serial owner fill page = if serial page == serial (owner page) then fill page else 0
 
 abbrev pub reach : PoolState → (page : ℕ) → ℕ
 reach p page = reach_by (λ (q : ℕ). slice_index p.serials q) (λ (q : ℕ). slice_index p.owners q) (λ (q : ℕ). filled_by p.fills q) page
 
--- Each page has its fields, and its owner is a page.
+-- Says that the pool has the fields of each page, and that each page's owner is a page.
 pub record IsWhole (p : PoolState) : Type 0 where
   pub few : p.pages ≤ 65536
   pub fills : length p.fills ≡ p.pages
@@ -26,11 +26,11 @@ pub record IsWhole (p : PoolState) : Type 0 where
 abbrev pub AreNewer : PoolState → (next : ℕ) → Type 0
 AreNewer p next = (page : ℕ) → page < p.pages → slice_index p.serials page < next
 
--- Pages with equal serials have equal owners.
+-- Says that pages with equal serials have equal owners.
 abbrev pub AreOne : PoolState → Type 0
 AreOne p = (page other : ℕ) → page < p.pages → other < p.pages → slice_index p.serials page ≡ slice_index p.serials other → slice_index p.owners page ≡ slice_index p.owners other
 
--- The filled words become the live words, and each serial becomes that of the owner.
+-- Says how renumbering changes a pool: the live words become the filled words, and each page's serial becomes its owner's number plus one.
 pub record Renumbers (old new : PoolState) : Type 0 where
   pub same : new ≡ record old { fills = new.fills; serials = new.serials }
   pub fills : (page : ℕ) → page < old.pages → filled_by new.fills page ≡ reach old page
@@ -38,7 +38,8 @@ pub record Renumbers (old new : PoolState) : Type 0 where
   pub fill_count : length new.fills ≡ length old.fills
   pub serial_count : length new.serials ≡ length old.serials
 
--- A serial greater than those of all pages. All pages may have been renumbered, which keeps the live words.
+-- Says that a serial is greater than those of all pages. To get such a serial, all pages may have been
+-- renumbered, which keeps the live words.
 pub record Readies (old new : PoolState) (serial : ℕ) : Type 0 where
   pub same : new ≡ record old { fills = new.fills; serials = new.serials }
   pub fill_count : length new.fills ≡ length old.fills

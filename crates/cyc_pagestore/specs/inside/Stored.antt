@@ -1,4 +1,4 @@
--- The invariant of every store on a page table over a pool: a table in memory with equal reads would satisfy it.
+-- The invariant of every store on a page table over a pool: a page table in memory with equal reads satisfies the invariant of stores.
 use Rattle.std.specs.Prelude.{◌≡◌, ℕ, ◌≤◌, List, length}
 use Rattle.std.specs.Global.{Vec}
 use Rattle.std.specs.Vec.{vec_capacity}
@@ -9,7 +9,7 @@ use Rattle.cyc_store.specs.declared.row.ClassSlots.{ClassSlots}
 use Rattle.cyc_pagestore.specs.inside.Table.{TableState}
 use Rattle.cyc_pagestore.specs.inside.Usage.{Counts, IsUsage}
 
--- The page table in memory gives the same results as the table of the pool.
+-- Says that a page table in memory gives the same results as the table of the pool.
 pub record Reads (t : PageTable) (x : TableState) : Type 0 where
   pub most : t.most ≡ x.most
   pub words : t.words.items ≡ x.words
@@ -23,7 +23,7 @@ pub record IsStored (x : TableState) (lexicals : List ℕ) (classes : List Class
   pub whole : length x.rows ≡ x.most
   pub kept : IsKept table lexicals classes b
 
--- The invariant of a page store: there is room for as many lexical regions as pages, and the pages in use are counted.
+-- The invariant of a page store: its list has capacity for as many lexical regions as there are pages, and the pages in use are counted.
 pub record IsPagedStore (x : TableState) (lexicals : Vec ℕ) (classes : List ClassSlots) (b : Blocks) (counts : Counts) : Type 0 where
   pub room : x.most ≤ vec_capacity lexicals
   pub stored : IsStored x lexicals.items classes b

@@ -14,7 +14,7 @@ use Rattle.cyc_pagestore.specs.declared.table.Spot.{Spot}
 use Rattle.cyc_pagestore.specs.inside.Links.{Links, head_or_none, relinked, removed, first_of, added_rows, slots_of}
 use Rattle.cyc_pagestore.specs.inside.Live.{filled_by, reach_by, IsWhole}
 
--- The readable state of a table: a row for each page, the first free page, and the words and marks of all pages.
+-- The readable state of a page table: a row for each page, the first free page, and the words and marks of all pages.
 pub record TableState : Type 0 where
   pub most : ℕ
   pub words : List ℕ
@@ -25,7 +25,7 @@ pub record TableState : Type 0 where
 abbrev pub row_of : TableState → (page : ℕ) → Row
 row_of t page = row_at t.rows page
 
--- A table whose pages are all free.
+-- Returns a page table whose pages are all free.
 abbrev pub blank_table : (pages : ℕ) → TableState
 blank_table pages = record {
   most = pages;
@@ -35,28 +35,28 @@ blank_table pages = record {
   free = head_or_none (numbers_from 0 pages);
 }
 
--- The free pages of a pool are in no chain.
+-- Says that the free pages of a pool belong to no chain of a region.
 pub record AreAlone (p : PoolState) : Type 0 where
   pub free : length p.free ≡ p.pages
   pub chains : length p.chains ≡ p.pages
   pub alone : (page : ℕ) → IsFree p.free page → chain_at p.chains page ≡ []
 
--- No page is free.
+-- Says that no page of the table is free.
 pub record IsFull (t : TableState) : Type 0 where
   pub past : length t.rows ≤ t.free
   pub all : t.most ≤ length t.rows
 
--- No page with a word from `end` on is in use.
+-- Says that no page with a word from `end` on is in use.
 abbrev pub IsIdlePast : TableState → (end : ℕ) → Type 0
 IsIdlePast t end = (page : ℕ) → page < t.most → (((row_of t page).role ≡ Rest) × ((row_of t page).filled ≡ 0)) ⊎ (1024 * page + 1024 ≤ end)
 
--- The role of a region's first page.
+-- Says that a role is that of a region's first page.
 abbrev pub IsRoot : Role → Type 0
 IsRoot role = (role ≡ Heap) ⊎ ((role ≡ Lexical) ⊎ (role ≡ Dynamic))
 
 -- ---- effects of the calls
 
--- A free page is taken, whichever: the free pages are relinked with this one first.
+-- Says that a given free page is taken; it may be any free page, because the free pages are first relinked so that it comes first.
 pub record Takes (old middle : TableState) (page : ℕ) : Type 0 where
   pub order : List ℕ
   pub linked : IsChain (λ (p : ℕ). (row_of old p).next) old.free order
@@ -83,7 +83,7 @@ pub record Cuts (old new : TableState) (page class : ℕ) : Type 0 where
 abbrev pub Fills : (old new : TableState) → (page filled : ℕ) → Type 0
 Fills old new page filled = new ≡ record old { rows = set old.rows page (record (row_of old page) { filled = filled }) }
 
--- All pages of a region are freed, as if one after another.
+-- Says that all pages of a region are freed, with the same result as freeing them one after another.
 abbrev pub Closes : (old new : TableState) → (root : ℕ) → Type 0
 Closes old new root = new ≡ record old {
   rows = given_rows old.rows (row_of old root).newest (row_of old root).count old.free;
@@ -103,7 +103,7 @@ no_spot = record { role = Rest; newest = NONE }
 abbrev pub spot_at : List Spot → (page : ℕ) → Spot
 spot_at spots page = slice_index_or spots page no_spot
 
--- The readable state of a pool, and of the data kept beside it.
+-- The readable state of a pool, and of the data kept beside the pool.
 pub record Backing : Type 0 where
   pub pages : ℕ
   pub serial : ℕ → ℕ
@@ -129,7 +129,7 @@ backing_of p spots = record {
 abbrev pub reach_of : Backing → (page : ℕ) → ℕ
 reach_of b page = reach_by b.serial b.owner b.fill page
 
--- The page belongs to the region with this first page.
+-- Says that a page belongs to the region whose first page is `root`.
 pub record IsMember (b : Backing) (root page : ℕ) : Type 0 where
   pub there : page < b.pages
   pub owner : b.owner page ≡ root
@@ -138,7 +138,7 @@ pub record IsMember (b : Backing) (root page : ℕ) : Type 0 where
   pub role : (page ≡ root → ⊥) → b.role page ≡ Rest
   pub inner : (page ≡ root → ⊥) → b.chain page ≡ []
 
--- The pages of an open region, newest first by the links of the rows, are those of the pool's chain with this head.
+-- Says that the pages of an open region, linked newest first by the rows, are the pool's chain that begins with the region's first page.
 pub record IsRegion (b : Backing) (row : ℕ → Row) (root : ℕ) : Type 0 where
   pub chain : List ℕ
   pub linked : IsChain (λ (p : ℕ). (row p).next) (row root).newest chain

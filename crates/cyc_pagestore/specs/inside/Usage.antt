@@ -5,12 +5,12 @@ use Rattle.cyc_store.specs.State.{lookup, Home, handle_of, sizes_of, demand}
 use Rattle.cyc_store.specs.Ledger.{Blocks, plain_store}
 use Rattle.cyc_store.specs.inside.Kept.{handle_of_page}
 
--- The number of pages of the region that begins at each page, and the number of pages in use.
+-- The counts of a store: the number of pages of the region that begins at each page, and the number of pages in use.
 pub record Counts : Type 0 where
   pub regions : List ℕ
   pub pages : ℕ
 
--- The counts are right in a store with this many pages: the pages in use are those that the blocks require.
+-- Says that the counts are right in a store of `most` pages: the pages in use are those that the blocks require.
 pub record IsUsage (counts : Counts) (most : ℕ) (b : Blocks) : Type 0 where
   pub all : length counts.regions ≡ most
   pub pages : counts.pages ≡ demand (plain_store b)

@@ -21,21 +21,18 @@ at_end a (t ∷ ts) = refuse Unexpected (t ∷ ts)
 abbrev pub whole_program : Parser (List Declaration)
 whole_program = program_of >>= at_end
 
--- Says that the symbols are rejected with the given fault, in a text that ends at the given
--- position.
+-- Says that the symbols are rejected with the given fault, in a text that ends at the given position.
 pub record IsRefused (end : Place) (symbols : List Symbol) (fault : Fault) : Type 0 where
   pub refusal : Refusal
   pub refused : whole_program symbols ≡ Err refusal
   pub is : fault ≡ fault_of end refusal
 
--- Says that the tokens have the given tree, whose names are the texts of the tokens' identifiers
--- and region names.
+-- Says that the tokens have the given tree, whose names are the texts of the tokens' identifiers and region names.
 pub record IsTreeOf (tokens : List Token) (tree : Tree) : Type 0 where
   pub declarations : whole_program (symbols_of tokens) ≡ Ok (map view_declaration tree.declarations.items, [])
   pub names : tree.names ≡ distinct_texts (texts_in tokens)
 
--- THE PARSER'S RESULT for a text with the given tokens: their tree, or their fault, unless memory runs
--- out.
+-- THE PARSER'S RESULT for a text with the given tokens: their tree, or their fault, unless memory runs out.
 abbrev pub IsAnswer : List ℕ → List Token → Result Tree Fault → Type 0
 IsAnswer text tokens (Ok tree) = IsTreeOf tokens tree
 IsAnswer text tokens (Err fault) = (fault ≡ memory_fault) ⊎ IsRefused (end_of text) (symbols_of tokens) fault

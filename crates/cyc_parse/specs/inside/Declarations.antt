@@ -99,8 +99,7 @@ module _ (room : ℕ) where
   abbrev pub struct_fields : Named → List Named → Parser Declaration
   struct_fields s rs = sign here signs.LeftBrace >> some_of begins_type (field room) >>= (λ fs. sign room signs.RightBrace >> sign here signs.Semicolon >> pure (StructType s rs fs))
 
-  -- Parses what follows `struct`: a struct declaration, or another declaration that begins with the
-  -- struct type.
+  -- Parses what follows `struct`: a struct declaration, or another declaration that begins with the struct type.
   abbrev pub struct_or_typed : Place → Parser Declaration
   struct_or_typed p = identifier here >>= (λ s. optional_regions here >>= (λ rs. if_sees signs.LeftBrace (struct_fields s rs) (with_pointers here p (Struct s rs) >>= typed)))
 
@@ -126,7 +125,6 @@ module _ (room : ℕ) where
   abbrev pub program : Parser (List Declaration)
   program = declaration >>= (λ d. (λ ts. declarations_in (length ts) ts) >>= (λ ds. pure (d ∷ ds)))
 
--- Returns the program that the symbols spell, if any. Symbols nested more than 200 levels deep are
--- rejected.
+-- Returns the program that the symbols spell, if any. Symbols nested more than 200 levels deep are rejected.
 abbrev pub program_of : List Symbol → Result (List Declaration × List Symbol) Refusal
 program_of ts = program 200 ts

@@ -172,8 +172,7 @@ module _ (room : ℕ) (inner : Nested) where
   abbrev pub with_postfixes : Parser Expression → Parser Expression
   with_postfixes first = first >>= (λ e. postfixes max_items >>= (λ ps. pure (chained e ps)))
 
-  -- Parses an operand, given the prefix operator that its first sign (punctuation token) denotes,
-  -- if any.
+  -- Parses an operand, given the prefix operator that its first sign (punctuation token) denotes, if any.
   abbrev pub prefixed_by : Option PrefixOperator → Parser Expression
   prefixed_by (Some o) = advance >>= (λ p. inner.unary >>= (λ e. pure (Prefixed p o e)))
   prefixed_by None = with_postfixes primary
@@ -207,8 +206,7 @@ module _ (room : ℕ) (inner : Nested) where
   abbrev pub fields : Named → List Named → Parser Initial
   fields s rs = sign (suc room) signs.LeftBrace >> values >>= (λ es. sign room signs.RightBrace >> pure (Fields s rs es))
 
-  -- Parses an initial value that begins with a name: a struct's fields, with or without region arguments,
-  -- or an expression.
+  -- Parses an initial value that begins with a name: a struct's fields, with or without region arguments, or an expression.
   abbrev pub initial_from_name : Named → Parser Initial
   initial_from_name s = if_sees signs.LeftBrace (fields s [])
       (λ ts. (if opens_regions ts then region_list (suc room) >>= (λ rs. fields s rs) else with_postfixes (from_name s) >>= (λ e. pure (Plain e))) ts)
@@ -224,8 +222,7 @@ module _ (room : ℕ) (inner : Nested) where
   unfoldable pub initial : Parser Initial
   initial = choose initial_by
 
--- The parsers that have the given number of nesting levels left; if none is left, each rejects its first
--- symbol as too deep.
+-- The parsers that have the given number of nesting levels left; if none is left, each rejects its first symbol as too deep.
 unfoldable pub nested : ℕ → Nested
 nested zero = record {
   unary = refuse_item begins_expression TooDeep;

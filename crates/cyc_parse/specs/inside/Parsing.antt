@@ -16,8 +16,7 @@ pub use Rattle.cyc_parse.specs.Refusals.{next, starts, region_of_terminal, begin
 abbrev pub Outcome : Type 0 → Type 0
 Outcome A = Result (A × List Symbol) Refusal
 
--- The type of parsers: a parser reads some of the symbols, and returns their meaning and the
--- symbols left.
+-- The type of parsers: a parser reads some of the symbols, and returns their meaning and the symbols left.
 abbrev pub Parser : Type 0 → Type 0
 Parser A = List Symbol → Outcome A
 
@@ -108,8 +107,7 @@ named x p = record { name = x; place = p }
 abbrev pub only_place : {A : Type 0} → A → Place → Place
 only_place a p = p
 
--- Reads a given keyword (`word`) and returns its position; a sign's parser also returns a position, and a
--- name's parser returns the name.
+-- Reads a given keyword (`word`) and returns its position; a sign's parser also returns a position, and a name's parser returns the name.
 abbrev pub word : ℕ → Keyword → Parser Place
 word room k = take room (is_word k) only_place
 
@@ -150,13 +148,11 @@ abbrev pub reason_by : (Terminal → Bool) → Reason → Option Terminal → Re
 reason_by begins why None = Unexpected
 reason_by begins why (Some t) = if begins t then why else Unexpected
 
--- Rejects an item that begins at the next symbol, for the given reason; a symbol that begins no
--- item is unexpected.
+-- Rejects an item that begins at the next symbol, for the given reason; a symbol that begins no item is unexpected.
 unfoldable pub refuse_item : {A : Type 0} → (Terminal → Bool) → Reason → Parser A
 refuse_item begins why = λ ts. refuse (reason_by begins why (next ts)) ts
 
--- Returns true if `char` and a parenthesis come next, which begin a conversion to a low byte, not a
--- declaration.
+-- Returns true if `char` and a parenthesis come next, which begin a conversion to a low byte, not a declaration.
 abbrev pub opens_low_byte : List Symbol → Bool
 opens_low_byte [] = false
 opens_low_byte (t ∷ ts) = is_some (is_word words.Char t.terminal) && sees marks.LeftParen ts

@@ -98,8 +98,7 @@ abbrev pub level_within : ℕ → ℕ → Option BinaryOperator → Option ℕ
 level_within below most None = None
 level_within below most (Some o) = if nat_lt below (level o) && is_within most (Some o) then Some (level o) else None
 
--- Returns the next symbol's operator level, if the symbol is a binary operator whose level is above `below` and at
--- most `most`.
+-- Returns the next symbol's operator level, if the symbol is a binary operator whose level is above `below` and at most `most`.
 abbrev pub level_at : ℕ → ℕ → Option Terminal → Option ℕ
 level_at below most (Some (Mark s)) = level_within below most (binary_operator s)
 level_at below most _ = None

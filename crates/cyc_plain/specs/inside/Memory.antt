@@ -1,6 +1,5 @@
 -- Memory as loads and stores see it. Memory has three ranges: the globals, the live blocks of the store, and the slots of active calls
--- whose address is taken. A slot whose address is not taken is private to its call, like a register, and no store instruction changes
--- it.
+-- whose address is taken. A slot whose address is not taken is private to its call, like a register, and no store instruction changes it.
 use Rattle.std.specs.Prelude.{◌≡◌, ℕ, ◌+◌, ◌-◌, ◌*◌, ◌/◌, ◌%◌, ◌^◌, ◌≤◌, Bool, false, ◌&&◌, ◌||◌, ◌==◌, nat_le, nat_lt, if◌then◌else◌, List, [], ◌∷◌, length, Option, Some, None}
 use Rattle.cyc_store.specs.State.{word_at, saved}
 use Rattle.cyc_store.specs.declared.range.TheConstants.{STORE_BASE, PAGE_WORDS, MOST_PAGES}
@@ -19,8 +18,7 @@ slots_base = STORE_BASE + 4 * (PAGE_WORDS * MOST_PAGES)
 abbrev pub slots_end : ℕ
 slots_end = 2 ^ 31
 
--- `IsBelow` says that the slots of a call of this function may be allocated from `base` on: they
--- end below `above`.
+-- `IsBelow` says that the slots of a call of this function may be allocated from `base` on: they end below `above`.
 pub record IsBelow (program : Program) (function base above : ℕ) : Type 0 where
   pub aligned : base % 4 ≡ 0
   pub low : slots_base ≤ base
@@ -39,8 +37,7 @@ LieBelow program (Stuck output input) = Unit {0}
 
 -- ---- words with an address
 
--- Returns true if an instruction takes the address of this slot, so that loads and stores can
--- access the slot.
+-- Returns true if an instruction takes the address of this slot, so that loads and stores can access the slot.
 abbrev pub pins : Instruction → (slot : ℕ) → Bool
 pins (instructions.AddressOf destination first count) slot = nat_le first slot && nat_lt slot (first + count)
 pins instruction slot = false
@@ -49,8 +46,7 @@ abbrev pub is_pinned : List Instruction → (slot : ℕ) → Bool
 is_pinned [] slot = false
 is_pinned (i ∷ code) slot = pins i slot || is_pinned code slot
 
--- Returns the number of the word at this address among consecutive words from `base` on, if `is_asked` accepts the
--- number.
+-- Returns the number of the word at this address among consecutive words from `base` on, if `is_asked` accepts the number.
 abbrev pub numbered : (is_asked : ℕ → Bool) → (base address : ℕ) → Option ℕ
 numbered is_asked base address =
     if base + 4 * ((address - base) / 4) == address && is_asked ((address - base) / 4) then Some ((address - base) / 4) else None

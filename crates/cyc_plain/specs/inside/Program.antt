@@ -20,8 +20,7 @@ pub record Routine : Type 0 where
   pub frame_count : ℕ
   pub code : List Instruction
 
--- A plain program: its functions, the initial words of its globals, and the number of the function
--- that is called first.
+-- A plain program: its functions, the initial words of its globals, and the number of the function that is called first.
 pub record Program : Type 0 where
   pub functions : List Routine
   pub globals : List ℕ

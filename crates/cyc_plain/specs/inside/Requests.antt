@@ -1,5 +1,4 @@
--- Requests to the store (the heap of regions): their operands, and the slots that receive the
--- result.
+-- Requests to the store (the heap of regions): their operands, and the slots that receive the result.
 use Rattle.std.specs.Prelude.{ℕ, ◌+◌, ◌*◌, Option, Some, None}
 use Rattle.cyc_plain.specs.declared.instruction.Operand.{Operand}
 use Rattle.cyc_plain.specs.declared.instruction.Request.{Request}

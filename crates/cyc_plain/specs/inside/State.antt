@@ -17,8 +17,7 @@ Words = ℕ → ℕ
 abbrev pub put : Words → ℕ → ℕ → Words
 put words number word = λ (other : ℕ). if other == number then word else words other
 
--- Returns the slots after `count` words from slot `source` on are copied to the slots from
--- `destination` on.
+-- Returns the slots after `count` words from slot `source` on are copied to the slots from `destination` on.
 abbrev pub copied : (from : Words) → (source count : ℕ) → (to : Words) → (destination : ℕ) → Words
 copied from source count to destination = λ (number : ℕ).
     if nat_le destination number && nat_lt number (destination + count) then from (source + (number - destination)) else to number
@@ -81,8 +80,7 @@ status_of (Running c) = simulation.Running
 status_of (Ended ending output input) = simulation.Ended ending
 status_of (Stuck output input) = simulation.Failed
 
--- Returns the position of the next instruction, or of the first one in function 0 if the run has
--- ended.
+-- Returns the position of the next instruction, or of the first one in function 0 if the run has ended.
 abbrev pub place_of : State → CodePlace
 place_of (Running c) = record { function = c.active.function; index = c.active.next }
 place_of (Ended ending output input) = record { function = 0; index = 0 }
@@ -99,8 +97,7 @@ depth (Running c) = suc (length c.frames)
 depth (Ended ending output input) = 0
 depth (Stuck output input) = 0
 
--- `HoldsWords` says that the slots, the globals, the store and the input of a state contain only
--- words.
+-- `HoldsWords` says that the slots, the globals, the store and the input of a state contain only words.
 abbrev pub HoldsWords : State → Type 0
 HoldsWords (Running c) =
     AreWords c.active.slots

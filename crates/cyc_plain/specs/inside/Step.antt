@@ -62,8 +62,7 @@ calls choice c function arguments count result =
       frames = record { caller = (advanced c).active; result = result } ∷ c.frames;
     })
 
--- Returns the state after `results` words are returned to the newest waiting call. If no call
--- waits, `main` returns and the run ends.
+-- Returns the state after `results` words are returned to the newest waiting call. If no call waits, `main` returns and the run ends.
 abbrev pub returns : Configuration → (value results : ℕ) → List Frame → State
 returns c value results [] = Ended (Returned (signed (c.active.slots value))) c.output c.input
 returns c value results (f ∷ frames) =
@@ -77,8 +76,7 @@ abbrev pub operand_word : Words → Operand → ℕ
 operand_word slots (operands.Slot number) = slots number
 operand_word slots (operands.Word word) = word
 
--- Returns the state after a word of memory is loaded into a slot. If memory has no word at the address, the run
--- gets stuck.
+-- Returns the state after a word of memory is loaded into a slot. If memory has no word at the address, the run gets stuck.
 
 abbrev pub loads : Configuration → (destination : ℕ) → Option ℕ → State
 loads c destination (Some word) = gives c destination word
@@ -88,8 +86,7 @@ abbrev pub saves : Program → Configuration → (address word : ℕ) → Option
 saves program c address word (Some old) = Running (advanced (with_memory program c address word))
 saves program c address word None = Stuck c.output c.input
 
--- Returns the state after a byte of the word at its address is loaded into a slot. If memory has no word there,
--- the run gets stuck.
+-- Returns the state after a byte of the word at its address is loaded into a slot. If memory has no word there, the run gets stuck.
 
 abbrev pub loads_byte : Configuration → (destination address : ℕ) → Option ℕ → State
 loads_byte c destination address (Some word) = gives c destination (byte_in word (address % 4))
@@ -132,8 +129,7 @@ asks serving c destination call (Some why) = Stuck c.output c.input
 -- Exception handlers. The record of a handler occupies slots and is read only by the machine code generated from the plain program. If the
 -- record was overwritten, the run gets stuck.
 
--- Returns true if the slots of a handler's record still have the contents from when the handler was
--- opened.
+-- Returns true if the slots of a handler's record still have the contents from when the handler was opened.
 abbrev pub is_intact : Words → (first : ℕ) → (contents : Words) → Bool
 is_intact slots first contents =
     slots first == contents 0
@@ -150,8 +146,7 @@ opens choice c first =
       };
     })
 
--- Returns the state after `Try`, which opens a handler or catches the exception that has reached
--- its handler.
+-- Returns the state after `Try`, which opens a handler or catches the exception that has reached its handler.
 abbrev pub tries : Choice → Configuration → (first handler : ℕ) → List Handler → State
 tries choice c first handler [] = opens choice c first
 tries choice c first handler (Open index other contents ∷ handlers) = opens choice c first
@@ -283,23 +278,20 @@ abbrev pub MayServe : services.Choice → Option Call → State → Type 0
 MayServe serving (Some call) (Running c) = refusal c.store call ≡ None → IsServed c.store call serving
 MayServe serving call s = Unit {0}
 
--- Returns the function that an instruction calls, or for which it checks for stack space, if there
--- is one.
+-- Returns the function that an instruction calls, or for which it checks for stack space, if there is one.
 abbrev pub callee_of : Option Instruction → Option ℕ
 callee_of (Some (instructions.Call function arguments count result)) = Some function
 callee_of (Some (instructions.Enter function)) = Some function
 callee_of (Some instruction) = None
 callee_of None = None
 
--- Returns the function that the next step calls, or for which it checks for stack space, if there
--- is one.
+-- Returns the function that the next step calls, or for which it checks for stack space, if there is one.
 abbrev pub called : Program → State → Option ℕ
 called program (Running c) = callee_of (instruction_at program (place_of (Running c)))
 called program (Ended ending output input) = None
 called program (Stuck output input) = None
 
--- `MayLie` says that the slots of a new call lie below those of its caller. For `Enter`, it requires
--- that they could lie there.
+-- `MayLie` says that the slots of a new call lie below those of its caller. For `Enter`, it requires that they could lie there.
 abbrev pub MayLie : Program → (base : ℕ) → Option ℕ → State → Type 0
 MayLie program base (Some function) (Running c) = IsBelow program function base c.active.base
 MayLie program base callee s = Unit {0}
@@ -315,8 +307,7 @@ abbrev pub executed : Program → Choice → Configuration → Option Instructio
 executed program choice c (Some instruction) = performed program choice c instruction
 executed program choice c None = Stuck c.output c.input
 
--- Returns the state after one step of a plain program without limits. A run that has ended stays in
--- its state.
+-- Returns the state after one step of a plain program without limits. A run that has ended stays in its state.
 abbrev pub step : Program → Choice → State → State
 step program choice (Running c) = executed program choice c (instruction_at program (place_of (Running c)))
 step program choice (Ended ending output input) = Ended ending output input
@@ -351,8 +342,7 @@ abbrev pub Step : Program → (pages calls : ℕ) → State → State → Type 0
 Step program pages calls old new =
     (choice : Choice) × IsAllowed program old choice × (new ≡ limited_step program pages calls choice old)
 
--- Returns the initial state: `main` is called with its slots from `base` on, nothing is printed, and all input is
--- unread.
+-- Returns the initial state: `main` is called with its slots from `base` on, nothing is printed, and all input is unread.
 abbrev pub start : Program → (base : ℕ) → StoreState → List ℕ → State
 start program base store input =
     Running (record {

@@ -11,8 +11,7 @@ use Rattle.cyc_plain.specs.inside.Step.{Choice, IsAllowed, instruction_at, limit
 abbrev pub AsksNoRoom : Program → Type 0
 AsksNoRoom program = (place : CodePlace) (function : ℕ) → instruction_at program place ≡ Some (instructions.Enter function) → ⊥
 
--- `UniformStep` says that a program may step from `old` to `new` if the limit of calls is the same
--- at all instructions.
+-- `UniformStep` says that a program may step from `old` to `new` if the limit of calls is the same at all instructions.
 abbrev pub UniformStep : Program → (pages calls : ℕ) → State → State → Type 0
 UniformStep program pages calls old new =
     (choice : Choice) × IsAllowed program old choice × (new ≡ limited pages calls old (step program choice old))

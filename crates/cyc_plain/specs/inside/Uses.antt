@@ -60,8 +60,7 @@ reads results (instructions.Finish value) slot = is_among value results slot
 reads results (instructions.Uncaught tag value) slot = is_slot value slot
 reads results instruction slot = false
 
--- Returns true if an instruction writes the slot before the next instruction of its call is
--- executed.
+-- Returns true if an instruction writes the slot before the next instruction of its call is executed.
 abbrev pub writes : Program → Instruction → (slot : ℕ) → Bool
 writes program (instructions.Move destination source) slot = destination == slot
 writes program (instructions.MoveWords destination source count) slot = is_among destination count slot
@@ -79,8 +78,7 @@ writes program (instructions.CountLexical destination) slot = destination == slo
 writes program (instructions.Try first handler) slot = is_among first RECORD_WORDS slot
 writes program instruction slot = false
 
--- Returns true if control may pass from the instruction at `index` to the one at `next` within one
--- call.
+-- Returns true if control may pass from the instruction at `index` to the one at `next` within one call.
 abbrev pub leads : Instruction → (index next : ℕ) → Bool
 leads (instructions.Jump target) index next = target == next
 leads (instructions.Branch comparison left right target) index next = suc index == next || target == next

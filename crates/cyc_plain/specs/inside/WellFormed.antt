@@ -1,5 +1,4 @@
--- A well-formed plain program: everything that its instructions name exists, and the size of its
--- frames is within the limit.
+-- A well-formed plain program: everything that its instructions name exists, and the size of its frames is within the limit.
 use Rattle.std.specs.Prelude.{◌≡◌, ◌≢◌, ℕ, ◌+◌, ◌-◌, ◌<◌, ◌≤◌, Bool, true, false, length, sum_by, All, IsSomeAnd, Option, Some, None, slice_get}
 use Rattle.cyc_words.specs.Word.{IsWord, add_of}
 use Rattle.cyc_words.specs.Bytes.{word_of}
@@ -35,8 +34,7 @@ abbrev pub IsOperand : Routine → Operand → Type 0
 IsOperand r (operands.Slot number) = number < r.slots
 IsOperand r (operands.Word word) = Unit {0}
 
--- `IsMoveInRange` says that the slots of a move of several words exist, and that the move copies no
--- more words than a value can have.
+-- `IsMoveInRange` says that the slots of a move of several words exist, and that the move copies no more words than a value can have.
 pub record IsMoveInRange (r : Routine) (destination source count : ℕ) : Type 0 where
   pub some : 0 < count
   pub few : count ≤ GREATEST_VALUE
@@ -59,8 +57,7 @@ abbrev pub IsArgument : Routine → Option Operand → Type 0
 IsArgument r (Some operand) = IsOperand r operand
 IsArgument r None = Unit {0}
 
--- `IsRequestInRange` says that the operands of a request and the slots that receive its result
--- exist.
+-- `IsRequestInRange` says that the operands of a request and the slots that receive its result exist.
 pub record IsRequestInRange (r : Routine) (request : Request) : Type 0 where
   pub answer_in_range : HasSlots r (destination_of request) (answer_count request)
   pub first_in_range : IsArgument r (first_operand request)
@@ -129,8 +126,7 @@ pub record IsWellFormed (program : Program) : Type 0 where
   pub main_results : (routine_at program program.main).results ≡ 1
   pub globals : length program.globals ≤ MOST_GLOBALS
 
--- All numbers of a program fit machine words: its constant operands, its tags, and the initial
--- values of its globals.
+-- All numbers of a program fit machine words: its constant operands, its tags, and the initial values of its globals.
 abbrev pub IsOfWord : Operand → Type 0
 IsOfWord (operands.Slot number) = Unit {0}
 IsOfWord (operands.Word word) = IsWord word
@@ -193,8 +189,7 @@ AsksForNoWord program (Running c) =
 AsksForNoWord program (Ended ending output input) = ⊥
 AsksForNoWord program (Stuck output input) = ⊥
 
--- `AsksInVain` says that the next instruction makes a request that the store refuses for a reason
--- other than lack of memory.
+-- `AsksInVain` says that the next instruction makes a request that the store refuses for a reason other than lack of memory.
 abbrev pub AsksInVain : Program → State → Type 0
 AsksInVain program (Running c) =
     (call : Call) × (why : Refusal) × (asked program (Running c) ≡ Some call) × (refusal c.store call ≡ Some why)
@@ -202,8 +197,7 @@ AsksInVain program (Running c) =
 AsksInVain program (Ended ending output input) = ⊥
 AsksInVain program (Stuck output input) = ⊥
 
--- Returns true if an instruction closes a handler, throws, or returns from a function with
--- handlers.
+-- Returns true if an instruction closes a handler, throws, or returns from a function with handlers.
 abbrev pub is_of_handlers : Instruction → Bool
 is_of_handlers (instructions.Leave first) = true
 is_of_handlers (instructions.Throw tag value) = true

@@ -21,8 +21,7 @@ entry_of None = None
 abbrev pub entry_in : List Entry → (index : ℕ) → Option (List Fact)
 entry_in entries index = entry_of (slice_get entries index)
 
--- `IsLess` says that the second list requires less than the first: known facts that imply the first
--- list also imply the second.
+-- `IsLess` says that the second list requires less than the first: known facts that imply the first list also imply the second.
 abbrev pub IsLess : (asked less : List Fact) → Type 0
 IsLess asked less = (facts : List Fact) (more : Option Fact) → are_known asked facts more ≡ true → are_known less facts more ≡ true
 
@@ -54,16 +53,14 @@ abbrev pub is_entered : Option (List Fact) → Bool
 is_entered (Some facts) = true
 is_entered None = false
 
--- Returns true if an instruction does not jump and the next instruction is no jump target. An unreachable
--- jump is treated as not jumping.
+-- Returns true if an instruction does not jump and the next instruction is no jump target. An unreachable jump is treated as not jumping.
 abbrev pub is_straight : (entry : ℕ → Option (List Fact)) → List Fact → Instruction → (index : ℕ) → Bool
 is_straight entry facts (instructions.Jump target) index = is_unreached facts && not (is_entered (entry (index + 1)))
 is_straight entry facts (instructions.Branch comparison left right target) index = false
 is_straight entry facts (instructions.Try first handler) index = false
 is_straight entry facts i index = not (is_entered (entry (index + 1)))
 
--- `AreWalked` says that the first `count` instructions of a function are checked and simplified, and that
--- `facts` are known after them.
+-- `AreWalked` says that the first `count` instructions of a function are checked and simplified, and that `facts` are known after them.
 pub record AreWalked (program : Program) (r : Routine) (pinned : List Bool) (entries : List Entry) (count : ℕ) (code : List Instruction) (facts : List Fact) : Type 0 where
   pub as_many : length code ≡ count
   pub known : facts ≡ facts_at program pinned (entry_in entries) r.code count
@@ -78,8 +75,7 @@ pub record AreWalked (program : Program) (r : Routine) (pinned : List Bool) (ent
 abbrev pub IsWalked : Program → Routine → List Bool → List Entry → (code : List Instruction) → Type 0
 IsWalked program r pinned entries code = (facts : List Fact) × AreWalked program r pinned entries (length r.code) code facts
 
--- `IsWalkedBySome` says that all instructions of a function are checked and simplified, for some
--- entries at its jump targets.
+-- `IsWalkedBySome` says that all instructions of a function are checked and simplified, for some entries at its jump targets.
 abbrev pub IsWalkedBySome : Program → Routine → List Bool → (code : List Instruction) → Type 0
 IsWalkedBySome program r pinned code = (entries : List Entry) × IsWalked program r pinned entries code
 

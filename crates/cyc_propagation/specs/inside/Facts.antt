@@ -1,5 +1,4 @@
--- Facts about a function's slots and about memory: their truth, the facts that an instruction preserves, and those that it
--- establishes.
+-- Facts about a function's slots and about memory: their truth, the facts that an instruction preserves, and those that it establishes.
 use Rattle.std.specs.Prelude.{◌≡◌, ℕ, zero, suc, ◌+◌, ◌*◌, ◌<◌, ◌^◌, Bool, true, false, not, ◌==◌, ◌&&◌, ◌||◌, nat_le, nat_lt, if◌then◌else◌, List, [], ◌∷◌, ◌++◌, length, filter, drop, Option, Some, None, slice_get, slice_index_or}
 use Rattle.std.specs.List.{AllByRecursion}
 use Rattle.cyc_words.specs.Word.{add_of}
@@ -30,8 +29,7 @@ use Rattle.cyc_propagation.specs.declared.fact.TheConstants.{MOST_FACTS}
 
 -- ---- truth of facts
 
--- A scene is the part of a state that facts describe: the words in a call's slots, and memory, which has a
--- word at some addresses.
+-- A scene is the part of a state that facts describe: the words in a call's slots, and memory, which has a word at some addresses.
 pub record Scene : Type 0 where
   pub slots : Words
   pub memory : (address : ℕ) → Option ℕ
@@ -115,16 +113,14 @@ is_same_fact (facts_are.Held address offset value) (facts_are.Held address_2 off
     is_same_word address offset address_2 offset_2 && is_same_operand value value_2
 is_same_fact fact other = false
 
--- Returns true if the list of facts contains the fact, or contains a fact that is never true, as at
--- unreachable positions.
+-- Returns true if the list of facts contains the fact, or contains a fact that is never true, as at unreachable positions.
 abbrev pub is_known : List Fact → Fact → Bool
 is_known [] fact = false
 is_known (other ∷ facts) fact = is_same_fact other fact || is_known facts fact
 
 -- ---- unreachable places
 
--- The fact `never` is never true and hence implies every fact. The fact `never` is known at unreachable
--- positions.
+-- The fact `never` is never true and hence implies every fact. The fact `never` is known at unreachable positions.
 abbrev pub never : Fact
 never = facts_are.Holds comparisons.NotEqual (operands.Word 0) (operands.Word 0)
 
@@ -138,8 +134,7 @@ is_unreached facts = is_never (slice_get facts 0)
 
 -- ---- globals
 
--- A global is also a word of memory, at an offset in bytes from the first global, if its number is in
--- range.
+-- A global is also a word of memory, at an offset in bytes from the first global, if its number is in range.
 abbrev pub first_global : Operand
 first_global = operands.Word GLOBALS_BASE
 
@@ -148,8 +143,7 @@ global_offset global = if nat_lt global MOST_GLOBALS then Some (4 * global) else
 
 -- ---- slots that facts may mention
 
--- Returns true if a slot is free: its address is not taken (`pinned`), so no store instruction
--- changes it.
+-- Returns true if a slot is free: its address is not taken (`pinned`), so no store instruction changes it.
 abbrev pub is_free : List Bool → (slot : ℕ) → Bool
 is_free pinned slot = not (slice_index_or pinned slot true)
 
@@ -176,8 +170,7 @@ are_suited pinned (fact ∷ facts) = suits pinned fact && are_suited pinned fact
 
 -- ---- facts that an instruction preserves
 
--- Returns the slots that an instruction writes before the next instruction of its call. A move from a slot to the same slot
--- writes nothing.
+-- Returns the slots that an instruction writes before the next instruction of its call. A move from a slot to the same slot writes nothing.
 abbrev pub written : Program → Instruction → Written
 written program (instructions.Move destination source) =
     if is_slot source destination then record { first = destination; count = 0 } else record { first = destination; count = 1 }
@@ -203,8 +196,7 @@ abbrev pub leaves_operand : Written → Operand → Bool
 leaves_operand slots (operands.Slot number) = leaves_slot slots number
 leaves_operand slots (operands.Word word) = true
 
--- Returns the part of memory that a write to a slot may change: nothing if the slot's address is
--- not taken.
+-- Returns the part of memory that a write to a slot may change: nothing if the slot's address is not taken.
 abbrev pub touched_by : List Bool → (slot : ℕ) → Touched
 touched_by pinned slot = if is_free pinned slot then touches.Nothing else touches.All
 
@@ -245,8 +237,7 @@ is_untouched touches.Nothing address offset = true
 is_untouched (touches.Word other written) address offset = is_same_operand other address && are_apart written offset
 is_untouched touches.All address offset = false
 
--- Returns true if a fact is preserved: no slot that it mentions is written, and no word of memory that it
--- mentions is changed.
+-- Returns true if a fact is preserved: no slot that it mentions is written, and no word of memory that it mentions is changed.
 abbrev pub keeps : Written → Touched → Fact → Bool
 keeps slots touched (facts_are.Equal slot operand) = leaves_slot slots slot && leaves_operand slots operand
 keeps slots touched (facts_are.Computed slot operator left right) =
@@ -289,8 +280,7 @@ shown pinned comparison left right target index next =
 abbrev pub held : List Bool → (address : Operand) → (offset : ℕ) → (value : Operand) → Option Fact
 held pinned address offset value = suited pinned (facts_are.Held address offset value)
 
--- Returns the fact that a load establishes, or `None` if its destination is the slot that contains
--- the address.
+-- Returns the fact that a load establishes, or `None` if its destination is the slot that contains the address.
 abbrev pub loaded : List Bool → (address : Operand) → (offset destination : ℕ) → Option Fact
 loaded pinned address offset destination =
     if is_slot address destination then None else held pinned address offset (operands.Slot destination)
@@ -300,19 +290,16 @@ abbrev pub held_global : List Bool → (offset : Option ℕ) → (value : Operan
 held_global pinned (Some offset) value = held pinned first_global offset value
 held_global pinned None value = None
 
--- Returns the fact that a move establishes. A move from a slot to the same slot establishes no
--- fact.
+-- Returns the fact that a move establishes. A move from a slot to the same slot establishes no fact.
 abbrev pub moved : List Bool → (destination : ℕ) → (source : Operand) → Option Fact
 moved pinned destination source = if is_slot source destination then None else suited pinned (facts_are.Equal destination source)
 
--- Returns the fact that an operator establishes, or `None` if its destination is the slot of an
--- operand.
+-- Returns the fact that an operator establishes, or `None` if its destination is the slot of an operand.
 abbrev pub computed : List Bool → BinaryOperator → (destination : ℕ) → (left right : Operand) → Option Fact
 computed pinned operator destination left right =
     if is_slot left destination || is_slot right destination then None else suited pinned (facts_are.Computed destination operator left right)
 
--- Returns the fact that is true after the instruction at `index` if control continues at `next`, whatever
--- was true before.
+-- Returns the fact that is true after the instruction at `index` if control continues at `next`, whatever was true before.
 abbrev pub made : List Bool → Instruction → (index next : ℕ) → Option Fact
 made pinned (instructions.Move destination source) index next = moved pinned destination source
 made pinned (instructions.Binary operator destination left right) index next = computed pinned operator destination left right
@@ -344,8 +331,7 @@ truth_in slot = facts_are.Holds comparisons.LessUnsigned (operands.Slot slot) (o
 abbrev pub truth_of : List Bool → BinaryOperator → (destination : ℕ) → Option Fact
 truth_of pinned operator destination = if is_test operator then suited pinned (truth_in destination) else None
 
--- Returns the fact that a test's result is a truth value, which is true even if the test's
--- destination is one of its operands.
+-- Returns the fact that a test's result is a truth value, which is true even if the test's destination is one of its operands.
 abbrev pub tested : List Bool → Instruction → Option Fact
 tested pinned (instructions.Unary operator destination operand) = if is_not operator then suited pinned (truth_in destination) else None
 tested pinned (instructions.Binary operator destination left right) = truth_of pinned operator destination
@@ -366,8 +352,7 @@ abbrev pub are_copied : List Bool → (destination source count : ℕ) → Bool
 are_copied pinned destination source count =
     lie_apart destination source count && (are_free pinned destination count && are_free pinned source count)
 
--- Returns the fact that the word copied at `index` of a move equals its source, if the move copies
--- that many words.
+-- Returns the fact that the word copied at `index` of a move equals its source, if the move copies that many words.
 abbrev pub copied : List Bool → Instruction → (index : ℕ) → Option Fact
 copied pinned (instructions.MoveWords destination source count) index =
     if nat_lt index count && are_copied pinned destination source count
@@ -375,8 +360,7 @@ copied pinned (instructions.MoveWords destination source count) index =
     else None
 copied pinned instruction index = None
 
--- Returns the facts with those about copied words: at most three, the words of a pointer with its
--- bounds.
+-- Returns the facts with those about copied words: at most three, the words of a pointer with its bounds.
 abbrev pub with_copies : List Bool → Instruction → List Fact → List Fact
 with_copies pinned i facts = remembered (remembered (remembered facts (copied pinned i 0)) (copied pinned i 1)) (copied pinned i 2)
 

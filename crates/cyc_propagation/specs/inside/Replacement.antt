@@ -86,8 +86,7 @@ abbrev pub folded_of : BinaryOperator → (left right : Option ℕ) → Option �
 folded_of operator (Some left) (Some right) = folded operator left right
 folded_of operator left right = None
 
--- Returns the result of an operator on two operands whose words are known. If the list of facts is empty, no
--- operator is folded.
+-- Returns the result of an operator on two operands whose words are known. If the list of facts is empty, no operator is folded.
 abbrev pub folded_in : List Fact → BinaryOperator → (left right : Operand) → Option ℕ
 folded_in [] operator left right = None
 folded_in (fact ∷ facts) operator left right = folded_of operator (word_in (fact ∷ facts) left) (word_in (fact ∷ facts) right)
@@ -116,8 +115,7 @@ folded_at facts operator destination left right =
 
 -- ---- known results
 
--- Returns true if an operator compares a truth value with 0 by `!=`, so that its result is the
--- truth value.
+-- Returns true if an operator compares a truth value with 0 by `!=`, so that its result is the truth value.
 abbrev pub is_truth_test : Comparison → (bound : Operand) → BinaryOperator → (right : Operand) → Bool
 is_truth_test comparison bound operator right =
     is_same_comparison comparison comparisons.LessUnsigned

@@ -22,8 +22,7 @@ abbrev pub HasRoom : (calls : ℕ) → (room base depth : ℕ) → Type 0
 HasRoom calls zero base depth = Unit {0}
 HasRoom calls (suc slots) base depth = (slots_base + 4 * slots ≤ base) × (depth < calls)
 
--- Returns the stack space that an instruction has proved to be available when control continues
--- after it.
+-- Returns the stack space that an instruction has proved to be available when control continues after it.
 abbrev pub room_of : (slots : ℕ → ℕ) → Instruction → ℕ
 room_of slots (instructions.Call function arguments count result) = suc (slots function)
 room_of slots (instructions.Enter function) = suc (slots function)
@@ -78,8 +77,7 @@ spared_instruction slots room index (instructions.Enter function) =
     if nat_lt room (suc (slots function)) then instructions.Enter function else nothing_at index
 spared_instruction slots room index i = i
 
--- `IsSparedCode` says that each redundant `Enter` of the code is replaced by a jump to the next
--- position.
+-- `IsSparedCode` says that each redundant `Enter` of the code is replaced by a jump to the next position.
 pub record IsSparedCode (slots : ℕ → ℕ) (code spared : List Instruction) : Type 0 where
   pub as_many : length spared ≡ length code
   pub rooms : ℕ → ℕ
@@ -102,8 +100,7 @@ pub record IsSpared (slots : ℕ → ℕ) (r s : Routine) : Type 0 where
   pub same : s ≡ with_code r s.code
   pub code : IsSparedCode slots r.code s.code
 
--- `AreSpared` relates the functions of two programs in order: redundant checks for stack space are
--- dropped in each.
+-- `AreSpared` relates the functions of two programs in order: redundant checks for stack space are dropped in each.
 pub record AreSpared (program spared : Program) : Type 0 where
   pub as_many : length spared.functions ≡ length program.functions
   pub each : (k : ℕ) → k < length program.functions → IsSpared (slots_in program) (routine_at program k) (routine_at spared k)
@@ -120,8 +117,7 @@ pub record AreMadeFirst (program : Program) (count : ℕ) (routines : List Routi
   pub as_many : length routines ≡ count
   pub spared : (k : ℕ) → k < count → IsSpared (slots_in program) (slice_index_or between k no_routine) (slice_index_or routines k no_routine)
 
--- `IsMadeFunction` says that a function was simplified, and its redundant checks for stack space
--- then dropped.
+-- `IsMadeFunction` says that a function was simplified, and its redundant checks for stack space then dropped.
 pub record IsMadeFunction (program : Program) (r s : Routine) : Type 0 where
   pub between : Routine
   pub replaced : IsReplaced program r between

@@ -7,8 +7,7 @@ use Rattle.cyc_plain.specs.inside.Program.{Routine, Program, routine_at, size}
 use Rattle.cyc_plain.specs.inside.Step.{machine, start}
 use Rattle.cyc_plain.specs.inside.WellFormed.{IsPlain}
 
--- `IsLike` says that a function has the slots, frame and number of instructions of the original one, and that its
--- code is not larger.
+-- `IsLike` says that a function has the slots, frame and number of instructions of the original one, and that its code is not larger.
 pub record IsLike (r s : Routine) : Type 0 where
   pub name : s.name ≡ r.name
   pub parameters : s.parameters ≡ r.parameters

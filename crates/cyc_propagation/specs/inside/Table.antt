@@ -44,8 +44,7 @@ pub record IsReplaced (program : Program) (r s : Routine) : Type 0 where
   pub is_table : IsTable program s pinned table
   pub each : (index : ℕ) (i : Instruction) → At r index i → At s index (put_at (table index) index (length r.code) i)
 
--- `AreReplaced` relates the functions of two programs in order: each is replaced under the facts
--- known at its positions.
+-- `AreReplaced` relates the functions of two programs in order: each is replaced under the facts known at its positions.
 pub record AreReplaced (program simplified : Program) : Type 0 where
   pub as_many : length simplified.functions ≡ length program.functions
   pub each : (k : ℕ) → k < length program.functions → IsReplaced program (routine_at program k) (routine_at simplified k)
@@ -67,8 +66,7 @@ goes_on i = true
 abbrev pub after_put : Program → List Bool → List Fact → Instruction → (index : ℕ) → List Fact
 after_put program pinned facts i index = if goes_on i then facts_after program pinned facts i index (index + 1) else never ∷ []
 
--- Returns the facts at a position: those of its entry if it is a jump target, otherwise those known after
--- the previous instruction.
+-- Returns the facts at a position: those of its entry if it is a jump target, otherwise those known after the previous instruction.
 abbrev pub entered_or : Option (List Fact) → List Fact → List Fact
 entered_or (Some facts) others = facts
 entered_or None others = others

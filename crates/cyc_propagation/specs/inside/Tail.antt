@@ -23,8 +23,7 @@ greater_if_any one None = one
 abbrev pub last_after : (last : ℕ) → Instruction → (index : ℕ) → ℕ
 last_after last i index = greater_if_any (if goes_on i then greater last (index + 1) else last) (target_of i)
 
--- `IsLastOf` says that none of the first `count` instructions jumps or falls through to a position
--- after `last`.
+-- `IsLastOf` says that none of the first `count` instructions jumps or falls through to a position after `last`.
 abbrev pub IsLastOf : List Instruction → (count last : ℕ) → Type 0
 IsLastOf code count last = (index next : ℕ) (i : Instruction) → slice_get code index ≡ Some i → index < count → leads i index next ≡ true → next ≤ last
 
@@ -32,14 +31,12 @@ IsLastOf code count last = (index next : ℕ) (i : Instruction) → slice_get co
 abbrev pub IsLast : List Instruction → (last : ℕ) → Type 0
 IsLast code last = IsLastOf code (last + 1) last
 
--- Returns the replacement of the instruction at position `index` of `count`: after `last`, a jump to the
--- next position.
+-- Returns the replacement of the instruction at position `index` of `count`: after `last`, a jump to the next position.
 abbrev pub tailless_instruction : (last index count : ℕ) → Instruction → Instruction
 tailless_instruction last index count i =
     if nat_lt last index && may_vanish i then instructions.Jump (place_after index count) else i
 
--- `AreTailless` describes the first `count` instructions of code, in which those after `last` are
--- replaced by jumps.
+-- `AreTailless` describes the first `count` instructions of code, in which those after `last` are replaced by jumps.
 pub record AreTailless (code : List Instruction) (last count : ℕ) (made : List Instruction) : Type 0 where
   pub as_many : length made ≡ count
   pub each : (index : ℕ) (i : Instruction) → slice_get code index ≡ Some i → index < count

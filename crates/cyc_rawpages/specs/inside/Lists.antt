@@ -1,11 +1,9 @@
--- The free pages and the chains of a pool as lists, and the effect of the pool's functions on these
--- lists.
+-- The free pages and the chains of a pool as lists, and the effect of the pool's functions on these lists.
 use Rattle.std.specs.Prelude.{◌==◌, ℕ, zero, suc, Bool, true, false, if◌then◌else◌, List, [], ◌∷◌, ◌++◌, drop, replicate, slice_index_or, set}
 use Rattle.cyc_rawpages.specs.declared.change.Change.{Change}
 use Rattle.cyc_rawpages.specs.declared.change.Change.TheVariants.{Made, Taken, Pushed, Given}
 
--- The free pages in the order of their links, and for each page the chain that begins with the
--- page.
+-- The free pages in the order of their links, and for each page the chain that begins with the page.
 pub record Lists : Type 0 where
   pub free : List ℕ
   pub chains : List (List ℕ)

@@ -17,8 +17,7 @@ pub record PoolState : Type 0 where
   pub bits : List Bool
   -- For each page, true if the page is free.
   pub free : List Bool
-  -- For each page, the pages of the chain that begins with the page, in order. The list is empty if the page
-  -- is not the head of a chain.
+  -- For each page, the pages of the chain that begins with the page, in order. The list is empty if the page is not the head of a chain.
   pub chains : List (List ℕ)
 
 abbrev pub IsFree : (free : List Bool) → (page : ℕ) → Type 0
@@ -61,8 +60,7 @@ field_of raw field page = slice_index raw.heads (header_at page field)
 abbrev pub serial_of : Parts → (page : ℕ) → ℕ
 serial_of raw page = field_of raw LOW page + 2 ^ 32 * field_of raw HIGH page
 
--- The index of the word that contains a bit; the words of a page's bits follow the page's header. Bits are
--- numbered across all pages.
+-- The index of the word that contains a bit; the words of a page's bits follow the page's header. Bits are numbered across all pages.
 abbrev pub bits_at : (number : ℕ) → ℕ
 bits_at number = header_at (number / PAGE_WORDS) (HEADER_WORDS + number % PAGE_WORDS / 32)
 
@@ -86,8 +84,7 @@ state_of pages raw l = record {
 abbrev pub put : (ℕ → ℕ) → (at value : ℕ) → ℕ → ℕ
 put f at value = λ (other : ℕ). if other == at then value else f other
 
--- Says that, beginning with `first`, each page of a list links to the next page, and the last page
--- links to `end`.
+-- Says that, beginning with `first`, each page of a list links to the next page, and the last page links to `end`.
 abbrev pub IsLinked : (next : ℕ → ℕ) → (first : ℕ) → List ℕ → (end : ℕ) → Type 0
 IsLinked next first [] end = first ≡ end
 IsLinked next first (x ∷ xs) end = (first ≡ x) × IsLinked next (next x) xs end
@@ -101,20 +98,17 @@ abbrev pub IsDistinct : List ℕ → Type 0
 IsDistinct [] = Unit {0}
 IsDistinct (x ∷ xs) = AllByRecursion (λ y. x ≡ y → ⊥) xs × IsDistinct xs
 
--- Says that a page exists and has the given home: the head of its chain, or `NONE` if the page is
--- free.
+-- Says that a page exists and has the given home: the head of its chain, or `NONE` if the page is free.
 abbrev pub IsIn : (pages : ℕ) → (home : ℕ → ℕ) → (where_to page : ℕ) → Type 0
 IsIn pages home where_to page = (page < pages) × (home page ≡ where_to)
 
--- Says that a chain is empty, or begins with its head and follows links to the tail that the head
--- stores.
+-- Says that a chain is empty, or begins with its head and follows links to the tail that the head stores.
 abbrev pub IsChain : (pages : ℕ) → (next tail home : ℕ → ℕ) → (head : ℕ) → List ℕ → Type 0
 IsChain pages next tail home head [] = Unit {0}
 IsChain pages next tail home head (x ∷ xs) =
     (x ≡ head) × Runs next x xs (tail head) × IsDistinct (x ∷ xs) × AllByRecursion (IsIn pages home head) (x ∷ xs)
 
--- Says that the pages of a pool are linked consistently. No page is in two lists, because each page
--- has one home.
+-- Says that the pages of a pool are linked consistently. No page is in two lists, because each page has one home.
 pub record IsLinkedUp (pages : ℕ) (next tail : ℕ → ℕ) (first : ℕ) (l : Lists) : Type 0 where
   pub few : pages ≤ MOST_PAGES
   pub many : length l.chains ≡ pages

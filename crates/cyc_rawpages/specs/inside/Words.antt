@@ -6,8 +6,7 @@ use Rattle.cyc_rawpages.specs.declared.cells.Cells.{Cells}
 use Rattle.cyc_rawpages.specs.declared.cells.Lease.{Lease}
 use Rattle.cyc_rawpages.specs.inside.Ownership.{IsFilled}
 
--- The readable part of a block: its head words, the words after them, and the number of initialised words, counted from the
--- first.
+-- The readable part of a block: its head words, the words after them, and the number of initialised words, counted from the first.
 pub record Parts : Type 0 where
   pub heads : List ℕ
   pub words : List ℕ

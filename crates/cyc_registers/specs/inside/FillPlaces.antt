@@ -1,4 +1,4 @@
--- The places chosen to fill delay slots, by the homes and a table of the live candidate slots.
+-- The code positions chosen to fill delay slots, computed from the homes and a table of the live candidate slots.
 use Rattle.std.specs.Prelude.{◌≡◌, ℕ, ◌+◌, ◌<◌, Bool, true, false, ◌==◌, ◌&&◌, not, nat_lt, if◌then◌else◌, List, length, Option, Some, slice_get, slice_set, bit_and}
 use Rattle.cyc_plain.specs.declared.instruction.Comparison.{Comparison}
 use Rattle.cyc_plain.specs.declared.instruction.Instruction.{Instruction}
@@ -10,17 +10,17 @@ use Rattle.cyc_registers.specs.inside.Fills.{fills_at}
 use Rattle.cyc_registers.specs.inside.Interference.{home_of}
 use Rattle.cyc_registers.specs.inside.Masks.{mask_at}
 
--- The slots that share the register of this home. `holders` lists the slots of each register.
+-- Returns the slots that share the register of the given home. `holders` lists the slots of each register.
 abbrev pub holders_of : (holders : List ℕ) → Home → ℕ
 holders_of holders homes.Memory = 0
 holders_of holders (homes.Both register) = mask_at holders register
 holders_of holders (homes.Register register) = mask_at holders register
 
--- The slot has no register, or no slot with its register is live after the instruction at `index`.
+-- Returns true if the slot has no register, or no slot with its register is live after the instruction at `index`.
 abbrev pub is_free : (holders live : List ℕ) → List Home → (index slot : ℕ) → Bool
 is_free holders live hs index slot = bit_and (mask_at live (index + 1)) (holders_of holders (home_of hs slot)) == 0
 
--- The target of the branch at `index` is an instruction that may fill its delay slot.
+-- Returns true if the target of the branch at `index` is an instruction that may fill the branch's delay slot.
 abbrev pub may_fill : (holders live : List ℕ) → List Home → (index : ℕ) → Option Instruction → Bool
 may_fill holders live hs index (Some (instructions.Move destination source)) = is_free holders live hs index destination
 may_fill holders live hs index (Some (instructions.Unary operator destination operand)) =
@@ -29,7 +29,7 @@ may_fill holders live hs index (Some (instructions.Binary operator destination l
     is_free holders live hs index destination
 may_fill holders live hs index other = false
 
--- The places left after the branch at `index` has excluded its target, unless the target may fill its delay slot.
+-- Returns the filling positions left after the branch at `index` has excluded its target, unless the target may fill its delay slot.
 abbrev pub barring : (holders live : List ℕ) → List Home → List Instruction → (index : ℕ) → Instruction
     → (fills : List Bool) → List Bool
 barring holders live hs code index (instructions.Branch comparison left right target) fills =
@@ -38,7 +38,7 @@ barring holders live hs code index (instructions.Branch comparison left right ta
     else fills
 barring holders live hs code index i fills = fills
 
--- The places left after the first `count` instructions have excluded their targets.
+-- Says that `fills` lists the positions left after the first `count` instructions have excluded their targets.
 pub record AreLeft (holders live : List ℕ) (hs : List Home) (code : List Instruction) (count : ℕ) (fills : List Bool) : Type 0 where
   pub as_many : length fills ≡ length code
   pub each : (index target : ℕ) (comparison : Comparison) (left right : Operand) (i : Instruction) → index < count

@@ -1,5 +1,5 @@
--- Delay slots filled from the branch target: the places whose word may be computed before each branch to them, whether the branch is taken
--- or not.
+-- Delay slots filled from the branch target: the code positions whose word may be computed before each branch to them, whether the branch
+-- is taken or not.
 use Rattle.std.specs.Prelude.{◌≡◌, ℕ, suc, Bool, true, false, List, slice_index_or}
 use Rattle.cyc_plain.specs.declared.instruction.Comparison.{Comparison}
 use Rattle.cyc_plain.specs.declared.instruction.Instruction.{Instruction}
@@ -11,12 +11,12 @@ use Rattle.cyc_registers.specs.declared.home.Home.{Home}
 use Rattle.cyc_registers.specs.inside.Interference.{HasRegister}
 use Rattle.cyc_registers.specs.inside.Liveness.{IsLiveAt}
 
--- The place at `target` fills delay slots. A place without an entry does not.
+-- Returns true if the instruction at `target` fills delay slots. A position without an entry in the list does not fill any.
 abbrev pub fills_at : List Bool → (target : ℕ) → Bool
 fills_at fills target = slice_index_or fills target false
 
--- At each branch to a place that fills delay slots, the register written there holds no word that is live if the branch is not taken. Other
--- places than the listed ones may qualify too.
+-- Says that at each branch to a filling position, the register written at that position holds no word that is live if the branch is not
+-- taken. Positions that are not listed may qualify too.
 abbrev pub AreFillable : Program → Routine → List Home → (fills : List Bool) → Type 0
 AreFillable program r hs fills =
     (index target d a k : ℕ) (comparison : Comparison) (left right : Operand) (i : Instruction)

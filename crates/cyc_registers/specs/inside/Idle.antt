@@ -1,5 +1,5 @@
--- Idle instructions: control always continues after them, and what they write is dead or already in its register. Idle instructions need no
--- machine code.
+-- Idle instructions: control always continues after them, and each word that they write is never read or is already in its register. Idle
+-- instructions need no machine code.
 use Rattle.std.specs.Prelude.{◌≡◌, ℕ, suc, ◌<◌, ◌≤◌, ◌⊎◌, Bool, true, false, List, slice_index_or}
 use Rattle.cyc_plain.specs.declared.instruction.BinaryOperator.{BinaryOperator}
 use Rattle.cyc_plain.specs.declared.instruction.BinaryOperator.TheVariants as operators
@@ -16,41 +16,41 @@ use Rattle.cyc_registers.specs.declared.home.Home.TheVariants as homes
 use Rattle.cyc_registers.specs.inside.Interference.{HasRegister, is_kept, home_of}
 use Rattle.cyc_registers.specs.inside.Liveness.{IsLiveAt}
 
--- An operator that has a result for all words.
+-- Returns true for an operator that has a result for all operand words.
 abbrev pub always_has_result : BinaryOperator → Bool
 always_has_result operators.Divide = false
 always_has_result operators.Remainder = false
 always_has_result operator = true
 
--- The comparison of the two operands never holds.
+-- Says that the two operands are constants whose comparison does not hold.
 abbrev pub NeverHolds : Comparison → (left right : Operand) → Type 0
 NeverHolds comparison (operands.Word left) (operands.Word right) = compares comparison left right ≡ false
 NeverHolds comparison left right = ⊥
 
--- The slot is in a register only and is not live after the instruction at `index`.
+-- Says that the slot is in a register only and is not live after the instruction at `index`.
 abbrev pub IsUnused : Program → Routine → List Home → (index slot : ℕ) → Type 0
 IsUnused program r hs index slot = (is_kept (home_of hs slot) ≡ false) × (IsLiveAt program r slot (suc index) → ⊥)
 
--- The moved word is already in the slot's register, which is its only home.
+-- Says that the moved word is already in the slot's register, which is its only home.
 abbrev pub IsThere : List Home → (slot : ℕ) → Operand → Type 0
 IsThere hs slot (operands.Slot number) =
     (register : ℕ) × (home_of hs slot ≡ homes.Register register) × HasRegister hs number register
 IsThere hs slot (operands.Word word) = ⊥
 
--- The place at `index` is idle. A place without an entry is not.
+-- Returns true if the list marks the instruction at `index` as idle. An instruction without an entry is not idle.
 abbrev pub idle_at : List Bool → (index : ℕ) → Bool
 idle_at idle index = slice_index_or idle index false
 
--- The places from `first` up to `end` are idle.
+-- Says that the instructions from `first` up to `end`, exclusive, are idle.
 abbrev pub AreIdleFrom : (idle : List Bool) → (first end : ℕ) → Type 0
 AreIdleFrom idle first end = (k : ℕ) → first ≤ k → k < end → idle_at idle k ≡ true
 
--- An instruction falls through, or jumps forward over idle places only.
+-- Says that an instruction falls through, or jumps forward over idle instructions only.
 abbrev pub LeadsOver : (idle : List Bool) → (index : ℕ) → Instruction → Type 0
 LeadsOver idle index (instructions.Jump target) = (suc index ≤ target) × AreIdleFrom idle (suc index) target
 LeadsOver idle index i = ⊥
 
--- A jump is idle if it leads to the next place or skips only idle places.
+-- Says that an instruction is idle; a jump is idle if it jumps to the next instruction or skips only idle ones.
 abbrev pub IsIdle : Program → Routine → List Home → (idle : List Bool) → (index : ℕ) → Instruction → Type 0
 IsIdle program r hs idle index (instructions.Move destination source) =
     (source ≡ operands.Slot destination) ⊎ (IsUnused program r hs index destination ⊎ IsThere hs destination source)
@@ -64,7 +64,7 @@ IsIdle program r hs idle index (instructions.Branch comparison left right target
     (target ≡ suc index) ⊎ NeverHolds comparison left right
 IsIdle program r hs idle index i = ⊥
 
--- Each place listed as idle is idle. Places outside this definition may also be idle.
+-- Says that each instruction listed as idle is idle. Unlisted instructions may be idle too.
 abbrev pub AreIdle : Program → Routine → List Home → (idle : List Bool) → Type 0
 AreIdle program r hs idle =
     (index : ℕ) (i : Instruction) → At r index i → idle_at idle index ≡ true → IsIdle program r hs idle index i

@@ -1,4 +1,4 @@
--- The places listed as idle, by the homes and a table of the live candidate slots.
+-- The instructions listed as idle, computed from the homes and a table of the live candidate slots.
 use Rattle.std.specs.Prelude.{ℕ, zero, suc, ◌+◌, Bool, true, false, ◌==◌, ◌&&◌, ◌||◌, not, nat_lt, List, bit_and}
 use Rattle.cyc_plain.specs.declared.instruction.Comparison.{Comparison}
 use Rattle.cyc_plain.specs.declared.instruction.Comparison.TheVariants as comparisons
@@ -13,30 +13,30 @@ use Rattle.cyc_registers.specs.inside.Interference.{is_kept, home_of}
 use Rattle.cyc_registers.specs.inside.Idle.{always_has_result}
 use Rattle.cyc_registers.specs.inside.Masks.{mask_at}
 
--- A branch compares a word with that word in a way that never holds.
+-- Returns true if a branch compares two equal constants for inequality, so that its comparison never holds.
 abbrev pub never_holds : Comparison → (left right : Operand) → Bool
 never_holds comparisons.NotEqual (operands.Word left) (operands.Word right) = left == right
 never_holds comparison left right = false
 
--- The first home is a register only, and the second home has that register.
+-- Returns true if the first home is a register only, and the second home has the first one's register.
 abbrev pub shares_register : (home other : Home) → Bool
 shares_register (homes.Register register) (homes.Register other) = register == other
 shares_register (homes.Register register) (homes.Both other) = register == other
 shares_register home other = false
 
--- The slot is a candidate that is not live, by the table, after the instruction at `index`.
+-- Returns true if the slot is a candidate that, by the liveness table, is not live after the instruction at `index`.
 abbrev pub is_unused : (masks live : List ℕ) → List Home → (index slot : ℕ) → Bool
 is_unused masks live hs index slot =
     nat_lt 0 (mask_at masks slot)
     && (bit_and (mask_at live (index + 1)) (mask_at masks slot) == 0 && not (is_kept (home_of hs slot)))
 
--- `count` slots from `first` on are unused.
+-- Returns true if the `count` slots from `first` on are unused.
 abbrev pub are_unused : (masks live : List ℕ) → List Home → (index first count : ℕ) → Bool
 are_unused masks live hs index first zero = true
 are_unused masks live hs index first (suc count) =
     are_unused masks live hs index first count && is_unused masks live hs index (first + count)
 
--- The moved word is already in the slot's register, which is its only home.
+-- Returns true if the moved word is already in the slot's register, which is its only home.
 abbrev pub is_there : List Home → (slot : ℕ) → Operand → Bool
 is_there hs slot (operands.Slot number) = shares_register (home_of hs slot) (home_of hs number)
 is_there hs slot (operands.Word word) = false

@@ -1,5 +1,5 @@
--- Interference: the conditions for correct homes of a function's slots. Slots that are live simultaneously share no register. A slot live
--- across a call is in memory too, or in a callee-saved register.
+-- Interference: the conditions for correct homes (registers or memory) of a function's slots. Slots that are live simultaneously share no
+-- register. A slot live across a call is in memory too, or in a callee-saved register.
 use Rattle.std.specs.Prelude.{◌≡◌, ℕ, suc, ◌+◌, ◌<◌, ◌≤◌, Bool, true, false, if◌then◌else◌, List, length, nat_le, sum_by, take, Option, Some, None, slice_index_or}
 use Rattle.cyc_plain.specs.declared.instruction.Instruction.{Instruction}
 use Rattle.cyc_plain.specs.declared.instruction.Instruction.TheVariants as instructions
@@ -11,13 +11,13 @@ use Rattle.cyc_registers.specs.declared.home.TheConstants.{FIRST_REGISTER, REGIS
 use Rattle.cyc_registers.specs.inside.Bars.{bars}
 use Rattle.cyc_registers.specs.inside.Liveness.{IsLiveAt, IsLiveLater}
 
--- The register of a home, if it has one.
+-- Returns the register of a home, if the home has one.
 abbrev pub register_of : Home → Option ℕ
 register_of homes.Memory = None
 register_of (homes.Both register) = Some register
 register_of (homes.Register register) = Some register
 
--- The slot's home includes its word in memory.
+-- Returns true if the slot's home includes its word in memory.
 abbrev pub is_kept : Home → Bool
 is_kept homes.Memory = true
 is_kept (homes.Both register) = true
@@ -27,7 +27,7 @@ is_kept (homes.Register register) = false
 abbrev pub is_preserved : (register : ℕ) → Bool
 is_preserved register = nat_le FIRST_PRESERVED register
 
--- The home still holds its word after a call.
+-- Returns true if the home still holds its word after a call.
 abbrev pub outlives : Home → Bool
 outlives homes.Memory = true
 outlives (homes.Both register) = true
@@ -38,48 +38,49 @@ both_count homes.Memory = 0
 both_count (homes.Both register) = 1
 both_count (homes.Register register) = 0
 
--- The number of callee-saved registers of a home: 0 or 1.
+-- Returns the number of callee-saved registers of a home: 0 or 1.
 abbrev pub saved_count : Home → ℕ
 saved_count homes.Memory = 0
 saved_count (homes.Both register) = if is_preserved register then 1 else 0
 saved_count (homes.Register register) = if is_preserved register then 1 else 0
 
--- The home of a slot; memory if none is listed.
+-- Returns the home of a slot; a slot that is not listed has its home in memory.
 abbrev pub home_of : List Home → (slot : ℕ) → Home
 home_of hs slot = slice_index_or hs slot homes.Memory
 
--- The home of the slot has this register.
+-- Says that the home of the slot has the given register.
 abbrev pub HasRegister : List Home → (slot register : ℕ) → Type 0
 HasRegister hs slot register = register_of (home_of hs slot) ≡ Some register
 
--- Correct homes for the slots of a function that saves `saved` registers. Any slot may have a register, and slots may share one.
+-- Says that the homes of a function's slots are correct, if the function saves `saved` callee-saved registers. Any slot may have
+-- a register, and slots may share one.
 pub record AreHomes (program : Program) (r : Routine) (saved : ℕ) (hs : List Home) : Type 0 where
   pub as_many : length hs ≡ r.slots
   pub low : (slot k : ℕ) → HasRegister hs slot k → FIRST_REGISTER ≤ k
   pub high : (slot k : ℕ) → HasRegister hs slot k → k < REGISTERS_END
-  -- Only the callee-saved registers that the function saves are assigned to slots.
+  -- Of the callee-saved registers, only those that the function saves are assigned to slots.
   pub saved_registers : (slot k : ℕ) → HasRegister hs slot k → FIRST_PRESERVED ≤ k → k < FIRST_PRESERVED + saved
   -- A parameter is loaded into a callee-saved register from memory, since the register holds a word of the caller until it is saved. No two
-  -- parameters get one saved register, and no more parameters get one than registers are saved.
+  -- parameters get one saved register, and at most as many parameters get saved registers as the function saves.
   pub arrivals : sum_by saved_count (take r.parameters hs) ≤ saved
   pub arriving : (a c k : ℕ) → HasRegister hs a k → HasRegister hs c k → FIRST_PRESERVED ≤ k → a < r.parameters → c < r.parameters → a ≡ c
   pub few : sum_by both_count hs ≤ MOST_BOTH
-  -- Two slots that are both live later never share a register.
+  -- If two different slots are both live later, they never share a register.
   pub apart : (index a c k : ℕ) → HasRegister hs a k → HasRegister hs c k
       → IsLiveLater program r a index → IsLiveLater program r c index → a ≡ c
-  -- A written slot shares no register with a slot that is live after the write.
+  -- A written slot shares no register with another slot that is live after the write.
   pub made : (index next a d k : ℕ) (i : Instruction) → At r index i → writes program i d ≡ true → leads i index next ≡ true
       → HasRegister hs d k → HasRegister hs a k → IsLiveAt program r a next → a ≡ d
-  -- In a move of several words, no destination shares a register with a source.
+  -- In a move of several words, no destination slot shares a register with a different source slot.
   pub moved : (index destination source count a d k : ℕ) → At r index (instructions.MoveWords destination source count)
       → is_among source count a ≡ true → is_among destination count d ≡ true → HasRegister hs a k → HasRegister hs d k → a ≡ d
-  -- A slot with a register and memory shares its register with no slot, since the register may be reloaded at any time.
+  -- A slot with both a register and memory shares its register with no other slot, since the register may be reloaded at any time.
   pub alone : (a c k : ℕ) → home_of hs a ≡ homes.Both k → HasRegister hs c k → a ≡ c
-  -- At the entry only parameters are live, and no two parameters share a register if either is live.
+  -- At the function's entry only parameters are live, and two parameters share no register if either is live.
   pub entry : (a k : ℕ) → HasRegister hs a k → IsLiveAt program r a 0 → a < r.parameters
   pub parameters : (a c k : ℕ) → HasRegister hs a k → HasRegister hs c k → c < r.parameters → IsLiveAt program r a 0 → a ≡ c
-  -- A slot live after a call that does not return it is in memory too or in a callee-saved register. A slot live in a handler is in memory
-  -- too, since exceptions arrive from calls that have restored no register.
+  -- A slot live after a call that does not return it is also in memory or is in a callee-saved register. A slot live in a handler is also
+  -- in memory, since exceptions arrive from calls that have restored no register.
   pub following : (index function arguments count result a : ℕ) → At r index (instructions.Call function arguments count result)
       → writes program (instructions.Call function arguments count result) a ≡ false → IsLiveAt program r a (suc index) → outlives (home_of hs a) ≡ true
   pub clause : (index first handler a : ℕ) → At r index (instructions.Try first handler)

@@ -1,12 +1,11 @@
--- Liveness: a slot is live at a place if some path from there reaches an instruction that reads it, and no instruction before on the path
--- writes it.
+-- Liveness: a slot is live at a code position if some path from there reaches a read of the slot before any write of the slot.
 use Rattle.std.specs.Prelude.{◌≡◌, ℕ, zero, suc, ◌⊎◌, true, false}
 use Rattle.cyc_plain.specs.declared.instruction.Instruction.{Instruction}
 use Rattle.cyc_plain.specs.declared.instruction.Instruction.TheVariants as instructions
 use Rattle.cyc_plain.specs.inside.Program.{Routine, Program}
 use Rattle.cyc_plain.specs.inside.Uses.{At, reads, writes, leads}
 
--- An instruction that reads the slot is reached after `steps` instructions, and none before it writes the slot.
+-- Says that an instruction that reads the slot is reached after `steps` instructions, none of which writes the slot.
 abbrev pub IsLiveWithin : Program → Routine → (slot steps index : ℕ) → Type 0
 IsLiveWithin program r slot zero index = (i : Instruction) × At r index i × (reads r.results i slot ≡ true)
 IsLiveWithin program r slot (suc steps) index =
@@ -16,7 +15,7 @@ IsLiveWithin program r slot (suc steps) index =
 abbrev pub IsLiveAt : Program → Routine → (slot index : ℕ) → Type 0
 IsLiveAt program r slot index = (steps : ℕ) × IsLiveWithin program r slot steps index
 
--- The slot is live at the start of a handler of the function. An exception can reach it from any call.
+-- Says that the slot is live at the start of a handler of the function. An exception can reach the handler from any call.
 abbrev pub IsLiveInClause : Program → Routine → (slot : ℕ) → Type 0
 IsLiveInClause program r slot =
     (index first handler : ℕ) × At r index (instructions.Try first handler) × IsLiveAt program r slot handler

@@ -1,5 +1,5 @@
--- Sets of candidate slots as bit masks: bit j stands for candidate number j. `masks` maps each slot to its bit, or to 0, so that one pass
--- over the code handles all candidates at once.
+-- Sets of candidate slots as bit masks: bit j stands for candidate number j. `masks` maps each slot to its bit, or to 0 if the slot is no
+-- candidate. One pass over the code thus handles all candidates at once.
 use Rattle.std.specs.Prelude.{◌≡◌, ℕ, zero, suc, ◌+◌, ◌<◌, if◌then◌else◌, List, Some, bit_or, slice_get, slice_index_or}
 use Rattle.std.specs.Int.{bit_at}
 use Rattle.cyc_plain.specs.declared.instruction.Instruction.{Instruction}
@@ -14,15 +14,15 @@ use Rattle.cyc_plain.specs.inside.Uses.{At}
 use Rattle.cyc_registers.specs.declared.uses.Uses.{Uses}
 use Rattle.cyc_registers.specs.inside.Bars.{is_crossing}
 
--- The mask of a slot or of a place in the code, or 0 if there is none.
+-- Returns the mask of a slot or of a position in the code, or 0 if there is none.
 abbrev pub mask_at : List ℕ → (place : ℕ) → ℕ
 mask_at masks place = slice_index_or masks place 0
 
--- The slot is candidate number j.
+-- Says that the slot is candidate number j.
 abbrev pub HasBit : List ℕ → (slot j : ℕ) → Type 0
 HasBit masks slot j = bit_at (mask_at masks slot) j ≡ 1
 
--- Masks of the candidates with numbers below `next`, each the bit of one slot.
+-- Says that `masks` are masks of the candidates with numbers below `next`, each the bit of one slot.
 pub record AreMasks (masks : List ℕ) (next : ℕ) : Type 0 where
   pub below : (slot j : ℕ) → HasBit masks slot j → j < next
   pub one : (a c j : ℕ) → HasBit masks a j → HasBit masks c j → a ≡ c
@@ -32,7 +32,7 @@ abbrev pub operand_mask : List ℕ → Operand → ℕ
 operand_mask masks (operands.Slot number) = mask_at masks number
 operand_mask masks (operands.Word word) = 0
 
--- The mask of `count` slots from `first` on.
+-- Returns the mask of the `count` slots from `first` on.
 abbrev pub range_mask : List ℕ → (first count : ℕ) → ℕ
 range_mask masks first zero = 0
 range_mask masks first (suc count) = bit_or (range_mask masks first count) (mask_at masks (first + count))
@@ -45,7 +45,7 @@ request_read_mask masks (requests.Allocate destination handle words) =
 request_read_mask masks (requests.Free address) = operand_mask masks address
 request_read_mask masks request = 0
 
--- The mask of the slots that an instruction reads.
+-- Returns the mask of the slots that an instruction reads.
 abbrev pub read_mask : List ℕ → (results : ℕ) → Instruction → ℕ
 read_mask masks results (instructions.Move destination source) = operand_mask masks source
 read_mask masks results (instructions.MoveWords destination source count) = range_mask masks source count
@@ -77,7 +77,7 @@ request_write_mask masks (requests.OpenDynamic destination) = mask_at masks dest
 request_write_mask masks (requests.Allocate destination handle words) = mask_at masks destination
 request_write_mask masks request = 0
 
--- The mask of the slots that an instruction writes and does not exclude from registers.
+-- Returns the mask of the slots that an instruction writes and does not exclude from registers.
 abbrev pub write_mask : List ℕ → Program → Instruction → ℕ
 write_mask masks program (instructions.Move destination source) = mask_at masks destination
 write_mask masks program (instructions.MoveWords destination source count) = range_mask masks destination count
@@ -94,7 +94,7 @@ write_mask masks program (instructions.Ask request) = request_write_mask masks r
 write_mask masks program (instructions.CountLexical destination) = mask_at masks destination
 write_mask masks program instruction = 0
 
--- The mask of the slots that an instruction excludes from registers.
+-- Returns the mask of the slots that an instruction excludes from registers.
 abbrev pub bar_mask : List ℕ → Instruction → ℕ
 bar_mask masks (instructions.MoveWords destination source count) =
     if is_crossing destination source count
@@ -105,12 +105,12 @@ bar_mask masks (instructions.Try first handler) = range_mask masks first RECORD_
 bar_mask masks (instructions.Leave first) = range_mask masks first RECORD_WORDS
 bar_mask masks instruction = 0
 
--- The effect of an instruction on the candidates: what it reads, writes and excludes.
+-- Returns the effect of an instruction on the candidates: the slots that it reads, writes and excludes from registers.
 abbrev pub uses_of : Program → (results : ℕ) → (masks : List ℕ) → Instruction → Uses
 uses_of program results masks i =
     record { reads = read_mask masks results i; writes = write_mask masks program i; bars = bar_mask masks i }
 
--- A table of the effects of all instructions of a function.
+-- Says that a table lists the effects of all instructions of a function on the candidates.
 abbrev pub AreUses : Program → Routine → (masks : List ℕ) → List Uses → Type 0
 AreUses program r masks table =
     (index : ℕ) (i : Instruction) → At r index i → slice_get table index ≡ Some (uses_of program r.results masks i)

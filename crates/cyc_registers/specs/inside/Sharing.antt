@@ -1,5 +1,5 @@
--- The check of the homes. `holders` lists the slots of each register, and `groups` the sets of more than one slot among these, which must
--- never interfere.
+-- The check of the homes (registers or memory of slots). `holders` lists the slots of each register, and `groups` lists those of these
+-- sets that have more than one slot. The slots of a group must never interfere.
 use Rattle.std.specs.Prelude.{◌≡◌, ℕ, suc, ◌+◌, ◌-◌, ◌<◌, ◌⊎◌, Bool, true, false, ◌==◌, ◌&&◌, ◌||◌, nat_le, nat_lt, if◌then◌else◌, List, [], ◌∷◌, ◌++◌, length, Some, None, slice_get, bit_and, bit_or}
 use Rattle.std.specs.Int.{bit_at}
 use Rattle.cyc_plain.specs.declared.instruction.Instruction.{Instruction}
@@ -16,16 +16,16 @@ use Rattle.cyc_registers.specs.inside.LivenessTable.{after_mask, is_within, may_
 use Rattle.cyc_registers.specs.declared.uses.Uses.{Uses}
 use Rattle.cyc_registers.specs.inside.Masks.{mask_at, uses_of}
 
--- The set has at most one slot.
+-- Returns true if the set has at most one slot.
 abbrev pub is_single : (slots : ℕ) → Bool
 is_single slots = bit_and slots (slots - 1) == 0
 
--- A register that slots may have if the function saves `saved` callee-saved registers.
+-- Returns true for a register that slots may have if the function saves `saved` callee-saved registers.
 abbrev pub is_given : (saved register : ℕ) → Bool
 is_given saved register = nat_le FIRST_REGISTER register && nat_lt register (FIRST_PRESERVED + saved)
 
--- The home of a slot is correct in isolation, and `holders` lists the slot. A slot with a register and memory has the register for itself.
--- A slot live in a handler is in memory. A slot live after a call is in memory or in a callee-saved register.
+-- Returns true if the home of a slot is correct in isolation, and `holders` lists the slot. A slot with a register and memory shares its
+-- register with no slot. A slot live in a handler is in memory. A slot live after a call is in memory or in a callee-saved register.
 abbrev pub suits : (masks live holders : List ℕ) → (calls clauses barred parameters saved slot : ℕ) → Home → Bool
 suits masks live holders calls clauses barred parameters saved slot homes.Memory = true
 suits masks live holders calls clauses barred parameters saved slot (homes.Both register) =
@@ -41,32 +41,32 @@ abbrev pub AllSuit : (masks live holders : List ℕ) → (calls clauses barred p
 AllSuit masks live holders calls clauses barred parameters saved hs =
     (slot : ℕ) → slot < length hs → suits masks live holders calls clauses barred parameters saved slot (home_of hs slot) ≡ true
 
--- The list of groups with a set appended if it has more than one slot.
+-- Returns the list of groups, with a set of slots appended if the set has more than one slot.
 abbrev pub with_group : (groups : List ℕ) → (slots : ℕ) → List ℕ
 with_group groups slots = if is_single slots then groups else groups ++ slots ∷ []
 
--- Each of the first `count` registers is shared by at most one slot, or its set of slots is a listed group.
+-- Says that each of the first `count` registers is held by at most one slot, or its set of slots is a listed group.
 abbrev pub AreGroups : (holders : List ℕ) → (count : ℕ) → (groups : List ℕ) → Type 0
 AreGroups holders count groups =
     (register : ℕ) → register < count
     → (is_single (mask_at holders register) ≡ true) ⊎ ((number : ℕ) × (slice_get groups number ≡ Some (mask_at holders register)))
 
--- The slots live at an instruction; for a move of several words, also the destinations. No two of the slots live at an instruction may
--- share a register.
+-- Returns the slots live at an instruction; for a move of several words, also the destinations. No two of the slots live at an
+-- instruction may share a register.
 abbrev pub standing_mask : Uses → Instruction → (index : ℕ) → List ℕ → ℕ
 standing_mask uses (instructions.MoveWords destination source count) index live = bit_or (mask_at live index) uses.writes
 standing_mask uses i index live = mask_at live index
 
--- The set contains at most one slot of each group.
+-- Says that the set contains at most one slot of each group.
 abbrev pub AreSingle : (groups : List ℕ) → (set : ℕ) → Type 0
 AreSingle groups set = (number slots : ℕ) → slice_get groups number ≡ Some slots → is_single (bit_and set slots) ≡ true
 
--- The set contains at most one slot of each group, bit by bit.
+-- Says, bit by bit, that the set contains at most one slot of each group.
 abbrev pub AreAlone : (groups : List ℕ) → (set : ℕ) → Type 0
 AreAlone groups set =
     (number slots j l : ℕ) → slice_get groups number ≡ Some slots → bit_at (bit_and set slots) j ≡ 1 → bit_at (bit_and set slots) l ≡ 1 → j ≡ l
 
--- If a slot of the group is written, no other slot of the group is written or live after.
+-- Returns true if no slot of the group is written, or at most one slot of the group is written or live after the instruction.
 abbrev pub is_apart : (written following slots : ℕ) → Bool
 is_apart written following slots = bit_and written slots == 0 || is_single (bit_and (bit_or written following) slots)
 
@@ -74,17 +74,17 @@ abbrev pub AreApart : (groups : List ℕ) → (written following : ℕ) → Type
 AreApart groups written following =
     (number slots : ℕ) → slice_get groups number ≡ Some slots → is_apart written following slots ≡ true
 
--- No two slots of a group interfere at an instruction: no two are live there, and none is written while another is live after.
+-- Says that no two slots of a group interfere at an instruction: no two are live there, and none is written while another is live after.
 abbrev pub AreApartAt : Uses → (live groups : List ℕ) → Instruction → (index : ℕ) → Type 0
 AreApartAt uses live groups i index =
     AreAlone groups (standing_mask uses i index live) × AreApart groups uses.writes (after_mask i index live)
 
--- No two slots of a group interfere at any of the first `count` instructions.
+-- Says that no two slots of a group interfere at any of the first `count` instructions.
 abbrev pub NeverMeet : Program → Routine → (masks live groups : List ℕ) → (count : ℕ) → Type 0
 NeverMeet program r masks live groups count =
     (index : ℕ) (i : Instruction) → At r index i → index < count → AreApartAt (uses_of program r.results masks i) live groups i index
 
--- The home suits the slot, whatever other slots have its register.
+-- Says that the home suits the slot, no matter what other slots have its register.
 pub record Suits (program : Program) (r : Routine) (slot : ℕ) (home : Home) : Type 0 where
   pub entry : (k : ℕ) → register_of home ≡ Some k → IsLiveAt program r slot 0 → slot < r.parameters
   pub following : (index function arguments count result : ℕ) → At r index (instructions.Call function arguments count result)
@@ -93,7 +93,7 @@ pub record Suits (program : Program) (r : Routine) (slot : ℕ) (home : Home) : 
       → IsLiveAt program r slot handler → is_kept home ≡ true
   pub barred : (index : ℕ) (i : Instruction) → At r index i → bars i slot ≡ true → register_of home ≡ None
 
--- A slot with a register is a candidate, and `holders` lists it under that register.
+-- Says that a slot with a register is a candidate, and `holders` lists it under that register.
 abbrev pub AreHolders : (masks holders : List ℕ) → List Home → Type 0
 AreHolders masks holders hs =
     (slot k : ℕ) → HasRegister hs slot k

@@ -1,5 +1,4 @@
--- The mathematical views of declared entities and of locals; the views omit the memory layout of types and
--- signatures.
+-- The mathematical views of declared entities and of locals; the views omit the memory layout of types and signatures.
 use Rattle.std.specs.Prelude.{◌≡◌, ℕ, nat_eq, if◌then◌else◌, List, [], ◌∷◌, map, reverse, get_or, Option, Some, None}
 use Rattle.std.specs.declared.vec.Vec.{Vec}
 use Rattle.std.specs.declared.alloc.Global.{Global}
@@ -62,8 +61,7 @@ abbrev pub newest : List LocalVariable → ℕ → Option LocalVariable
 newest [] x = None
 newest (v ∷ vs) x = if nat_eq v.name x then Some v else newest vs x
 
--- says that the table contains the index of the newest local of each name, and that each binding stores the
--- index it hides
+-- says that the table contains the index of the newest local of each name, and that each binding stores the index it hides
 abbrev pub Finds : List (Option ℕ) → List Binding → Type 0
 Finds table bs = ((x : ℕ) → get_or table x None ≡ newest_place (local_names (locals_of bs)) x)
     × (map (λ (b : Binding). b.hidden) (reverse bs) ≡ hidden_by (local_names (locals_of bs)))

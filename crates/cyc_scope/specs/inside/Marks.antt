@@ -6,8 +6,7 @@ use Rattle.cyc_types.specs.declared.scope.Kind.{Kind}
 use Rattle.cyc_types.specs.typing.Scopes.{LocalVariable, Scope, with_scope}
 use Rattle.cyc_scope.specs.declared.scope.Mark.{Mark}
 
--- says that the region numbers of locals never increase from the newest local to the oldest, and that the newest
--- has at most `region`
+-- says that the region numbers of locals never increase from the newest local to the oldest, and that the newest has at most `region`
 abbrev pub Descends : ℕ → List LocalVariable → Type 0
 Descends region [] = Unit {0}
 Descends region (v ∷ vs) = (v.region ≤ region) × Descends v.region vs
@@ -27,8 +26,7 @@ mark_of g = record {
   counters = g.counters;
 }
 
--- The scope without the names added since the mark was taken. Numbers that were used and region
--- names that were taken stay so.
+-- The scope without the names added since the mark was taken. Numbers that were used and region names that were taken stay so.
 abbrev pub left_to : Mark → Scope → Scope
 left_to m g = record g {
   names = drop (length g.names - m.names) g.names;

@@ -1,5 +1,4 @@
--- The code finds a name in a table that stores the index of the name's first entry, or of its
--- newest entry.
+-- The code finds a name in a table that stores the index of the name's first entry, or of its newest entry.
 use Rattle.std.specs.Prelude.{ℕ, suc, nat_eq, if◌then◌else◌, List, [], ◌∷◌, map, length, Option, Some, None, option_map}
 use Rattle.cyc_types.specs.typing.Scopes.{Exception, Meaning, Unknown, Declared}
 
@@ -26,8 +25,7 @@ abbrev pub meaning_by : Option Declared → Meaning
 meaning_by None = Unknown
 meaning_by (Some d) = d.meaning
 
--- the index of the newest entry with the name x; the names are listed newest first, but indices count from the
--- oldest
+-- the index of the newest entry with the name x; the names are listed newest first, but indices count from the oldest
 abbrev pub newest_place : List ℕ → ℕ → Option ℕ
 newest_place [] x = None
 newest_place (y ∷ ys) x = if nat_eq y x then Some (length ys) else newest_place ys x

@@ -1,5 +1,4 @@
--- A safe ordinary instruction does not trap, and changes registers and memory as its definition
--- says.
+-- A safe ordinary instruction does not trap, and changes registers and memory as its definition says.
 use Rattle.std.proofs.Common.{◌≡◌, ◌≢◌, ℕ, ◌+◌, ◌-◌, ◌%◌, ◌^◌, Bool, true, false, not, ◌&&◌, ◌||◌, List, [], ◌∷◌, drop, Option, None, Some, refl, sym, ap, subst, ◌∙◌, arith, inl, inr, ◌++◌}
 use Rattle.std.specs.Prelude.{◌==◌, if◌then◌else◌, slice_get, unwrap_or, is_none}
 use Rattle.std.proofs.lemmas.Bool.{cases_eq, eq-eqb, ne_eqb, or_from, and_left, and_right, not_from_true}
@@ -37,8 +36,7 @@ use Rattle.cyc_select.specs.inside.Machine as labelled
 use Rattle.cyc_select.proofs.relation.Cells.{IsCell, IsLive, cell, place_of-data, place_of-stack}
 use Rattle.cyc_select.proofs.effects.Views.{Contents, saved_in, View, Width, OneWord, OneByte, load_op, store_op, word_place, loaded_part, stored_word, answered_registers, does_r, does_w, IsSafe, IsWritable, moved, live_place, view_put, view_product, view_store, view_saved}
 
--- If the machine performs an instruction without an event, the next state is running, at the next
--- line.
+-- If the machine performs an instruction without an event, the next state is running, at the next line.
 performs_to : (c : Configuration) (i : Instr) (left : machines.State) (next : State) → executes (machine_of c) i ≡ Does Ran left → left.phase ≡ phases.Running
     → Performs c i next → next ≡ Running (from_world (record { machine = left; output = c.output; input = c.input }) (c.line + 1))
 performs_to c i left next does running (event, s, acts, is) =
@@ -65,8 +63,7 @@ division_has_result a b nonzero least = or_from (b == 0) (a == 2 ^ 31 && b == 2 
   | inr other ↦ and_left (a == 2 ^ 31) (b == 2 ^ 32 - 1) (ne_eqb a (2 ^ 31) other)
 ])
 
--- A load does not trap if its address is mapped. A store does not trap if its address is mapped and
--- outside the text range.
+-- A load does not trap if its address is mapped. A store does not trap if its address is mapped and outside the text range.
 module _ (c : Configuration) (base : Register) (offset : ℕ) where
   abbrev goes_to : Width → Place
   goes_to width = place_of (memory_of c) (word_place width (memory_address (word_in c base.number) offset))
@@ -89,8 +86,7 @@ module _ (c : Configuration) (base : Register) (offset : ℕ) where
       let i : Instr = Memory StoreByte source base offset in
       performs_to c i (after (machine_of c) i) next (executes-performs (machine_of c) i (no_cause false _ _ _ _ refl aligned there live apart)) refl goes
 
--- The address of each word of the data range or the stack is mapped, not in freed memory and not in
--- the text range.
+-- The address of each word of the data range or the stack is mapped, not in freed memory and not in the text range.
 module _ (globals stack : ℕ) (c : Configuration) (r : Words) (w : Contents) (view : View globals stack c r w) where
   stands : (a : ℕ) → IsCell globals stack a → (is_nowhere (place_of (memory_of c) a) ≡ false) × (is_dead (memory_of c) (place_of (memory_of c) a) ≡ false) × (is_text (place_of (memory_of c) a) ≡ false)
   stands a (inl (aligned, from, below)) =
@@ -154,8 +150,7 @@ module _ (globals stack : ℕ) (c : Configuration) (r : Words) (w : Contents) (v
   performed (JumpRegisterLink destination source) next safe goes = absurd safe
   performed (Exception op code) next safe goes = absurd safe
 
-  -- After a safe instruction, the configuration has the registers and the memory that the
-  -- instruction's definition computes.
+  -- After a safe instruction, the configuration has the registers and the memory that the instruction's definition computes.
   pub moved_view : (i : Instr) → IsSafe globals stack i r → View globals stack (moved c i) (does_r i r w) (does_w i r w)
   moved_view (Immediate op target source half) safe =
       view_put globals stack c r w view target.number (immediate_result op (word_in c source.number) half) (immediate_result op (r source.number) half) (c.line + 1) target.in_range safe
@@ -274,8 +269,7 @@ called c code service asks =
     let fine : cause_of (machine_of c) (Exception Syscall code) ≡ None = ap (λ (o : Option Service). if is_none o then Some causes.BadService else None) asks in
     executes-performs (machine_of c) (Exception Syscall code) fine ∙ ap (λ (o : Option Service). calls o (machine_of c)) asks
 
--- `Served` says that serving a request in a configuration causes an event and leads to the state
--- `next`.
+-- `Served` says that serving a request in a configuration causes an event and leads to the state `next`.
 abbrev Served : Configuration → Service → State → Type 0
 Served c service next =
     (event : Event) × (s : machines.State) × Serves service (machine_of c) event s
@@ -285,8 +279,7 @@ service_serves : (c : Configuration) (code : TrapCode) (service : Service) (numb
 service_serves c code service number next is_number asks (event, s, acts, is) =
     (event, s, subst (λ (a : Action). Acts a (machine_of c) event s) (called c code service (ap (service_of (core_of c)) is_number ∙ asks)) acts, is)
 
--- If a service reports an event and leaves a machine state, these two determine the next observed
--- state.
+-- If a service reports an event and leaves a machine state, these two determine the next observed state.
 seen : (c : Configuration) (next : State) (event reported_event : Event) (s left : machines.State) → event ≡ reported_event → s ≡ left
     → next ≡ settled (reported (world_of c) event s) (c.line + 1) (reported (world_of c) event s).machine.phase
     → next ≡ settled (reported (world_of c) reported_event left) (c.line + 1) (reported (world_of c) reported_event left).machine.phase
@@ -341,8 +334,7 @@ ends_full c code next number goes =
 
 -- ---- requests to the store
 
--- Returns the call of the store (the heap of regions) that a requested service and its argument
--- registers describe.
+-- Returns the call of the store (the heap of regions) that a requested service and its argument registers describe.
 abbrev pub call_by : Request → (first second : ℕ) → Call
 call_by (requests.OpenLexical destination) first second = services.OpenLexical
 call_by (requests.CloseTo mark) first second = services.CloseTo first

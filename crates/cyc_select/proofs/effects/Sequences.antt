@@ -1,5 +1,4 @@
--- Lemmas for traversals of code: ascending line numbers, code that stands at a line, and
--- consecutive ordinary instructions.
+-- Lemmas for traversals of code: ascending line numbers, code that stands at a line, and consecutive ordinary instructions.
 use Rattle.std.proofs.Common.{◌≡◌, ◌≢◌, ℕ, suc, ◌+◌, ◌<◌, ◌≤◌, ◌%◌, true, List, [], ◌∷◌, ◌++◌, length, Some, slice_get, refl, subst, arith}
 use Rattle.std.specs.Prelude.{Contains}
 use Rattle.std.specs.List.{AllByRecursion, range_with_len}
@@ -47,8 +46,7 @@ rising_inside a n lo [] from rises = tt
 rising_inside a n lo (p ∷ places) from (first, rest) =
     (Contains-range a n p (omega arith) (omega (arith, rising_below (suc p) (a + n) places rest)), rising_inside a n (suc p) places (omega arith) rest)
 
--- A stretch of a run stays a stretch of a run when its invariant and its final condition are
--- weakened.
+-- A stretch of a run stays a stretch of a run when its invariant and its final condition are weakened.
 pub comes_map : (m : Machine) (Way Goal Way' Goal' : m.State → Type 0) (places : List m.Place) (s : m.State)
     → ((t : m.State) → Way t → Way' t) → ((t : m.State) → Goal t → Goal' t) → Comes m Way Goal places s → Comes m Way' Goal' places s
 comes_map m Way Goal Way' Goal' [] s ways goals comes = goals s comes
@@ -72,14 +70,12 @@ pub stands_back : (code : Labelled) (k : ℕ) (xs ys : List Line) → Stands cod
 stands_back code k [] ys stands = stands_to code k (k + 0) ys (omega arith) stands
 stands_back code k (x ∷ xs) ys (first, rest) = stands_to code (k + 1 + length xs) (k + suc (length xs)) ys (omega arith) (stands_back code (k + 1) xs ys rest)
 
--- If code followed by further lines stands at a line, then the code up to any of its lines stands
--- there too.
+-- If code followed by further lines stands at a line, then the code up to any of its lines stands there too.
 pub stands_until : (code : Labelled) (k : ℕ) (xs : List Line) (y : Line) (ys : List Line) → Stands code k (xs ++ y ∷ ys) → Stands code k (xs ++ y ∷ [])
 stands_until code k [] y ys (first, rest) = (first, tt)
 stands_until code k (x ∷ xs) y ys (first, rest) = (first, stands_until code (k + 1) xs y ys rest)
 
--- If ordinary instructions stand at a line, then each prefix of these instructions stands at the
--- same line.
+-- If ordinary instructions stand at a line, then each prefix of these instructions stands at the same line.
 pub stands_first : (code : Labelled) (k : ℕ) (xs ys : List Instr) → Stands code k (ordinary (xs ++ ys)) → Stands code k (ordinary xs)
 stands_first code k [] ys stands = tt
 stands_first code k (x ∷ xs) ys (first, rest) = (first, stands_first code (k + 1) xs ys rest)
@@ -110,8 +106,7 @@ pub after_w-append : (is js : List Instr) (r : Words) (w : Contents) → after_w
 after_w-append [] js r w = refl
 after_w-append (i ∷ is) js r w = after_w-append is js (does_r i r w) (does_w i r w)
 
--- The byte or word loaded from a word is itself a word, and a word stays a word after a store of a
--- byte or a word into it.
+-- The byte or word loaded from a word is itself a word, and a word stays a word after a store of a byte or a word into it.
 pub part_word : (width : Width) (address word : ℕ) → IsWord word → IsWord (loaded_part width address word)
 part_word OneWord address word is = is
 part_word OneByte address word is = let small = byte-small word (address % 4) in omega (arith, small)

@@ -1,5 +1,4 @@
--- The effect of an ordinary instruction on registers and memory, where both are viewed as functions from numbers
--- to words.
+-- The effect of an ordinary instruction on registers and memory, where both are viewed as functions from numbers to words.
 use Rattle.std.proofs.Common.{◌≡◌, ◌≢◌, ℕ, ◌+◌, ◌-◌, ◌%◌, ◌^◌, ◌<◌, ◌≤◌, false, List, [], length, refl, sym, ap, subst, ◌∙◌, arith, inl, inr}
 use Rattle.std.specs.Prelude.{◌==◌, if◌then◌else◌, slice_set, slice_index}
 use Rattle.std.proofs.lemmas.Bool.{cases_eq, cond-false}
@@ -23,8 +22,7 @@ use Rattle.cyc_plain.proofs.SlotLaws.{put-same, put-other}
 use Rattle.cyc_select.specs.inside.Machine.{Configuration, core_of, memory_of, machine_of, from_world, word_in}
 use Rattle.cyc_select.proofs.relation.Cells.{IsCell, IsLive, cell, place_of-data, place_of-stack, place_of-live, cell-store, cell-stored}
 
--- `Contents` describes memory: the words of the data range and the stack, indexed by address, and
--- the store (the heap).
+-- `Contents` describes memory: the words of the data range and the stack, indexed by address, and the store (the heap).
 pub record Contents : Type 0 where
   pub words : Words
   pub store : StoreState
@@ -106,8 +104,7 @@ does_w i r w = w
 abbrev pub IsWritable : ℕ → Type 0
 IsWritable number = (number == 0) ≡ false
 
--- `IsSafe` holds if an instruction, executed with these registers, does not trap and has its usual
--- effect.
+-- `IsSafe` holds if an instruction, executed with these registers, does not trap and has its usual effect.
 abbrev pub IsSafe : (globals stack : ℕ) → Instr → Words → Type 0
 IsSafe globals stack (Immediate op target source half) r = IsWritable target.number
 IsSafe globals stack (LoadUpper target half) r = IsWritable target.number
@@ -164,8 +161,7 @@ set_register core n v m wide below writable =
     ]
 
 module _ (globals stack : ℕ) (c : Configuration) (r : Words) (w : Contents) (view : View globals stack c r w) where
-  -- After a register is written, the configuration has the registers in which this one is replaced,
-  -- and the same memory.
+  -- After a register is written, the configuration has the registers in which this one is replaced, and the same memory.
   pub view_put : (n v word line : ℕ) → n < 32 → IsWritable n → v ≡ word
       → View globals stack (record c { registers = (with_register (core_of c) n v).registers; line = line }) (put r n word) w
   view_put n v word line below writable same = record {
@@ -204,8 +200,7 @@ module _ (globals stack : ℕ) (c : Configuration) (r : Words) (w : Contents) (v
   pub view_at : (line : ℕ) → View globals stack (record c { line = line }) r w
   view_at line = view_seen line c.output c.input
 
-  -- After HI and LO are written, the configuration has the registers in which these two are
-  -- replaced, and the same memory.
+  -- After HI and LO are written, the configuration has the registers in which these two are replaced, and the same memory.
   pub view_product : (h l high low line : ℕ) → h ≡ high → l ≡ low → View globals stack (record c { high = h; low = l; line = line }) (put (put r 32 high) 33 low) w
   view_product h l high low line same_high same_low = record {
     wide = view.wide;
@@ -278,8 +273,7 @@ module _ (globals stack : ℕ) (c : Configuration) (r : Words) (w : Contents) (v
         | inr other ↦ put-other (cell (memory_of c)) a b word other ∙ (view.mem b b_at ∙ sym (put-other w.words a b word other))
       ]
 
-  -- If the store (the heap of regions) changes, the configuration has the same registers, and the
-  -- memory with the new store.
+  -- If the store (the heap of regions) changes, the configuration has the same registers, and the memory with the new store.
   pub view_stored : (line : ℕ) (store other : StoreState) → other ≡ store → View globals stack (record c { store = other; line = line }) r (record w { store = store })
   view_stored line store other same = record {
     wide = view.wide;
@@ -297,8 +291,7 @@ module _ (globals stack : ℕ) (c : Configuration) (r : Words) (w : Contents) (v
     store = same;
   }
 
-  -- After a word of a live block is written, the configuration has the same registers, and the
-  -- memory in which this word is replaced.
+  -- After a word of a live block is written, the configuration has the same registers, and the memory in which this word is replaced.
   pub view_saved : (a old address v word line : ℕ) → IsLive w.store a old → address ≡ a → v ≡ word
       → View globals stack (record c {
         globals = (stored (memory_of c) (place_of (memory_of c) address) v).globals;

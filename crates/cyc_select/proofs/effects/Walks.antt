@@ -34,8 +34,7 @@ use Rattle.cyc_select.proofs.effects.Effects.{performed, moved_view, loads_live,
 use Rattle.cyc_select.proofs.effects.Sequences.{Rises, comes_map, Stands, after_r, after_w, AreSafe, part_word, does_words_r, does_words_w, safe_ordinary}
 
 module _ (code : Labelled) (formed : IsFormed code) (addresses : ℕ → ℕ) (globals stack : ℕ) where
-  -- `Quiet` says that the state is running with this output and input, or that the effect of the source
-  -- step is already visible (`Late`).
+  -- `Quiet` says that the state is running with this output and input, or that the effect of the source step is already visible (`Late`).
   abbrev pub Quiet : (out rest : List ℕ) → (Late : State → Type 0) → State → Type 0
   Quiet out rest Late t = ((status_of t ≡ simulation.Running) × (output_of t ≡ out) × (input_of t ≡ rest)) ⊎ Late t
 
@@ -165,8 +164,7 @@ module _ (code : Labelled) (formed : IsFormed code) (addresses : ℕ → ℕ) (g
 
   -- ---- words of live blocks
 
-  -- An instruction that loads a word of a live block into a register, followed by a walk (stretch
-  -- of a run), is a walk.
+  -- An instruction that loads a word of a live block into a register, followed by a walk (stretch of a run), is a walk.
   pub walk_load : {Late : State → Type 0} (width : Width) (n k lo hi : ℕ) (out input : List ℕ) (Goal : State → Type 0) (r : Words) (w : Contents) (c : Configuration) (target base : Register) (offset word : ℕ)
       → Now k out input r w c → slice_get code.lines k ≡ Some (lines.Ordinary (Memory (load_op width) target base offset)) → lo ≤ k → IsWritable target.number
       → IsLive w.store (word_place width (memory_address (r base.number) offset)) word → IsWord word
@@ -186,8 +184,7 @@ module _ (code : Labelled) (formed : IsFormed code) (addresses : ℕ → ℕ) (g
         input = now.input;
       })))
 
-  -- An instruction that stores to a word of a live block, followed by a walk (stretch of a run), is
-  -- a walk.
+  -- An instruction that stores to a word of a live block, followed by a walk (stretch of a run), is a walk.
   pub walk_save : {Late : State → Type 0} (width : Width) (n k lo hi : ℕ) (out input : List ℕ) (Goal : State → Type 0) (r : Words) (w : Contents) (c : Configuration) (source base : Register) (offset old : ℕ)
       → Now k out input r w c → slice_get code.lines k ≡ Some (lines.Ordinary (Memory (store_op width) source base offset)) → lo ≤ k
       → IsLive w.store (word_place width (memory_address (r base.number) offset)) old
@@ -279,8 +276,7 @@ module _ (code : Labelled) (formed : IsFormed code) (addresses : ℕ → ℕ) (g
       → Step code addresses (Running c) next → Performs c syscall next
   syscall_now k out input r w c next now stands step = performs_now k out input r w c syscall next now stands refl step
 
-  -- After the `syscall` that reads a byte, the walk (stretch of a run) is late: the effect of the
-  -- source step is visible.
+  -- After the `syscall` that reads a byte, the walk (stretch of a run) is late: the effect of the source step is visible.
   pub walk_get : {Late : State → Type 0} (n k lo hi : ℕ) (out input : List ℕ) (Goal : State → Type 0) (r : Words) (w : Contents) (c : Configuration)
       → Now k out input r w c → slice_get code.lines k ≡ Some (lines.Ordinary syscall) → lo ≤ k → r 2 ≡ 1 → IsWord (byte_of input)
       → ((t : State) → status_of t ≡ simulation.Running → output_of t ≡ out → input_of t ≡ drop 1 input → Late t)
@@ -309,8 +305,7 @@ module _ (code : Labelled) (formed : IsFormed code) (addresses : ℕ → ℕ) (g
       is_late t (inl (running, output, left)) = late t running output (left ∙ ap (drop 1) now.input)
       is_late t (inr already) = already
 
-  -- The walk (stretch of a run) reaches its goal as soon as the `syscall` prints a byte or the run
-  -- ends.
+  -- The walk (stretch of a run) reaches its goal as soon as the `syscall` prints a byte or the run ends.
   pub walk_put : {Late : State → Type 0} (k lo hi : ℕ) (out input : List ℕ) (Goal : State → Type 0) (r : Words) (w : Contents) (c : Configuration)
       → Now k out input r w c → slice_get code.lines k ≡ Some (lines.Ordinary syscall) → lo ≤ k → suc k ≤ hi → r 2 ≡ 2
       → ((d : Configuration) → Now (k + 1) (out ++ r 4 % 256 ∷ []) input r w d → Goal (Running d))
@@ -376,8 +371,7 @@ module _ (code : Labelled) (formed : IsFormed code) (addresses : ℕ → ℕ) (g
   lines_rise [] lo k hi from below = omega (arith, from, below)
   lines_rise (i ∷ is) lo k hi from below = (from, lines_rise is (suc k) (k + 1) hi (omega arith) (omega (arith, below)))
 
-  -- A sequence of safe instructions ends a stretch of a run if the state after the sequence
-  -- satisfies the goal.
+  -- A sequence of safe instructions ends a stretch of a run if the state after the sequence satisfies the goal.
   pub comes_block : (Late : State → Type 0) (is : List Instr) (k : ℕ) (out input : List ℕ) (Goal : State → Type 0) (r : Words) (w : Contents) (c : Configuration)
       → Now k out input r w c → Stands code k (ordinary is) → AreSafe globals stack is r w
       → ((d : Configuration) → Now (k + length is) out input (after_r is r w) (after_w is r w) d → Goal (Running d))

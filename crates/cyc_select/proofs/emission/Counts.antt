@@ -201,8 +201,7 @@ pub argument_small : (o : Option Operand) → argument_count o ≤ operand_size 
 argument_small None = omega arith
 argument_small (Some operand) = omega (arith, load_small operand)
 
--- The lines that count open regions, with the lines that load the first operand, do not exceed the
--- size reserved for a request.
+-- The lines that count open regions, with the lines that load the first operand, do not exceed the size reserved for a request.
 pub regions_small : (request : Request) → argument_count (first_operand request) + regions_count request ≤ operand_size (first_operand request) + answer_count request
 regions_small (requests.OpenLexical destination) = omega arith
 regions_small (requests.CloseTo mark) = omega (arith, load_small mark)
@@ -398,8 +397,7 @@ pub moves_some : (f : Frame) (destination source count : ℕ) → 0 < count → 
 moves_some f destination source zero some = absurd (omega (arith, some))
 moves_some f destination source (suc count) some = omega (arith, move_some f destination (operands.Slot source))
 
--- The lines of a move from one word on are the lines for this word plus those from the next word
--- on.
+-- The lines of a move from one word on are the lines for this word plus those from the next word on.
 pub moves_next : (f : Frame) (destination source count word : ℕ) → word < count
     → moves_count f (destination + word) (source + word) (count - word)
     ≡ move_count f (destination + word) (operands.Slot (source + word)) + moves_count f (destination + (word + 1)) (source + (word + 1)) (count - (word + 1))
@@ -436,8 +434,7 @@ spills_few caller callee source slot (suc count) = omega (arith, one (passed_fro
     one None = unkept (is_kept caller source)
     one (Some register) = omega arith
 
--- The lines of the spills from one slot on are the lines for this slot plus those from the next
--- slot on.
+-- The lines of the spills from one slot on are the lines for this slot plus those from the next slot on.
 pub spills_next : (caller callee : Frame) (source count word : ℕ) → word < count
     → spills_count caller callee (source + word) word (count - word)
     ≡ spill_count caller callee (source + word) word + spills_count caller callee (source + (word + 1)) (word + 1) (count - (word + 1))
@@ -474,8 +471,7 @@ copies_few caller callee source slot (suc count) = omega (arith, one (passed_fro
         handed true = omega (arith, keep_few callee slot)
         handed false = give_small callee slot
 
--- The lines of the arguments from one on are the lines for this argument plus those from the next
--- argument on.
+-- The lines of the arguments from one on are the lines for this argument plus those from the next argument on.
 pub copies_next : (caller callee : Frame) (source count word : ℕ) → word < count
     → copies_count caller callee (source + word) word (count - word)
     ≡ pass_count caller callee (source + word) word + copies_count caller callee (source + (word + 1)) (word + 1) (count - (word + 1))

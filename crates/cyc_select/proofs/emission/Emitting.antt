@@ -1,5 +1,4 @@
--- The lines of a function are emitted piece by piece: appending the next piece keeps the invariant
--- of the emitting loop.
+-- The lines of a function are emitted piece by piece: appending the next piece keeps the invariant of the emitting loop.
 use Rattle.std.proofs.Common.{◌≡◌, ℕ, suc, ◌+◌, ◌-◌, ◌*◌, ◌<◌, List, [], ◌∷◌, ◌++◌, drop, refl, ap, ◌∙◌, arith}
 use Rattle.cyc_words.proofs.Lists.{append_goes_on}
 use Rattle.cyc_isa.specs.declared.instr.Instr.{Instr}
@@ -20,8 +19,7 @@ ordinary_append : (is js : List Instr) → ordinary (is ++ js) ≡ ordinary is +
 ordinary_append [] js = refl
 ordinary_append (i ∷ is) js = ap (λ (l : List Line). lines.Ordinary i ∷ l) (ordinary_append is js)
 
--- The loop invariant of a move of several words is kept when the lines of one more word are
--- emitted.
+-- The loop invariant of a move of several words is kept when the lines of one more word are emitted.
 pub moved_next : (frame : Frame) (destination source count word : ℕ) (all old new : List Line) → word < count
     → new ≡ old ++ ordinary (move_to (value_register frame (destination + word)) frame (destination + word) (operands.Slot (source + word)))
     → old ++ ordinary (moves frame (destination + word) (source + word) (count - word)) ≡ all
@@ -105,8 +103,7 @@ restores_next frame number all old new below is before =
     ∙ ap (λ (n : ℕ). ordinary one ++ ordinary (restores_from frame.first_saved n (frame.saved - (number + 1)))) to)
     before
 
--- The loop invariant of loading parameters is kept when the lines that load one more parameter into
--- its register are emitted.
+-- The loop invariant of loading parameters is kept when the lines that load one more parameter into its register are emitted.
 pub arrived_next : (frame : Frame) (slot : ℕ) (all old new : List Line) → new ≡ old ++ ordinary (reload frame (home_of (arriving frame) slot) slot)
     → old ++ ordinary (reloads_from frame slot (drop slot (arriving frame))) ≡ all → new ++ ordinary (reloads_from frame (slot + 1) (drop (slot + 1) (arriving frame))) ≡ all
 arrived_next frame slot all old new is before =

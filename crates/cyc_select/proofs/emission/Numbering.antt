@@ -61,8 +61,7 @@ losing_next i code = go (loses i)
     go true = omega arith
     go false = omega arith
 
--- Returns the number of words that the size of the code includes to save registers and to load
--- parameters into them.
+-- Returns the number of words that the size of the code includes to save registers and to load parameters into them.
 abbrev pub returning : List Instruction → ℕ
 returning code = if returns_any code then 14 else 0
 
@@ -73,8 +72,7 @@ returning_next i code = go (returns i)
     go true = omega arith
     go false = omega arith
 
--- `IsSaving` says that a function's entry saves no more registers than the size of its code
--- reserves lines for.
+-- `IsSaving` says that a function's entry saves no more registers than the size of its code reserves lines for.
 abbrev pub IsSaving : Frame → List Instruction → Type 0
 IsSaving frame code = (frame.saves ≡ loses_any code) × (frame.saved + arrival_count frame ≤ returning code)
 
@@ -91,8 +89,7 @@ is_saving program r frame is right = (is.saved, go frame.saved refl)
         let room : returning r.code ≡ 14 = ap (λ (b : Bool). if b then 14 else 0) (is.returning (omega (arith, some))) in
         omega (arith, room, is.most_saved, arrivals_few program r frame is right)
 
--- From this index on, each function saves no more registers than the size of its code reserves
--- lines for.
+-- From this index on, each function saves no more registers than the size of its code reserves lines for.
 abbrev pub AreSaved : List Frame → (first : ℕ) → List Routine → Type 0
 AreSaved frames first routines = (k : ℕ) → k < length routines → IsSaving (frame_at frames (first + k)) (slice_index_or routines k no_routine).code
 
@@ -155,8 +152,7 @@ function_count_small program frames function fit few index i = omega (arith, bod
     go true = omega arith
     go false = omega arith
 
--- For every function number, in range or not, few registers are reloaded after a call, and few are
--- saved.
+-- For every function number, in range or not, few registers are reloaded after a call, and few are saved.
 pub function_reads_few : (program : Program) (frames : List Frame) → AreFrames program frames → (k : ℕ) → ReadsFew frames k
 function_reads_few program frames fit k = elim (cases_lt k (length program.functions)) [
   | inl below ↦ ((fit.homes k below).few, (fit.each k below).most_saved)
@@ -199,8 +195,7 @@ functions_count_small program frames first fit few (r ∷ routines) saved (suc k
       functions_count_small program frames (suc first) fit few routines (saved_next frames first r routines saved) k,
     )
 
--- The number of a function's first line plus the function's size is at most the size of the whole
--- program.
+-- The number of a function's first line plus the function's size is at most the size of the whole program.
 pub start_fits : (program : Program) (frames : List Frame) → AreFrames program frames → ((k : ℕ) → ReadsFew frames k) → AreFew program → (k : ℕ) → k < length program.functions
     → function_line program frames k + size (routine_at program k) ≤ START_LINES + sum_by size program.functions
 start_fits program frames are fit few k below =
@@ -214,8 +209,7 @@ line_fits program frames are fit few k below index =
 
 -- ---- properties of all functions of a well-formed program
 
--- For every function number, in range or not, the number of result words is at most that of one
--- value.
+-- For every function number, in range or not, the number of result words is at most that of one value.
 routines_few : (routines : List Routine) → ((k : ℕ) → k < length routines → (slice_index_or routines k no_routine).results ≤ GREATEST_VALUE)
     → (k : ℕ) → (slice_index_or routines k no_routine).results ≤ GREATEST_VALUE
 routines_few [] few zero = omega arith

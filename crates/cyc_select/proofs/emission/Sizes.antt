@@ -51,8 +51,7 @@ words_ordinary : (is : List Instr) → all_words (ordinary is) ≡ length is
 words_ordinary [] = refl
 words_ordinary (i ∷ is) = omega (arith, sum_by-cons words_of (lines.Ordinary i) (ordinary is), words_ordinary is)
 
--- If lines stand at a place of the code, the words of this range of lines are the words of these
--- lines.
+-- If lines stand at a place of the code, the words of this range of lines are the words of these lines.
 pub words_range : (code : Labelled) (a : ℕ) (ls : List Line) → Stands code a ls → sum_by (words_at code) (range_with_len a (length ls)) ≡ all_words ls
 words_range code a [] stands = refl
 words_range code a (l ∷ ls) (first, rest) =

@@ -220,8 +220,7 @@ module _ (program : Program) (well : IsWellFormed program) (words : HasWords pro
         go (plain.StoreGlobal global source) begun (a, b) words_fit below = at_head (plain.StoreGlobal global source) begun (global_stored_formed global source a (b, words_fit))
         go j begun inside words_fit below = absurd (none-some x begun)
 
-    -- An instruction whose first line can be hoisted does not leave the code: the next instruction
-    -- follows it.
+    -- An instruction whose first line can be hoisted does not leave the code: the next instruction follows it.
     stays : (i : Instruction) (x : Instr) → first_line frame i ≡ Some x → leaves i ≡ false
     stays (plain.Move destination source) x is = refl
     stays (plain.Unary operator destination operand) x is = refl
@@ -232,8 +231,7 @@ module _ (program : Program) (well : IsWellFormed program) (words : HasWords pro
     stays (plain.StoreGlobal global source) x is = refl
     stays i x is = absurd (none-some x is)
 
-    -- A line hoisted before a branch is well-formed, and so is the label to which the branch then
-    -- jumps.
+    -- A line hoisted before a branch is well-formed, and so is the label to which the branch then jumps.
     module _ (target : ℕ) (condition : Condition) (x : Instr) (its : Hoists program frames function target condition x) where
       hoisted_formed : IsFormedLine line_count (lines.Ordinary x)
       hoisted_formed =

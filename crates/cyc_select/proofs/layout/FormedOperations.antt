@@ -1,5 +1,4 @@
--- The lines that read slots, compute and write slots are well-formed. The lines of moves, loads and
--- stores are well-formed too.
+-- The lines that read slots, compute and write slots are well-formed. The lines of moves, loads and stores are well-formed too.
 use Rattle.std.proofs.Common.{◌≡◌, ℕ, zero, suc, ◌+◌, ◌-◌, ◌/◌, ◌%◌, ◌^◌, ◌<◌, ◌≤◌, Bool, true, false, List, [], ◌∷◌, ◌++◌, length, Option, None, Some, refl, arith}
 use Rattle.std.specs.Prelude.{◌==◌, ◌&&◌, nat_lt, if◌then◌else◌}
 use Rattle.std.specs.List.{AllByRecursion}
@@ -104,8 +103,7 @@ module _ (line_count : ℕ) where
   outcome_formed outcomes.WhetherZero target = ((refl, (omega arith)), tt)
   outcome_formed outcomes.WhetherNotZero target = ((refl, tt), tt)
 
-  -- The module's lemmas concern a function's frame in which every slot's offset from the frame
-  -- pointer fits 16 bits.
+  -- The module's lemmas concern a function's frame in which every slot's offset from the frame pointer fits 16 bits.
   module _ (frame : Frame) (routine : Routine) (within : (slot : ℕ) → slot < routine.slots → slot_word frame slot < MOST_FRAME_WORDS) where
     pub slot_fits : (slot : ℕ) → slot < routine.slots → slot_offset frame slot < 2 ^ 16
     slot_fits slot below = omega (arith, within slot below)

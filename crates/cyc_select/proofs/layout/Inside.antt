@@ -43,8 +43,7 @@ some_either : (b : Bool) (m n : ℕ) → 0 < m → 0 < n → 0 < (if b then m el
 some_either true m n first second = first
 some_either false m n first second = second
 
--- All functions, globals, slots and targets that an instruction of a well-formed program names
--- exist.
+-- All functions, globals, slots and targets that an instruction of a well-formed program names exist.
 pub range_at : (program : Program) → IsWellFormed program → (place : CodePlace) (i : Instruction) → instruction_at program place ≡ Some i → IsInRange program (routine_at program place.function) i
 range_at program well place i at =
     All_at (IsInRange program (routine_at program place.function)) (routine_at program place.function).code place.index i
@@ -123,8 +122,7 @@ module _ (program : Program) (well : IsWellFormed program) (frames : List Frame)
           omega (arith, further, below)
       go j there is = absurd (let e : false ≡ true = is in cc)
 
-  -- The line counted for each code position exists in the code: it belongs to this position or to a
-  -- later one.
+  -- The line counted for each code position exists in the code: it belongs to this position or to a later one.
   pub place_inside : (function index : ℕ) → index < length (routine_at program function).code → instruction_line program frames function index < length code.lines
   place_inside function index below = go (length (routine_at program function).code - suc index) index (omega (arith, below))
     where

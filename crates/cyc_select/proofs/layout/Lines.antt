@@ -8,8 +8,7 @@ use Rattle.cyc_frame.specs.inside.Layout.{frame_at}
 use Rattle.cyc_select.specs.inside.Slots.{saving_count}
 use Rattle.cyc_select.specs.inside.Counts.{count_of, code_count, function_line, instruction_line}
 
--- The lines up to and including an instruction are those before it plus the instruction's own
--- lines.
+-- The lines up to and including an instruction are those before it plus the instruction's own lines.
 lines_count_next : (program : Program) (frames : List Frame) (function first : ℕ) (code : List Instruction) (k : ℕ) (i : Instruction) → slice_get code k ≡ Some i
     → code_count program frames function first (take (suc k) code) ≡ code_count program frames function first (take k code) + count_of program frames function (first + k) i
 lines_count_next program frames function first [] k i at = absurd (let e : None ≡ Some i = at in cc)
@@ -35,7 +34,6 @@ line_next program frames function index i at =
       ap (λ (n : ℕ). count_of program frames function n i) here,
     )
 
--- The lines of a function's first instruction begin after the function's saves, or at its first
--- line if it saves nothing.
+-- The lines of a function's first instruction begin after the function's saves, or at its first line if it saves nothing.
 pub line_first : (program : Program) (frames : List Frame) (function : ℕ) → instruction_line program frames function 0 ≡ function_line program frames function + saving_count (frame_at frames function)
 line_first program frames function = omega arith

@@ -1,5 +1,4 @@
--- Assigns to each code position of the plain program the lines of the emitted code that belong to
--- it.
+-- Assigns to each code position of the plain program the lines of the emitted code that belong to it.
 use Rattle.std.proofs.Common.{◌≡◌, ℕ, zero, suc, ◌+◌, ◌-◌, ◌≤◌, List, Option, Some, None, slice_get, refl, ap, arith}
 use Rattle.std.specs.List.{range_with_len}
 use Rattle.cyc_plain.specs.declared.instruction.Instruction.{Instruction}

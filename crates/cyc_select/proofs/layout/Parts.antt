@@ -1,5 +1,4 @@
--- Each line of the emitted code belongs to the start code or to exactly one position of the plain
--- program.
+-- Each line of the emitted code belongs to the start code or to exactly one position of the plain program.
 use Rattle.std.proofs.Common.{◌≡◌, ℕ, zero, suc, ◌+◌, ◌-◌, ◌<◌, ◌≤◌, true, false, List, [], ◌∷◌, ◌++◌, length, map, take, Option, Some, slice_get, refl, sym, ap, subst, ◌∙◌, arith, length-append}
 use Rattle.std.specs.Prelude.{slice_index_or, flat_map, IsSomeAnd}
 use Rattle.std.specs.List.{range_with_len}

@@ -299,8 +299,7 @@ module _ (program : Program) (frames : List Frame) (few_results : (function : �
       subst (λ (f : ℕ). Stands (select_of program frames) (function_line program frames function) (routine_lines program frames f (function_line program frames function) (routine_at program function))) same
       (functions_stand (select_of program frames) 0 START_LINES program.functions function (function_line program frames function) known refl stand_functions)
 
-  -- The code of a function begins with the lines that save registers, followed by those of its
-  -- instructions.
+  -- The code of a function begins with the lines that save registers, followed by those of its instructions.
   pub stand_saving : (function : ℕ) → function < length program.functions → Stands (select_of program frames) (function_line program frames function) (ordinary (saving_code (frame_at frames function)))
   stand_saving function known =
       stands_front (select_of program frames) (function_line program frames function) (ordinary (saving_code (frame_at frames function)))

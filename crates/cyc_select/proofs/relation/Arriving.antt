@@ -1,5 +1,4 @@
--- Arguments arrive where callers put them. An argument that arrives in memory but belongs in a register is loaded at the function's
--- entry.
+-- Arguments arrive where callers put them. An argument that arrives in memory but belongs in a register is loaded at the function's entry.
 use Rattle.std.proofs.Common.{◌≡◌, ℕ, zero, suc, ◌+◌, ◌<◌, ◌≤◌, Bool, true, false, List, [], ◌∷◌, ◌++◌, length, map, take, drop, Some, None, refl, sym, ap, ◌∙◌, arith, inl, inr}
 use Rattle.std.specs.Prelude.{◌⊎◌, if◌then◌else◌, sum_by}
 use Rattle.std.proofs.lemmas.Bool.{cases_lt, leb-true, leb-false, lt-leb, le-leb, cond-true, cond-false}
@@ -58,8 +57,7 @@ pub arriving_past : (frame : Frame) (slot : ℕ) → frame.parameters ≤ slot �
 arriving_past frame slot past =
     home_mapped arriving_home refl (take frame.parameters frame.homes) slot ∙ ap arriving_home (home_untaken frame.parameters frame.homes slot past)
 
--- If an argument arrives in a register, this register is caller-saved and is the register of its
--- slot.
+-- If an argument arrives in a register, this register is caller-saved and is the register of its slot.
 came_low : (h : Home) (k : ℕ) → register_of (coming_home h) ≡ Some k → (register_of h ≡ Some k) × (k < 17)
 came_low homes.Memory k has = absurd (let e : None ≡ Some k = has in cc)
 came_low (homes.Both register) k has = go (is_preserved register) refl has
@@ -86,8 +84,7 @@ comes_low (homes.Register register) k has low =
     let same : register ≡ k = (let e : Some register ≡ Some k = has in cc) in
     ap register_of (cond-false (is_preserved register) homes.Memory (homes.Register register) (lt-leb 17 register (omega (arith, same, low)))) ∙ has
 
--- A parameter arrives in memory if its home includes memory, or if its home is a callee-saved
--- register.
+-- A parameter arrives in memory if its home includes memory, or if its home is a callee-saved register.
 comes_kept : (h : Home) → homing.is_kept h ≡ true → homing.is_kept (coming_home h) ≡ true
 comes_kept homes.Memory kept = refl
 comes_kept (homes.Both register) kept = go (is_preserved register)
@@ -168,8 +165,7 @@ comes_to_memory frame slot kept = ap homing.is_kept (coming_is frame slot) ∙ c
 pub comes_by_memory : (frame : Frame) (slot k : ℕ) → value_register frame slot ≡ Some k → 17 ≤ k → is_kept (coming frame) slot ≡ true
 comes_by_memory frame slot k has high = ap homing.is_kept (coming_is frame slot) ∙ comes_high (home_of frame.homes slot) k has high
 
--- A slot that is loaded into a register at the function's entry is a parameter, and the register is
--- the slot's own.
+-- A slot that is loaded into a register at the function's entry is a parameter, and the register is the slot's own.
 arrived_at : (frame : Frame) (slot k : ℕ) → home_of (arriving frame) slot ≡ homes.Both k → (slot < frame.parameters) × (value_register frame slot ≡ Some k) × (17 ≤ k)
 arrived_at frame slot k both = elim (cases_lt slot frame.parameters) [
   | inl below ↦

@@ -19,8 +19,7 @@ IsStack stack a = (a % 4 ≡ 0) × (stack_end - 4 * stack ≤ a) × (a < stack_e
 abbrev pub IsCell : (globals stack : ℕ) → ℕ → Type 0
 IsCell globals stack a = IsData globals a ⊎ IsStack stack a
 
--- `IsLive` says that `word` is the word of a live block at the address `a`, which lies in the
--- store's pages.
+-- `IsLive` says that `word` is the word of a live block at the address `a`, which lies in the store's pages.
 pub record IsLive (store : StoreState) (a word : ℕ) : Type 0 where
   pub aligned : a % 4 ≡ 0
   pub low : STORE_BASE ≤ a

@@ -60,8 +60,7 @@ is_straight (plain.WriteByte source) = true
 is_straight (plain.StoreGlobal global source) = true
 is_straight i = false
 
--- `HasMore` says that an instruction has another line after its first one, or passes control only
--- to the next instruction.
+-- `HasMore` says that an instruction has another line after its first one, or passes control only to the next instruction.
 abbrev pub HasMore : Frame → Instruction → Type 0
 HasMore frame (plain.Branch comparison left right target) = 0 < test_count frame (test_of comparison left right)
 HasMore frame i = is_straight i ≡ true
@@ -70,8 +69,7 @@ module _ (program : Program) (well : IsWellFormed program) (frames : List Frame)
   abbrev pub At : ℕ → (out input : List ℕ) → (r : Words) (w : Contents) → labelled.Configuration → Type 0
   At line out input r w run = Now code formed addresses globals_length (words_per_call * calls) line out input r w run
 
-  -- `Ready` relates a plain configuration to a machine state in which the first line of the next
-  -- instruction comes next.
+  -- `Ready` relates a plain configuration to a machine state in which the first line of the next instruction comes next.
   pub record Ready (c : Configuration) (t : State) : Type 0 where
     pub run : labelled.Configuration
     pub r : Words
@@ -160,8 +158,7 @@ module _ (program : Program) (well : IsWellFormed program) (frames : List Frame)
   Matches (states.Ended ending out input) t = t ≡ Ended ending out input
   Matches (states.Stuck out input) t = ⊥
 
-  -- `Reached` says that a step of the plain machine leads to a state that matches the state `t` of
-  -- the labelled machine.
+  -- `Reached` says that a step of the plain machine leads to a state that matches the state `t` of the labelled machine.
   abbrev pub Reached : Configuration → State → Type 0
   Reached c t = (next : states.State) × Step program pages calls (states.Running c) next × Matches next t
 
@@ -180,8 +177,7 @@ module _ (program : Program) (well : IsWellFormed program) (frames : List Frame)
   pub within : (d : Configuration) → demand d.store ≤ pages → suc (length d.frames) ≤ calls → is_within pages calls (states.Running d) ≡ true
   within d paged deep = and_from _ _ (le-leb (demand d.store) pages paged) (le-leb (suc (length d.frames)) calls deep)
 
-  -- If an allowed choice of an instruction's effect stays within the limits, the plain machine
-  -- performs this step.
+  -- If an allowed choice of an instruction's effect stays within the limits, the plain machine performs this step.
   pub steps_to : (c : Configuration) (choice : Choice) (i : Instruction) (next : states.State) → IsAllowed program (states.Running c) choice
       → instruction_at program (states.place_of (states.Running c)) ≡ Some i → performed program choice c i ≡ next → is_within pages (limit_of (Some i) calls) next ≡ true → Step program pages calls (states.Running c) next
   steps_to c choice i next allowed at does keeps =
@@ -196,15 +192,13 @@ module _ (program : Program) (well : IsWellFormed program) (frames : List Frame)
 
   module _ (c : Configuration) (i : Instruction) (at : instruction_at program (states.place_of (states.Running c)) ≡ Some i) (free : calls_nothing i ≡ true) (r : Words) (w : Contents) (base back : ℕ)
       (s : Standing program frames addresses pages calls c r w base back (stage_of frames c) c.active.slots) (caches : Caches program frames c.active.function c.active.next r c.active.slots) where
-    -- A write to a slot, in memory only if the slot's home includes memory, keeps the relation
-    -- between the two machines.
+    -- A write to a slot, in memory only if the slot's home includes memory, keeps the relation between the two machines.
     put_slot : (b : Bool) (slot word : ℕ) → slot < (routine_at program c.active.function).slots → is_kept (frame_at frames c.active.function) slot ≡ b
         → Standing program frames addresses pages calls c r (if b then written w (base + slot_offset (frame_at frames c.active.function) slot) word else w) base back (stage_of frames c) (put c.active.slots slot word)
     put_slot true slot word below kept = standing_slot program well frames fit addresses pages calls few c r w base back (stage_of frames c) c.active.slots s slot word below
     put_slot false slot word below unkept = standing_unkept program well frames fit addresses pages calls few c r w base back (stage_of frames c) c.active.slots s slot word unkept
 
-    -- A step that writes a slot, and may read input, leads to a matching state of the labelled
-    -- machine.
+    -- A step that writes a slot, and may read input, leads to a matching state of the labelled machine.
     pub reached_gives : (destination word : ℕ) (input : List ℕ) (line : ℕ) (run : labelled.Configuration) (r' : Words) (w' : Contents)
         → destination < (routine_at program c.active.function).slots
         → ((slot : ℕ) → slot ≢ destination → writes program i slot ≡ false) → writes program i destination ≡ true → leads i c.active.next (c.active.next + 1) ≡ true
@@ -266,8 +260,7 @@ module _ (program : Program) (well : IsWellFormed program) (frames : List Frame)
           caches = subst (λ (n : ℕ). Caches program frames n d.active.next r' d.active.slots) (sym function_same) cached;
         }
 
-    -- The plain machine performs a step of an instruction that stays in the function's code and may
-    -- print.
+    -- The plain machine performs a step of an instruction that stays in the function's code and may print.
     pub steps_by : (d : Configuration) (u : State) → Ready d u → performed program zeros c i ≡ states.Running d → Step program pages calls (states.Running c) (states.Running d)
     steps_by d u ready does =
         steps_to c zeros i (states.Running d) (zeros_at program c i at free) at does

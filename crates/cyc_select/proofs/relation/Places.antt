@@ -45,8 +45,7 @@ pub data Sort : Type 0 where
   OfBlock : Sort
   OfCell : Sort
 
--- `IsWordAt` says that `word` is at the address `a`, in a live block or in the data range or the
--- stack.
+-- `IsWordAt` says that `word` is at the address `a`, in a live block or in the data range or the stack.
 abbrev pub IsWordAt : Sort → (globals stack : ℕ) → Contents → (a word : ℕ) → Type 0
 IsWordAt OfBlock globals stack w a word = IsLive w.store a word × IsWord word
 IsWordAt OfCell globals stack w a word = IsCell globals stack a × (w.words a ≡ word)
@@ -57,8 +56,7 @@ placed OfBlock w a word = saved_in w a word
 placed OfCell w a word = written w a word
 
 module _ (code : Labelled) (formed : IsFormed code) (addresses : ℕ → ℕ) (globals stack : ℕ) where
-  -- An instruction that loads a word of the data range or the stack, followed by a walk, is a walk
-  -- (stretch of a run).
+  -- An instruction that loads a word of the data range or the stack, followed by a walk, is a walk (stretch of a run).
   cell_read : {Late : State → Type 0} (width : Width) (n k lo hi : ℕ) (out input : List ℕ) (Goal : State → Type 0) (r : Words) (w : Contents) (c : labelled.Configuration) (target base : Register) (offset : ℕ)
       → Now code formed addresses globals stack k out input r w c → slice_get code.lines k ≡ Some (lines.Ordinary (Memory (load_op width) target base offset)) → lo ≤ k → IsWritable target.number → IsCell globals stack (word_place width (memory_address (r base.number) offset))
       → ((d : labelled.Configuration) → Now code formed addresses globals stack (k + 1) out input (put r target.number (loaded_part width (memory_address (r base.number) offset) (w.words (word_place width (memory_address (r base.number) offset))))) w d → Walk code formed addresses globals stack n (k + 1) hi out Late Goal (Running d))
@@ -77,8 +75,7 @@ module _ (code : Labelled) (formed : IsFormed code) (addresses : ℕ → ℕ) (g
   cell_written OneByte n k lo hi out input Goal r w c source base offset now stands from cell rest =
       walk_block code formed addresses globals stack (Memory StoreByte source base offset ∷ []) n k lo hi out input Goal r w c now (stands, tt) (cell, tt) from rest
 
-  -- An instruction that loads the word at an address into a register, followed by a walk, is a walk
-  -- (stretch of a run).
+  -- An instruction that loads the word at an address into a register, followed by a walk, is a walk (stretch of a run).
   pub walk_read : {Late : State → Type 0} (width : Width) (sort : Sort) (n k lo hi : ℕ) (out input : List ℕ) (Goal : State → Type 0) (r : Words) (w : Contents) (c : labelled.Configuration) (target base : Register) (offset word : ℕ)
       → Now code formed addresses globals stack k out input r w c → slice_get code.lines k ≡ Some (lines.Ordinary (Memory (load_op width) target base offset)) → lo ≤ k → IsWritable target.number
       → IsWordAt sort globals stack w (word_place width (memory_address (r base.number) offset)) word
@@ -211,15 +208,13 @@ module _ (program : Program) (well : IsWellFormed program) (frames : List Frame)
       frame : IsFrame (routine_at program f.caller.function) its
       frame = fit.each f.caller.function known
 
-      -- If no saved register lies at the written address, the words that the call restores to
-      -- callee-saved registers are unchanged.
+      -- If no saved register lies at the written address, the words that the call restores to callee-saved registers are unchanged.
       left_there : (new : ℕ) → ((j : ℕ) → j < 7 → a ≢ above + 4 * (its.first_saved + j)) → (j : ℕ) → j < 7 → LeftBy its above left (written w a new) j ≡ LeftBy its above left w j
       left_there new apart =
           left_same its.first_saved its.saved above left left w (written w a new) (λ j past high. refl)
           (λ j below high. put-other w.words a (above + 4 * (its.first_saved + j)) new (λ e. apart j high (sym e)))
 
-      -- If the address is that of a slot of the newest waiting call, the slot's word is found in
-      -- this call's frame.
+      -- If the address is that of a slot of the newest waiting call, the slot's word is found in this call's frame.
       here_found : (slot : ℕ) → slot_at program f.caller a ≡ Some slot → f.caller.slots slot ≡ word → IsAbove w base back left function (f ∷ waiting) a word
       here_found slot is value =
           let (address, pinned) = numbered-from (is_pinned (routine_at program f.caller.function).code) f.caller.base a slot is in
@@ -294,8 +289,7 @@ module _ (program : Program) (well : IsWellFormed program) (frames : List Frame)
 
 module _ (program : Program) (well : IsWellFormed program) (frames : List Frame) (fit : AreFrames program frames) (addresses : ℕ → ℕ) (pages calls : ℕ) (few : calls ≤ 4096)
     (c : Configuration) (r : Words) (w : Contents) (base back : ℕ) (stage : Stage) (s : Standing program frames addresses pages calls c r w base back stage c.active.slots) (a word : ℕ) where
-  -- `IsFound` says that the word at an address of the plain program is in the machine's memory and
-  -- can be written there.
+  -- `IsFound` says that the word at an address of the plain program is in the machine's memory and can be written there.
   pub record IsFound : Type 0 where
     pub sort : Sort
     pub at : IsWordAt sort globals_length (words_per_call * calls) w a word
@@ -336,8 +330,7 @@ module _ (program : Program) (well : IsWellFormed program) (frames : List Frame)
         values = λ new slot k has. ap (λ (d : Configuration). d.active.slots slot) (writes new);
       }
 
-  -- A load from the address of a slot of the active call reads this slot's word in the machine's
-  -- stack.
+  -- A load from the address of a slot of the active call reads this slot's word in the machine's stack.
   slot_found : (slot : ℕ) → range_of a ≡ OfSlots → slot_at program c.active a ≡ Some slot → c.active.slots slot ≡ word → IsFound
   slot_found slot is at value =
       let its : Frame = frame_at frames c.active.function in

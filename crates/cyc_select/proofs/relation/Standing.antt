@@ -41,13 +41,11 @@ abbrev pub saved_at : Stage → Frame → ℕ
 saved_at entering frame = 0
 saved_at (under_way in_frame) frame = frame.saved
 
--- Returns the stage of a call after its entry code, which saves the return address only if the
--- frame has a word for it.
+-- Returns the stage of a call after its entry code, which saves the return address only if the frame has a word for it.
 abbrev pub stage_of : List Frame → Configuration → Stage
 stage_of frames c = under_way (frame_at frames c.active.function).saves
 
--- `Standing` says that the active call, with these slots, and the waiting calls are in the
--- machine's registers and memory.
+-- `Standing` says that the active call, with these slots, and the waiting calls are in the machine's registers and memory.
 pub record Standing (program : Program) (frames : List Frame) (addresses : ℕ → ℕ) (pages calls : ℕ) (c : Configuration) (r : Words) (w : Contents) (base back : ℕ) (stage : Stage) (slots : Words) : Type 0 where
   pub known : c.active.function < length program.functions
   pub base_is : r FRAME ≡ base
@@ -91,8 +89,7 @@ module _ (program : Program) (well : IsWellFormed program) (frames : List Frame)
         go entering = omega arith
         go (under_way in_frame) = own_frame.most_saved
 
-    -- The words that a call leaves in the callee-saved registers depend only on the unsaved
-    -- registers and on the words saved in its frame.
+    -- The words that a call leaves in the callee-saved registers depend only on the unsaved registers and on the words saved in its frame.
     leaves_kept : (r' : Words) (w' : Contents) → ((j : ℕ) → saved_at stage (frame_at frames c.active.function) ≤ j → j < 7 → preserved_of r' j ≡ preserved_of r j)
         → ((j : ℕ) → j < 7 → w'.words (base + 4 * ((frame_at frames c.active.function).first_saved + j)) ≡ w.words (base + 4 * ((frame_at frames c.active.function).first_saved + j)))
         → (j : ℕ) → j < 7 → Left (frame_at frames c.active.function).first_saved (saved_at stage (frame_at frames c.active.function)) base (preserved_of r') w' j ≡ s.left j
@@ -110,8 +107,7 @@ module _ (program : Program) (well : IsWellFormed program) (frames : List Frame)
     pub return_inside : (frame_at frames c.active.function).return_address < MOST_FRAME_WORDS
     return_inside = omega (arith, own_frame.return_inside, own_frame.small)
 
-    -- The address of word `word` of the active call's frame is the frame's base plus 4 times
-    -- `word`.
+    -- The address of word `word` of the active call's frame is the frame's base plus 4 times `word`.
     pub word_address : (word : ℕ) → word < MOST_FRAME_WORDS → memory_address (r FRAME) (4 * word) ≡ base + 4 * word
     word_address word inside =
         ap (λ (x : ℕ). memory_address x (4 * word)) s.base_is
@@ -200,8 +196,7 @@ module _ (program : Program) (well : IsWellFormed program) (frames : List Frame)
       middle = s.middle;
     }
 
-    -- `Standing` is kept if the active call's handlers and registers that it does not concern
-    -- change.
+    -- `Standing` is kept if the active call's handlers and registers that it does not concern change.
     pub standing_handlers : (handlers : List states.Handler) (r' : Words) → r' 0 ≡ r 0 → r' FRAME ≡ r FRAME → r' LOWEST ≡ r LOWEST → r' RETURN_ADDRESS ≡ r RETURN_ADDRESS → r' REGIONS ≡ r REGIONS → r' GLOBALS ≡ r GLOBALS
         → ((j : ℕ) → saved_at stage (frame_at frames c.active.function) ≤ j → j < 7 → preserved_of r' j ≡ preserved_of r j)
         → IsNewest program frames addresses (r' HANDLERS) base c.active.function handlers c.frames
@@ -351,8 +346,7 @@ module _ (program : Program) (well : IsWellFormed program) (frames : List Frame)
       middle = s.middle;
     }
 
-    -- `Standing` is kept if the store (the heap of regions) changes and the register with the number of open
-    -- lexical regions is updated.
+    -- `Standing` is kept if the store (the heap of regions) changes and the register with the number of open lexical regions is updated.
     pub standing_store : (store : StoreState) (r' : Words) → r' 0 ≡ r 0 → r' FRAME ≡ r FRAME → r' LOWEST ≡ r LOWEST → r' RETURN_ADDRESS ≡ r RETURN_ADDRESS → r' HANDLERS ≡ r HANDLERS
         → r' REGIONS ≡ lexical_count store.regions % 2 ^ 32 → r' GLOBALS ≡ r GLOBALS → IsLaid pages store
         → ((j : ℕ) → saved_at stage (frame_at frames c.active.function) ≤ j → j < 7 → preserved_of r' j ≡ preserved_of r j)

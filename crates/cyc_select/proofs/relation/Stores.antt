@@ -1,5 +1,4 @@
--- The conditions on the store (the heap of regions) of a run, and the proof that the store's calls
--- keep them.
+-- The conditions on the store (the heap of regions) of a run, and the proof that the store's calls keep them.
 use Rattle.std.proofs.Common.{◌≡◌, ℕ, zero, suc, ◌+◌, ◌*◌, ◌%◌, ◌^◌, ◌<◌, ◌≤◌, Bool, true, false, List, [], ◌∷◌, ◌++◌, length, Option, None, Some, refl, sym, ap, subst, ◌∙◌, arith, inl, inr}
 use Rattle.std.specs.Prelude.{◌==◌, nat_le, nat_lt, if◌then◌else◌}
 use Rattle.std.specs.List.{AllByRecursion}
@@ -58,8 +57,7 @@ made_placed pages s h b placed all = go (h == UNIQUE)
           (λ r each. all_append (IsPlaced pages) r.blocks (b ∷ []) each (placed, tt)) all.1,
     )
 
--- If the store (the heap of regions) serves a call, a newly allocated block lies within the pages,
--- and no other block appears.
+-- If the store (the heap of regions) serves a call, a newly allocated block lies within the pages, and no other block appears.
 served_placed : (pages : ℕ) (s : StoreState) (call : Call) (choice : services.Choice) → s.pages ≡ pages → MayChoose s call choice → ArePlaced pages (homes s)
     → ArePlaced pages (homes (served s call choice))
 served_placed pages s OpenLexical choice has may all =
@@ -259,8 +257,7 @@ served_words pages store (Allocate handle words) choice allowed laid =
     omega (arith, high, laid.has, laid.few)
 served_words pages store (Free address) choice allowed laid = tt
 
--- If the store (the heap of regions) has a word at an address, this word belongs to a live block in
--- the store's pages.
+-- If the store (the heap of regions) has a word at an address, this word belongs to a live block in the store's pages.
 pub laid_live : (pages : ℕ) (store : StoreState) (a word : ℕ) → IsLaid pages store → word_at store a ≡ Some word → IsLive store a word × IsWord word
 laid_live pages store a word laid found = go (a % 4 == 0) refl (holder (homes store) a) refl found
   where

@@ -49,8 +49,7 @@ both_of homes.Memory k is kept = absurd (let e : None ≡ Some k = is in cc)
 both_of (homes.Both j) k is kept = let e : Some j ≡ Some k = is in cc
 both_of (homes.Register j) k is kept = absurd (let e : false ≡ true = kept in cc)
 
--- A slot number at least `first` and less than `first + count` is among the `count` slots from
--- `first` on.
+-- A slot number at least `first` and less than `first + count` is among the `count` slots from `first` on.
 pub among : (first count slot : ℕ) → first ≤ slot → slot < first + count → is_among first count slot ≡ true
 among first count slot from below = and_from _ _ (le-leb first slot from) (lt-ltb slot (first + count) below)
 
@@ -86,14 +85,12 @@ module _ (program : Program) (frames : List Frame) (function : ℕ) (right : Are
   abbrev IsAt : (index : ℕ) → Instruction → Type 0
   IsAt index i = instruction_at program (record { function = function; index = index }) ≡ Some i
 
-  -- If a slot is live after an instruction that does not write it, the slot is live before this
-  -- instruction.
+  -- If a slot is live after an instruction that does not write it, the slot is live before this instruction.
   pub live_earlier : (index next slot : ℕ) (i : Instruction) → IsAt index i → leads i index next ≡ true → writes program i slot ≡ false
       → IsLiveAt program (routine_at program function) slot next → IsLiveAt program (routine_at program function) slot index
   live_earlier index next slot i at led unwritten (steps, wanted) = (suc steps, (i, at, unwritten, next, led, wanted))
 
-  -- If an instruction changes no slot that has a register, registers still hold the words of their
-  -- live slots after it.
+  -- If an instruction changes no slot that has a register, registers still hold the words of their live slots after it.
   pub caches_past : (index next : ℕ) (r r' slots slots' : Words) (i : Instruction) → IsAt index i → leads i index next ≡ true
       → ((slot k : ℕ) → value_register (frame_at frames function) slot ≡ Some k → writes program i slot ≡ false)
       → ((slot k : ℕ) → value_register (frame_at frames function) slot ≡ Some k → slots' slot ≡ slots slot)
@@ -102,8 +99,7 @@ module _ (program : Program) (frames : List Frame) (function : ℕ) (right : Are
       values k (right.low slot k has) (right.high slot k has)
       ∙ (caches slot k has (live_earlier index next slot i at led (unwritten slot k has) wanted) ∙ sym (same slot k has))
 
-  -- If an instruction writes a slot and its register, registers still hold the words of their live
-  -- slots after it.
+  -- If an instruction writes a slot and its register, registers still hold the words of their live slots after it.
   pub made_caches : (index destination word : ℕ) (r r' slots : Words) (i : Instruction) → IsAt index i
       → ((slot : ℕ) → slot ≢ destination → writes program i slot ≡ false) → writes program i destination ≡ true → leads i index (index + 1) ≡ true
       → ((k : ℕ) → value_register (frame_at frames function) destination ≡ Some k → r' k ≡ word)
@@ -117,8 +113,7 @@ module _ (program : Program) (frames : List Frame) (function : ℕ) (right : Are
         ∙ (caches slot k has (live_earlier index (index + 1) slot i at led (unwritten slot other) wanted) ∙ sym (put-other slots destination slot word other))
   ]
 
-  -- If a move copies several words one by one, registers still hold the words of their live slots
-  -- after it.
+  -- If a move copies several words one by one, registers still hold the words of their live slots after it.
   pub moved_caches : (index destination source count : ℕ) (r r' slots : Words) → IsAt index (plain.MoveWords destination source count)
       → ((i k : ℕ) → i < count → value_register (frame_at frames function) (destination + i) ≡ Some k
       → ((j : ℕ) → j < count → value_register (frame_at frames function) (destination + j) ≡ Some k → i ≡ j) → r' k ≡ slots (source + i))

@@ -25,8 +25,7 @@ use Rattle.cyc_select.proofs.effects.Views.{Contents}
 abbrev pub frame_size : ℕ
 frame_size = 4 * MOST_FRAME_WORDS
 
--- `Holds` says that the frame at this address, of a call of this function, contains the words of
--- all slots whose home includes memory.
+-- `Holds` says that the frame at this address, of a call of this function, contains the words of all slots whose home includes memory.
 abbrev pub Holds : Program → List Frame → (function base : ℕ) → (w : Contents) (slots : Words) → Type 0
 Holds program frames function base w slots =
     (slot : ℕ) → slot < (routine_at program function).slots → is_kept (frame_at frames function) slot ≡ true
@@ -47,8 +46,7 @@ preserved_of r j = r (17 + j)
 abbrev pub Left : (first saved base : ℕ) (inner : Words) (w : Contents) → Words
 Left first saved base inner w j = if nat_lt j saved then w.words (base + 4 * (first + j)) else inner j
 
--- `LeftBy` gives the callee-saved registers that a function leaves when it returns, once it has
--- saved all those that it uses.
+-- `LeftBy` gives the callee-saved registers that a function leaves when it returns, once it has saved all those that it uses.
 abbrev pub LeftBy : Frame → (base : ℕ) (inner : Words) (w : Contents) → Words
 LeftBy frame base inner w = Left frame.first_saved frame.saved base inner w
 
@@ -66,8 +64,7 @@ left_past first saved base inner w j past = cond-false (nat_lt j saved) (w.words
 pub left_inside : (first saved base : ℕ) (inner : Words) (w : Contents) (j : ℕ) → j < saved → Left first saved base inner w j ≡ w.words (base + 4 * (first + j))
 left_inside first saved base inner w j below = cond-true (nat_lt j saved) (w.words (base + 4 * (first + j))) (inner j) (lt-ltb j saved below)
 
--- The words left in the callee-saved registers are unchanged if the saved words and the unsaved
--- registers are unchanged.
+-- The words left in the callee-saved registers are unchanged if the saved words and the unsaved registers are unchanged.
 pub left_same : (first saved base : ℕ) (inner inner' : Words) (w w' : Contents) → ((j : ℕ) → saved ≤ j → j < 7 → inner' j ≡ inner j)
     → ((j : ℕ) → j < saved → j < 7 → w'.words (base + 4 * (first + j)) ≡ w.words (base + 4 * (first + j))) → (j : ℕ) → j < 7 → Left first saved base inner' w' j ≡ Left first saved base inner w j
 left_same first saved base inner inner' w w' same words j high = elim (cases_lt j saved) [
@@ -102,8 +99,7 @@ slots_fit r frame is = go r.slots is.inside
     go (suc n) inside = omega (arith, inside n (omega arith), is.small)
 
 module _ (program : Program) (frames : List Frame) (fit : AreFrames program frames) (addresses : ℕ → ℕ) where
-  -- The chain of waiting calls is kept if the memory from its first frame on and each word left in a
-  -- callee-saved register are unchanged.
+  -- The chain of waiting calls is kept if the memory from its first frame on and each word left in a callee-saved register are unchanged.
   pub chain_kept : (w w' : Contents) (base back : ℕ) (left left' : Words) (function : ℕ) (waiting : List states.Frame) → ((a : ℕ) → base + frame_size ≤ a → w'.words a ≡ w.words a)
       → ((j : ℕ) → j < 7 → left' j ≡ left j) → Chain program frames addresses w base back left function waiting → Chain program frames addresses w' base back left' function waiting
   chain_kept w w' base back left left' function [] same alike chain = chain
@@ -150,8 +146,7 @@ pub record IsRecord (program : Program) (frames : List Frame) (addresses : ℕ �
   pub frame : contents 1 ≡ base
   pub line : contents 2 ≡ addresses (instruction_line program frames function index + 3)
 
--- `AreRecords` says that the handler records of a call form a linked list from the newest record to
--- the newest one of its caller.
+-- `AreRecords` says that the handler records of a call form a linked list from the newest record to the newest one of its caller.
 abbrev pub AreRecords : Program → List Frame → (addresses : ℕ → ℕ) → (base function : ℕ) → (rest : ℕ → Type 0) → (newest : ℕ) → List states.Handler → Type 0
 AreRecords program frames addresses base function rest newest [] = rest newest
 AreRecords program frames addresses base function rest newest (states.Caught ∷ handlers) = ⊥
@@ -172,8 +167,7 @@ IsNewest program frames addresses newest base function handlers waiting =
 
 -- ---- addresses of slots
 
--- `AreBased` says that the slots of the active call and of each waiting call have their addresses
--- in the frame of this call.
+-- `AreBased` says that the slots of the active call and of each waiting call have their addresses in the frame of this call.
 abbrev pub AreBased : List Frame → (base function place : ℕ) → List states.Frame → Type 0
 AreBased frames base function place [] = place ≡ base + 4 * (frame_at frames function).first_slot
 AreBased frames base function place (f ∷ waiting) =
@@ -184,14 +178,12 @@ pub based_here : (frames : List Frame) (base function place : ℕ) (waiting : Li
 based_here frames base function place [] based = based
 based_here frames base function place (f ∷ waiting) (here, based) = here
 
--- `IsBack` says that the return address of a call is in its frame or in the return address
--- register.
+-- `IsBack` says that the return address of a call is in its frame or in the return address register.
 abbrev pub IsBack : (in_frame : Bool) (frame : Frame) (r : Words) (w : Contents) (base back : ℕ) → Type 0
 IsBack true frame r w base back = w.words (base + 4 * frame.return_address) ≡ back
 IsBack false frame r w base back = r RETURN_ADDRESS ≡ back
 
--- The return address is unchanged if its word in the frame and the return address register are
--- unchanged.
+-- The return address is unchanged if its word in the frame and the return address register are unchanged.
 pub back_in : (in_frame : Bool) (frame : Frame) (r : Words) (w w' : Contents) (base back : ℕ) → w'.words (base + 4 * frame.return_address) ≡ w.words (base + 4 * frame.return_address)
     → IsBack in_frame frame r w base back → IsBack in_frame frame r w' base back
 back_in true frame r w w' base back same is = same ∙ is

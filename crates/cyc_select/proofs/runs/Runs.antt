@@ -1,5 +1,4 @@
--- The labelled machine matches each step of the plain machine by executing the lines of the current
--- instruction.
+-- The labelled machine matches each step of the plain machine by executing the lines of the current instruction.
 use Rattle.std.proofs.Common.{◌≡◌, ◌≢◌, ℕ, suc, ◌+◌, ◌-◌, ◌*◌, ◌^◌, ◌<◌, ◌≤◌, Bool, true, false, not, List, [], ◌∷◌, ◌++◌, length, Option, Some, None, slice_get, refl, sym, ap, subst, ◌∙◌, arith, inl, inr}
 use Rattle.std.specs.Prelude.{if◌then◌else◌}
 use Rattle.std.proofs.lemmas.Bool.{cases_lt, eq-eqb, ne_eqb, false≢true}
@@ -95,8 +94,7 @@ module _ (program : Program) (well : IsWellFormed program) (words : HasWords pro
       subst (λ (n : ℕ). Stands code (instruction_line program frames function index + n) (following program frames function (plain.Call callee arguments count result))) (long function line i)
       (stands_back code line (body program frames function line i) (following program frames function i) (stand function index i at))
 
-  -- The line after a call exists: it belongs to the call's following lines or to the next
-  -- instruction.
+  -- The line after a call exists: it belongs to the call's following lines or to the next instruction.
   after_inside : (function index callee arguments count result : ℕ) → instruction_at program (record { function = function; index = index }) ≡ Some (plain.Call callee arguments count result)
       → after_line program frames function index callee arguments count result < length code.lines
   after_inside function index callee arguments count result at =
@@ -137,8 +135,7 @@ module _ (program : Program) (well : IsWellFormed program) (words : HasWords pro
   range_of : (function index first handler : ℕ) → instruction_at program (record { function = function; index = index }) ≡ Some (plain.Try first handler) → IsTryInRange (routine_at program function) first handler
   range_of function index first handler at = in_range_of function index (plain.Try first handler) at
 
-  -- The lines at which an exception arrives stand 3 lines after the first line of the `Try` that
-  -- opened its handler.
+  -- The lines at which an exception arrives stand 3 lines after the first line of the `Try` that opened its handler.
   caught_stands : (function index first handler : ℕ) → instruction_at program (record { function = function; index = index }) ≡ Some (plain.Try first handler)
       → Stands code (instruction_line program frames function index + 3) (ordinary (caught_code (frame_at frames function) first) ++ lines.Jump (instruction_line program frames function handler) ∷ [])
   caught_stands function index first handler at =
@@ -287,8 +284,7 @@ module _ (program : Program) (well : IsWellFormed program) (words : HasWords pro
     finish_goes value at in_range stands (h ∷ handlers) some =
         absurd (stops_not (plain.Finish value) at (zeros_at program c (plain.Finish value) at refl) (ap (finishes c value (routine_at program c.active.function).results) some))
 
-    -- The labelled machine matches a branch by a walk (stretch of a run) through all lines of the
-    -- branch.
+    -- The labelled machine matches a branch by a walk (stretch of a run) through all lines of the branch.
     branch_walks : (comparison : Comparison) (left right : Operand) (target : ℕ) → IsAt (plain.Branch comparison left right target) → is_idle (frame_at frames c.active.function) c.active.next (plain.Branch comparison left right target) ≡ false
         → IsInRange program (routine_at program c.active.function) (plain.Branch comparison left right target) → HasWord (plain.Branch comparison left right target) → StandsHere (plain.Branch comparison left right target)
         → Walk code formed addresses globals_length (words_per_call * calls) (body_count program frames c.active.function (plain.Branch comparison left right target)) here (here + body_count program frames c.active.function (plain.Branch comparison left right target)) c.output (After program pages calls c) (Reached program well frames fit code formed addresses pages calls few c) (Running run)
@@ -389,8 +385,7 @@ module _ (program : Program) (well : IsWellFormed program) (words : HasWords pro
   made true c places u enough (next, goes, matches, lighter) = record { next = next; step = goes; matches = matches; lighter = λ none. lighter }
   made false c places u enough (next, goes, matches) = record { next = next; step = goes; matches = matches; lighter = λ none. absurd (omega (arith, none, enough)) }
 
-  -- In each state of a walk (stretch of a run), the effect of the source step is visible, or output
-  -- and input are still unchanged.
+  -- In each state of a walk (stretch of a run), the effect of the source step is visible, or output and input are still unchanged.
   on_the_way : (c : Configuration) (run : labelled.Configuration) (u : State) → run.input ≡ c.input → Quiet code formed addresses globals_length (words_per_call * calls) c.output run.input (After program pages calls c) u
       → IsOnTheWay above below_machine (states.Running c) u
   on_the_way c run u unread (inl (running, output, left)) =
@@ -398,8 +393,7 @@ module _ (program : Program) (well : IsWellFormed program) (words : HasWords pro
   on_the_way c run u unread (inr (running, next, made, seen)) =
       way_after above below_machine matching (states.Running c) next u made ((lawful program pages calls).grows (states.Running c) next made) running seen
 
-  -- A walk (stretch of a run) through an instruction's own lines matches a step of the plain
-  -- machine.
+  -- A walk (stretch of a run) through an instruction's own lines matches a step of the plain machine.
   stepped : (idle : Bool) (c : Configuration) (t : State) (run : labelled.Configuration) (lo : ℕ) (i : Instruction) → run.input ≡ c.input → instruction_at program (states.place_of (states.Running c)) ≡ Some i
       → instruction_line program frames c.active.function c.active.next - previous_count program frames c.active.function (routine_at program c.active.function).code c.active.next ≤ lo → t ≡ Running run
       → Walk code formed addresses globals_length (words_per_call * calls) (least_of idle) lo (end_of c i) c.output (After program pages calls c) (Comes_to idle c) (Running run)
@@ -426,8 +420,7 @@ module _ (program : Program) (well : IsWellFormed program) (words : HasWords pro
             walk.comes;
       })
 
-  -- The labelled machine matches a step from the first line of its instruction, or from the next
-  -- line if the instruction has no line.
+  -- The labelled machine matches a step from the first line of its instruction, or from the next line if the instruction has no line.
   ready_goes : (idle : Bool) (c : Configuration) (t : State) → Never c → (ready : Ready program well frames fit code formed addresses pages calls few c t) (i : Instruction) → instruction_at program (states.place_of (states.Running c)) ≡ Some i
       → is_idle (frame_at frames c.active.function) c.active.next i ≡ idle
       → Walk code formed addresses globals_length (words_per_call * calls) (least_of idle) (instruction_line program frames c.active.function c.active.next) (end_of c i) c.output (After program pages calls c) (Comes_to idle c) (Running ready.run)
@@ -502,8 +495,7 @@ module _ (program : Program) (well : IsWellFormed program) (words : HasWords pro
       unread : begun.run.input ≡ begun.before.input
       unread = begun.input ∙ sym (ap (λ (d : labelled.Configuration). d.input) same ∙ begun.ready.now.input)
 
-      -- A walk (stretch of a run) through all lines of an instruction, without its first step, is a
-      -- walk through the remaining lines.
+      -- A walk (stretch of a run) through all lines of an instruction, without its first step, is a walk through the remaining lines.
       rest : (n : ℕ) (i : Instruction) → Walk code formed addresses globals_length (words_per_call * calls) (suc n) (instruction_line program frames c.active.function c.active.next) (end_of c i) c.output (After program pages calls c) (Comes_to false c) (Running begun.ready.run)
           → Walk code formed addresses globals_length (words_per_call * calls) n (suc begun.before.line) (end_of c i) c.output (After program pages calls c) (Comes_to false c) (Running begun.run)
       rest n i whole =
@@ -511,8 +503,7 @@ module _ (program : Program) (well : IsWellFormed program) (words : HasWords pro
           (subst (λ (d : labelled.Configuration). Walk code formed addresses globals_length (words_per_call * calls) (suc n) (instruction_line program frames c.active.function c.active.next) (end_of c i) c.output (After program pages calls c) (Comes_to false c) (Running d)) (sym same) whole)
           begun.goes
 
-      -- If a straight-line instruction has no line after its first, its step decreases the number
-      -- of instructions still ahead.
+      -- If a straight-line instruction has no line after its first, its step decreases the number of instructions still ahead.
       straight : (i : Instruction) → instruction_at program (states.place_of (states.Running c)) ≡ Some i → is_idle (frame_at frames c.active.function) c.active.next i ≡ false → is_straight i ≡ true → IsStepped above below_machine matching (states.Running c) t
       straight i at busy is_one =
           stepped true c t begun.run (suc begun.before.line) i begun.input at (omega (arith, before_line)) begun.is

@@ -215,8 +215,7 @@ module _ (program : Program) (well : IsWellFormed program) (words : HasWords pro
   now : Now code formed addresses globals_length (words_per_call * calls) 0 [] input r w run
   now = record { view = view; r_words = words_r; w_words = words_w; at_line = refl; output = refl; input = refl }
 
-  -- Initially each word of the stack is zero, and the data range holds the initial words of the
-  -- globals.
+  -- Initially each word of the stack is zero, and the data range holds the initial words of the globals.
   stack_zero : (a : ℕ) → a % 4 ≡ 0 → stack_end - 4 * (words_per_call * calls) ≤ a → a < stack_end → w.words a ≡ 0
   stack_zero a aligned from below =
       ap (loaded (memory_of run)) (place_of-stack (globals_of code.globals) (replicate (words_per_call * calls) 0) store a (omega (arith, long_globals)) (omega (arith, long_stack, few)) (aligned, (omega (arith, from, long_stack)), below))

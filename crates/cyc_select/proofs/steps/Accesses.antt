@@ -1,5 +1,4 @@
--- The simulation of instructions that move several words, and of those that load and store words of
--- memory.
+-- The simulation of instructions that move several words, and of those that load and store words of memory.
 use Rattle.std.proofs.Common.{◌≡◌, ◌≢◌, ℕ, zero, suc, ◌+◌, ◌*◌, ◌%◌, ◌^◌, ◌<◌, ◌≤◌, Bool, true, false, List, [], ◌∷◌, ◌++◌, length, Option, None, Some, refl, sym, ap, subst, ◌∙◌, arith, inl, inr}
 use Rattle.std.specs.Prelude.{◌||◌, ◌&&◌, if◌then◌else◌}
 use Rattle.std.proofs.lemmas.Bool.{and_from, eqb-true, or_left, or_right, or_parts}
@@ -132,8 +131,7 @@ module _ (globals stack : ℕ) (frame : Frame) (r : Words) (w : Contents) (slots
 -- ---- addresses
 
 module _ (globals stack : ℕ) (frame : Frame) (base : ℕ) (w : Contents) (r slots : Words) (q : Words) (m : Contents) (zero_is : q ZERO ≡ 0) (same : q FRAME ≡ base) (memory : m ≡ w) (values : ValuesSame q r) where
-  -- `IsAddressed` says that after the instructions `is`, a register plus an immediate is the
-  -- accessed address.
+  -- `IsAddressed` says that after the instructions `is`, a register plus an immediate is the accessed address.
   record IsAddressed (is : List Instr) (register half address : ℕ) : Type 0 where
     pub keeps : Keeps globals stack is q m FIRST
     pub comes : memory_address (after_r is q m (register % 32)) half ≡ address
@@ -233,8 +231,7 @@ module _ (program : Program) (well : IsWellFormed program) (frames : List Frame)
         ],
       )
 
-  -- `IsCounted` says that the number of lines emitted for an instruction is the length of its full
-  -- code.
+  -- `IsCounted` says that the number of lines emitted for an instruction is the length of its full code.
   abbrev pub IsCounted : Instruction → Type 0
   IsCounted i = count_of program frames c.active.function c.active.next i ≡ body_count program frames c.active.function i
 

@@ -1,5 +1,4 @@
--- Registers that hold the results of a store's service or of a function call are written to
--- consecutive slots.
+-- Registers that hold the results of a store's service or of a function call are written to consecutive slots.
 use Rattle.std.proofs.Common.{◌≡◌, ◌≢◌, ℕ, zero, suc, ◌+◌, ◌*◌, ◌%◌, ◌<◌, ◌≤◌, Bool, true, false, List, [], ◌∷◌, ◌++◌, length, Option, Some, None, refl, sym, ap, subst, ◌∙◌, arith, inl, inr}
 use Rattle.std.specs.Prelude.{◌⊎◌, ◌&&◌, if◌then◌else◌}
 use Rattle.std.proofs.lemmas.Bool.{cases_eq, cases_lt, ne_eqb, false≢true}
@@ -25,14 +24,12 @@ use Rattle.cyc_select.proofs.relation.Values.{made_in_is}
 use Rattle.cyc_machine_model.specs.declared.constants.TheConstants.{RETURN_ADDRESS}
 use Rattle.cyc_registers.specs.inside.Liveness.{IsLiveAt}
 
--- Returns the slots after the words of these registers are written to the consecutive slots from
--- `slot` on.
+-- Returns the slots after the words of these registers are written to the consecutive slots from `slot` on.
 abbrev pub put_all : (slot : ℕ) → List ℕ → (q slots : Words) → Words
 put_all slot [] q slots = slots
 put_all slot (source ∷ sources) q slots = put_all (suc slot) sources q (put slots slot (q (source % 32)))
 
--- `AreLow` says that all registers in the list have a number below 6, so that no slot has any of
--- them.
+-- `AreLow` says that all registers in the list have a number below 6, so that no slot has any of them.
 abbrev pub AreLow : List ℕ → Type 0
 AreLow [] = Unit {0}
 AreLow (source ∷ sources) = (source % 32 < 6) × AreLow sources
@@ -72,8 +69,7 @@ module _ (program : Program) (well : IsWellFormed program) (frames : List Frame)
     pub result : (k : ℕ) → value_register (frame_at frames c.active.function) slot ≡ Some k → IsLast slot → after_r is q m k ≡ word
     pub others : (n : ℕ) → 6 ≤ n → n < 24 → (value_register (frame_at frames c.active.function) slot ≡ Some n → ⊥) → after_r is q m n ≡ q n
 
-  -- Storing a register's word in the frame writes the slot and keeps the relation between the two
-  -- machines.
+  -- Storing a register's word in the frame writes the slot and keeps the relation between the two machines.
   stored_there : (q : Words) (m : Contents) (slots : Words) (register slot word : ℕ) → StandsWith q m slots → slot < (routine_at program c.active.function).slots → q (register % 32) ≡ word
       → StandsWith q (written m (memory_address (q FRAME) (slot_offset (frame_at frames c.active.function) slot)) (q (register % 32))) (put slots slot word)
   stored_there q m slots register slot word s below is =
@@ -94,8 +90,7 @@ module _ (program : Program) (well : IsWellFormed program) (frames : List Frame)
     others = λ n low high other. refl;
   }
 
-  -- A result word is copied to the slot's register, and also stored in memory if the slot's home
-  -- includes memory.
+  -- A result word is copied to the slot's register, and also stored in memory if the slot's home includes memory.
   copied_one : (q : Words) (m : Contents) (slots : Words) (source slot k : ℕ) → StandsWith q m slots → slot < (routine_at program c.active.function).slots → source % 32 < 6 → q (source % 32) ≡ p (source % 32)
       → value_register (frame_at frames c.active.function) slot ≡ Some k → (kept : Bool) → is_kept (frame_at frames c.active.function) slot ≡ kept
       → IsBrought (copy k source ∷ (if kept then store_slot (frame_at frames c.active.function) (made_in (frame_at frames c.active.function) slot) slot ∷ [] else [])) q m slot slots (p (source % 32))

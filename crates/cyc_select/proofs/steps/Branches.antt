@@ -89,13 +89,11 @@ module _ (program : Program) (well : IsWellFormed program) (frames : List Frame)
   abbrev IsFree : Instruction → Type 0
   IsFree i = calls_nothing i ≡ true
 
-  -- `IsCounted` says that the number of lines emitted for an instruction is the length of its full
-  -- code.
+  -- `IsCounted` says that the number of lines emitted for an instruction is the length of its full code.
   abbrev IsCounted : Instruction → Type 0
   IsCounted i = count_of program frames c.active.function c.active.next i ≡ body_count program frames c.active.function i
 
-  -- `IsPlanThere` says that the operands of a plan are held in registers or memory, and the machine
-  -- can compute its operation on them.
+  -- `IsPlanThere` says that the operands of a plan are held in registers or memory, and the machine can compute its operation on them.
   abbrev IsPlanThere : Plan → Type 0
   IsPlanThere plan =
       Held plan.left × Held plan.right × IsComputable globals_length (words_per_call * calls) plan.operation (word_of plan.left) (word_of plan.right)
@@ -109,14 +107,12 @@ module _ (program : Program) (well : IsWellFormed program) (frames : List Frame)
       walk_end code formed addresses globals_length (words_per_call * calls) (suc here) (here + 1) c.output _ (Running d) (omega arith)
       (reached_at program well frames fit code formed addresses pages calls few c (plain.Jump target) at_i refl r w base back s caches (at c target) (instruction_line program frames c.active.function target) d r w refl refl refl refl refl refl refl refl refl refl refl refl refl refl refl (λ n low high. refl) refl (λ slot. refl) (eqb_itself target) later))
 
-  -- A branch goes to the line of its target if it is taken, otherwise to the line of the next
-  -- instruction.
+  -- A branch goes to the line of its target if it is taken, otherwise to the line of the next instruction.
   line_taken : (b : Bool) (target other : ℕ) (line : ℕ → ℕ) (n : ℕ) → n ≡ line other → (if b then line target else n) ≡ line (if b then target else other)
   line_taken true target other line n same = refl
   line_taken false target other line n same = same
 
-  -- A block of instructions that leaves the tested words in two registers, followed by the branch,
-  -- matches a branch of the plain program.
+  -- A block of instructions that leaves the tested words in two registers, followed by the branch, matches a branch of the plain program.
   branch_plain : (i : Instruction) → IsAt i → IsFree i → (is : List Instr) (condition : Condition) (target count : ℕ) (taken : Bool) → KeepsHere is
       → holds_of (after_r is r w) condition ≡ taken → performed program zeros c i ≡ states.Running (at c (if taken then target else c.active.next + 1))
       → ((slot : ℕ) → writes program i slot ≡ false) → leads i c.active.next (if taken then target else c.active.next + 1) ≡ true
@@ -180,14 +176,12 @@ module _ (program : Program) (well : IsWellFormed program) (frames : List Frame)
     safe_here : IsSafe globals_length (words_per_call * calls) x q
     safe_here = pure_safe globals_length (words_per_call * calls) x its.register q its.computes (writable condition its.own its.register its.may own_value)
 
-    -- Before the hoisted line, registers hold the words of all slots that are live at either
-    -- successor of the branch.
+    -- Before the hoisted line, registers hold the words of all slots that are live at either successor of the branch.
     cached : (next : ℕ) → leads i c.active.next next ≡ true → Caches program frames c.active.function next q c.active.slots
     cached next led =
         caches_past program frames c.active.function (homes_right program well frames fit code formed addresses pages calls few c run r w base back now s caches) c.active.next next r q c.active.slots c.active.slots i at_i led (λ slot k has. unwritten slot) (λ slot k has. refl) (all_same q r keeps.values) caches
 
-    -- After the hoisted line, registers still hold the words of all slots that are live if the
-    -- branch is not taken.
+    -- After the hoisted line, registers still hold the words of all slots that are live if the branch is not taken.
     cached_after : leads i c.active.next (c.active.next + 1) ≡ true → Caches program frames c.active.function (c.active.next + 1) p c.active.slots
     cached_after led slot n has wanted = elim (cases_eq n its.register) [
       | inl same ↦
@@ -203,8 +197,7 @@ module _ (program : Program) (well : IsWellFormed program) (frames : List Frame)
         let saved = (homes_right program well frames fit code formed addresses pages calls few c run r w base back now s caches).saved_registers gives.destination (17 + j) gives.has (omega arith) in
         omega (arith, saved, past)
 
-    -- If the branch is taken, the first line of its target is already executed, as the hoisted
-    -- copy.
+    -- If the branch is taken, the first line of its target is already executed, as the hoisted copy.
     taken_reached : (d : labelled.Configuration) → At program well frames fit code formed addresses pages calls few (here + length is) c.output c.input q (after_w is r w) d
         → At program well frames fit code formed addresses pages calls few (lines_of target + 1) c.output c.input p (does_w x q (after_w is r w)) (labelled.at (moved d x) (lines_of target + 1))
         → performed program zeros c i ≡ states.Running (at c target) → leads i c.active.next target ≡ true → Reached program well frames fit code formed addresses pages calls few c (Running (labelled.at (moved d x) (lines_of target + 1)))

@@ -1,5 +1,4 @@
--- The simulation of calls: the callee's frame lies below the caller's, or the run ends if the stack
--- has no space for it.
+-- The simulation of calls: the callee's frame lies below the caller's, or the run ends if the stack has no space for it.
 use Rattle.std.proofs.Common.{◌≡◌, ◌≢◌, ℕ, suc, ◌+◌, ◌-◌, ◌*◌, ◌%◌, ◌<◌, ◌≤◌, Bool, true, false, not, List, [], ◌∷◌, ◌++◌, length, Option, Some, None, slice_get, refl, sym, ap, subst, ◌∙◌, arith, inl, inr}
 use Rattle.std.specs.Prelude.{◌==◌, if◌then◌else◌, nat_le}
 use Rattle.std.proofs.lemmas.Bool.{cases_eq, cases_lt, eq-eqb, ne_eqb, and_right, lt-leb}
@@ -185,8 +184,7 @@ module _ (program : Program) (well : IsWellFormed program) (frames : List Frame)
         ap (λ (x : ℕ). add_of x (sign_extended (minus frame_size))) s.base_is
         ∙ take_small base frame_size (omega (arith, here_lies.0)) (omega arith) (omega arith) (omega (arith, low_is))
 
-    -- Each argument that is not passed from a register is still in the caller's frame when it is
-    -- passed.
+    -- Each argument that is not passed from a register is still in the caller's frame when it is passed.
     argument_there : (slot : ℕ) → slot < count → passed_from mine its (arguments + slot) (0 + slot) ≡ None → w.words (base + slot_offset mine (arguments + slot)) ≡ c.active.slots (arguments + slot)
     argument_there slot below none = there slot below (ap (passed_from mine its (arguments + slot)) (let e : slot ≡ 0 + slot = omega arith in e) ∙ none)
 
@@ -222,8 +220,7 @@ module _ (program : Program) (well : IsWellFormed program) (frames : List Frame)
     abbrev r3 : Words
     r3 = put r2 RETURN_ADDRESS (addresses (here + 3 + 1 + length passed + 1))
 
-    -- Returns the choice of the initial contents of the callee's slots: the words that its frame
-    -- contains.
+    -- Returns the choice of the initial contents of the callee's slots: the words that its frame contains.
     abbrev choice : Choice
     choice = record { contents = λ (slot : ℕ). w2.words (low + slot_offset its slot); base = low + 4 * its.first_slot; serving = zeros.serving }
 
@@ -239,8 +236,7 @@ module _ (program : Program) (well : IsWellFormed program) (frames : List Frame)
     above_kept : (a : ℕ) → base ≤ a → w2.words a ≡ w.words a
     above_kept a over = copied_now.outside a (inr over)
 
-    -- After the arguments are passed, the callee-saved registers are as in the caller, since no
-    -- argument arrives in one.
+    -- After the arguments are passed, the callee-saved registers are as in the caller, since no argument arrives in one.
     preserved_same : (j : ℕ) → j < 7 → r3 (17 + j) ≡ r (17 + j)
     preserved_same j high =
         put-other r2 RETURN_ADDRESS (17 + j) (addresses (here + 3 + 1 + length passed + 1)) (λ e. absurd (omega (arith, e, high)))
@@ -250,8 +246,7 @@ module _ (program : Program) (well : IsWellFormed program) (frames : List Frame)
         unpassed : (i j : ℕ) → i < count → value_register its (0 + i) ≡ Some (17 + j) → ⊥
         unpassed i j below has = (let low = (came_in (frame_at frames callee) (0 + i) (17 + j) has).1 in omega (arith, low))
 
-    -- The words that the caller leaves in callee-saved registers are unchanged if the callee leaves
-    -- these registers as they were.
+    -- The words that the caller leaves in callee-saved registers are unchanged if the callee leaves these registers as they were.
     own_left_is : (j : ℕ) → j < 7 → LeftBy mine base (preserved_of r3) w2 j ≡ s.left j
     own_left_is j high =
         left_same mine.first_saved mine.saved base (preserved_of r) (preserved_of r3) w w2 (λ i past small. preserved_same i small)

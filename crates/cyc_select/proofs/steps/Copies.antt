@@ -1,5 +1,4 @@
--- Arguments are passed from a caller, in registers or from its frame, to the slots of the callee's
--- frame below.
+-- Arguments are passed from a caller, in registers or from its frame, to the slots of the callee's frame below.
 use Rattle.std.proofs.Common.{◌≡◌, ◌≢◌, ℕ, zero, suc, ◌+◌, ◌%◌, ◌^◌, ◌<◌, ◌≤◌, Bool, true, false, List, [], ◌∷◌, ◌++◌, Option, Some, None, refl, sym, ap, subst, ◌∙◌, arith, inl, inr}
 use Rattle.std.specs.Prelude.{◌⊎◌, ◌==◌, if◌then◌else◌}
 use Rattle.std.proofs.lemmas.Bool.{cases_eq, eqb-false, eqb-true, ne_eqb, false≢true, or_parts}
@@ -131,8 +130,7 @@ module _ (globals stack : ℕ) (caller callee : Frame) (caller_slots callee_slot
     pub inside : is_kept callee slot ≡ true → (after_w is q m).words (low + slot_offset callee slot) ≡ value
     pub store : (after_w is q m).store ≡ m.store
 
-  -- An instruction that puts the argument into the register of the callee's slot, followed by the
-  -- line that keeps it, passes the argument.
+  -- An instruction that puts the argument into the register of the callee's slot, followed by the line that keeps it, passes the argument.
   through : (i : Instr) (slot : ℕ) (q : Words) (m : Contents) (value got : ℕ) → q FRAME ≡ low → slot < callee_slots → AreSafe globals stack (i ∷ []) q m
       → after_r (i ∷ []) q m ≡ put q (made_in callee slot % 32) got → after_w (i ∷ []) q m ≡ m → got ≡ value → Passes (i ∷ keep_code callee slot) slot q m value
   through i slot q m value got is_low below safe_here registers memory is =
@@ -271,8 +269,7 @@ module _ (globals stack : ℕ) (caller callee : Frame) (caller_slots callee_slot
       out_of slot fits a (inl below) same = omega (arith, below, same)
       out_of slot fits a (inr over) same = omega (arith, over, same, above, fits)
 
-      -- The register from which an argument is passed depends only on the argument's position in
-      -- the call.
+      -- The register from which an argument is passed depends only on the argument's position in the call.
       from_at : (source slot j : ℕ) (s t : ℕ) → s ≡ source + j → t ≡ slot + j → passed_from caller callee (source + j) (slot + j) ≡ passed_from caller callee s t
       from_at source slot j s t is_s is_t = ap (λ (n : ℕ). passed_from caller callee n (slot + j)) (sym is_s) ∙ ap (passed_from caller callee s) (sym is_t)
 

@@ -88,8 +88,7 @@ module _ (program : Program) (well : IsWellFormed program) (frames : List Frame)
   part High = 32
   part Low = 33
 
-  -- The instruction that moves the result of a division from HI or LO to the destination's
-  -- register.
+  -- The instruction that moves the result of a division from HI or LO to the destination's register.
   abbrev reads_part : MoveFromOp → (destination : ℕ) → List Instr
   reads_part which destination = move_from_of which (made_in frame destination) ∷ []
 
@@ -146,8 +145,7 @@ module _ (program : Program) (well : IsWellFormed program) (frames : List Frame)
     abbrev hi : ℕ
     hi = here + divide_count frame destination left right
 
-    -- After the division instruction, the lines that move its result from HI or LO to the
-    -- destination match the step.
+    -- After the division instruction, the lines that move its result from HI or LO to the destination match the step.
     finished : (q : Words) (d : labelled.Configuration) → At program well frames fit code formed addresses pages calls few (here + loads + 5) c.output c.input q w d → Stands code (here + loads + 5) (ordinary (reads_part which destination ++ keep_code frame destination))
         → Agrees program well frames fit code formed addresses pages calls few c run r w base back now s caches FIRST q → q (part which) ≡ result_of which (word_of left) (word_of right)
         → Goes 0 (here + loads + 5) (here + divide_count frame destination left right) (Running d)
@@ -168,8 +166,7 @@ module _ (program : Program) (well : IsWellFormed program) (frames : List Frame)
         ∷ lines.Jump (here + loads + 5)
         ∷ ordinary (quotient_code frame which destination (operand_register frame FIRST left) (operand_register frame SECOND right))
 
-    -- The module concerns the lines of a division that follow after the operands are loaded into
-    -- their registers.
+    -- The module concerns the lines of a division that follow after the operands are loaded into their registers.
     module _ (q : Words) (d : labelled.Configuration) (later : At program well frames fit code formed addresses pages calls few (here + loads + 1) c.output c.input q w d)
         (stands : Stands code (here + loads + 1) (lines.Branch (conditions.Registers branch.NotEqual (register_of (operand_register frame SECOND right)) (register_of THIRD)) (here + loads + 4) ∷ last))
         (agrees : Agrees program well frames fit code formed addresses pages calls few c run r w base back now s caches FIRST q)

@@ -1,5 +1,4 @@
--- The simulation of a function's entry: the lines that save the return address and registers, and those that load
--- parameters from memory.
+-- The simulation of a function's entry: the lines that save the return address and registers, and those that load parameters from memory.
 use Rattle.std.proofs.Common.{◌≡◌, ◌≢◌, ℕ, suc, ◌+◌, ◌*◌, ◌<◌, ◌≤◌, Bool, true, false, List, [], ◌∷◌, ◌++◌, length, length-append, sym, ap, refl, subst, ◌∙◌, arith, inl, inr}
 use Rattle.std.specs.Prelude.{if◌then◌else◌}
 use Rattle.cyc_isa.specs.Effect.{memory_address}
@@ -91,8 +90,7 @@ module _ (program : Program) (well : IsWellFormed program) (frames : List Frame)
   saved : AreSaved globals_length (words_per_call * calls) e.base frame.first_saved (omega (arith, here_lies.below_end)) room saved_cell 0 frame.saved e.r kept
   saved = are_saved globals_length (words_per_call * calls) e.base frame.first_saved (omega (arith, here_lies.below_end)) room saved_cell 0 frame.saved e.r kept e.standing.base_is (omega (arith, own.most_saved))
 
-  -- `IsKeptBy` describes the effect of the line that saves the return address, if the function has
-  -- one.
+  -- `IsKeptBy` describes the effect of the line that saves the return address, if the function has one.
   record IsKeptBy (b : Bool) : Type 0 where
     pub safe : AreSafe globals_length (words_per_call * calls) (if b then store RETURN_ADDRESS (4 * frame.return_address) ∷ [] else []) e.r e.w
     pub registers : after_r (if b then store RETURN_ADDRESS (4 * frame.return_address) ∷ [] else []) e.r e.w ≡ e.r

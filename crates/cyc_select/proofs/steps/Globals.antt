@@ -1,5 +1,4 @@
--- The simulation of instructions on globals, the number of open lexical regions, and addresses of
--- slots.
+-- The simulation of instructions on globals, the number of open lexical regions, and addresses of slots.
 use Rattle.std.proofs.Common.{◌≡◌, ℕ, length-append, ◌+◌, ◌-◌, ◌*◌, ◌%◌, ◌^◌, ◌<◌, ◌≤◌, List, [], ◌∷◌, ◌++◌, length, Some, refl, sym, ap, subst, ◌∙◌, arith, inl}
 use Rattle.cyc_words.specs.Word.{add_of, sign_extended}
 use Rattle.cyc_words.proofs.Numbers.{eqb_next}

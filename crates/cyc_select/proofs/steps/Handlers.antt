@@ -1,5 +1,4 @@
--- The simulation of the instructions that open and close exception handlers, and of the lines at
--- which an exception arrives.
+-- The simulation of the instructions that open and close exception handlers, and of the lines at which an exception arrives.
 use Rattle.std.proofs.Common.{◌≡◌, ℕ, suc, ◌+◌, ◌*◌, ◌<◌, ◌≤◌, Bool, true, false, List, [], ◌∷◌, ◌++◌, length, Some, slice_get, refl, sym, ap, subst, ◌∙◌, arith, inl, inr}
 use Rattle.std.specs.Prelude.{◌==◌, if◌then◌else◌}
 use Rattle.std.proofs.lemmas.Bool.{or_left, false≢true}
@@ -151,8 +150,7 @@ module _ (program : Program) (well : IsWellFormed program) (frames : List Frame)
 
     -- ---- a handler is closed
 
-    -- `IsClosed` says that the innermost handler is the one whose record begins at the slot
-    -- `first`.
+    -- `IsClosed` says that the innermost handler is the one whose record begins at the slot `first`.
     record IsClosed (first : ℕ) (handlers : List Handler) : Type 0 where
       pub contents : Words
       pub rest : List Handler
@@ -240,8 +238,7 @@ module _ (program : Program) (well : IsWellFormed program) (frames : List Frame)
       in_record : first + 4 ≤ slots
       in_record = in_range.record_in_range
 
-      -- Storing a register's word at a slot's place in the frame writes this slot and keeps
-      -- `Standing`.
+      -- Storing a register's word at a slot's place in the frame writes this slot and keeps `Standing`.
       put_slot : (q : Words) (m : Contents) (there : Words) (slot word : ℕ) → slot < slots → Standing program frames addresses pages calls c q m base back (under_way true) there
           → Standing program frames addresses pages calls c q (written m (memory_address (q FRAME) (slot_offset frame slot)) word) base back (under_way true) (put there slot word)
       put_slot q m there slot word below stands =

@@ -95,8 +95,7 @@ pure_performs (ShiftVariable op destination source by) k c is = (Ran, after (mac
 pure_performs (Arithmetic op destination left right) k c is = (Ran, after (machine_of c) (Arithmetic op destination left right), (refl, refl), refl)
 pure_performs x k c is = absurd (none-some k is)
 
--- If a branch condition does not test the register that the hoisted line writes, the line does not
--- change the condition.
+-- If a branch condition does not test the register that the hoisted line writes, the line does not change the condition.
 pub holds_beside : (condition : Condition) (k : ℕ) (q p : Words) → tests_register condition k ≡ false → ((n : ℕ) → n ≢ k → q n ≡ p n) → holds_of q condition ≡ holds_of p condition
 holds_beside (conditions.Registers op left right) k q p untested others =
     let parts = or_parts (left.number == k) (right.number == k) untested in
@@ -175,8 +174,7 @@ module _ (frame : Frame) where
       go true rest = following_is rest
       go false same = word_code_starts register word x js same
 
-  -- If a list of instructions with an empty list appended begins with `x`, then the list itself
-  -- begins with `x`.
+  -- If a list of instructions with an empty list appended begins with `x`, then the list itself begins with `x`.
   starts_plain : (is : List Instr) (x : Instr) → Starts (is ++ []) x → Starts is x
   starts_plain is x starts = subst (λ (l : List Instr). Starts l x) (append-nil is) starts
 
@@ -227,8 +225,7 @@ module _ (frame : Frame) where
   move_starts None destination o x is = operand_starts FIRST o None _ x is (λ none. absurd (no_line x none))
   move_starts (Some register) destination o x is = load_starts register o (keep_code frame destination) x is
 
--- The lines of a branch begin with the first line of its test, even if the first line of the branch
--- target is hoisted into them.
+-- The lines of a branch begin with the first line of its test, even if the first line of the branch target is hoisted into them.
 starts_hoisted : (is : List Instr) (first : Option Instr) (x : Instr) → Starts is x → Starts (with_hoisted is first) x
 starts_hoisted is None x starts = starts
 starts_hoisted is (Some y) x starts = starts_append is (y ∷ []) x starts
@@ -310,8 +307,7 @@ gives_own program frames function target i n is = go (fills_at (frame_at frames 
     go true fills given = of i fills given
     go false not_there given = absurd (none-some n given)
 
--- `Hoists` states the properties of a line `x` that is hoisted before a branch with this condition
--- to the instruction at `target`.
+-- `Hoists` states the properties of a line `x` that is hoisted before a branch with this condition to the instruction at `target`.
 pub record Hoists (program : Program) (frames : List Frame) (function target : ℕ) (condition : Condition) (x : Instr) : Type 0 where
   pub i : Instruction
   pub at : slice_get (routine_at program function).code target ≡ Some i
@@ -402,8 +398,7 @@ module _ (condition : Condition) (own : Option ℕ) (register : ℕ) (may : may_
     | inr is ↦ inr (own_is own is)
   ]
 
-  -- If the hoisted line writes a register that slots can have, this register belongs to the slot
-  -- that the target instruction computes.
+  -- If the hoisted line writes a register that slots can have, this register belongs to the slot that the target instruction computes.
   pub of_value : (n : ℕ) → 6 ≤ n → n < 24 → n ≡ register → own ≡ Some n
   of_value n low high same = elim which [
     | inl (inl first) ↦ absurd (omega (arith, first, same, high))

@@ -61,8 +61,7 @@ module _ (program : Program) (well : IsWellFormed program) (frames : List Frame)
       let counted = ap (λ (b : Bool). (if b then 0 else body_count program frames c.active.function i) + after_count program frames c.active.function i) idle in
       omega (arith, line_next program frames c.active.function index i at_i, counted, none)
 
-  -- Returns the plain configuration in which the active call is at instruction `to` and has the
-  -- slots `slots'`.
+  -- Returns the plain configuration in which the active call is at instruction `to` and has the slots `slots'`.
   abbrev after_it : (to : ℕ) → Words → Configuration
   after_it to slots' = at (with_slots c slots') to
 
@@ -99,8 +98,7 @@ module _ (program : Program) (well : IsWellFormed program) (frames : List Frame)
       → Passes
   passes_with i at_i free idle none = passes_to (c.active.next + 1) (omega arith) i at_i free (no_line c.active.next i at_i idle none)
 
-  -- If an instruction writes only a slot that is not live, the machine's state also matches the
-  -- plain state after it.
+  -- If an instruction writes only a slot that is not live, the machine's state also matches the plain state after it.
   passes_unused : (i : Instruction) → IsAt i → calls_nothing i ≡ true → is_idle (frame_at frames c.active.function) c.active.next i ≡ true → after_count program frames c.active.function i ≡ 0
       → (destination word : ℕ) → IsUnused program (routine_at program c.active.function) (frame_at frames c.active.function).homes c.active.next destination
       → ((slot : ℕ) → slot ≢ destination → writes program i slot ≡ false) → leads i c.active.next (c.active.next + 1) ≡ true
@@ -118,8 +116,7 @@ module _ (program : Program) (well : IsWellFormed program) (frames : List Frame)
             ∙ sym (put-other c.active.slots destination slot word other)
       ])
 
-  -- If a move of several words writes only slots that are not live, the machine's state also
-  -- matches the plain state after it.
+  -- If a move of several words writes only slots that are not live, the machine's state also matches the plain state after it.
   passes_unused_words : (destination source count : ℕ) → IsAt (plain.MoveWords destination source count) → is_idle (frame_at frames c.active.function) c.active.next (plain.MoveWords destination source count) ≡ true
       → ((slot : ℕ) → is_among destination count slot ≡ true → IsUnused program (routine_at program c.active.function) (frame_at frames c.active.function).homes c.active.next slot)
       → Passes
@@ -204,8 +201,7 @@ module _ (program : Program) (well : IsWellFormed program) (frames : List Frame)
   never_holds comparison (operands.Slot left) other never = absurd never
   never_holds comparison (operands.Word left) (operands.Slot other) never = absurd never
 
-  -- An instruction marked idle writes only slots that are not live, or jumps over instructions
-  -- marked idle.
+  -- An instruction marked idle writes only slots that are not live, or jumps over instructions marked idle.
   idle_kind : (index : ℕ) (i : Instruction) → instruction_at program (record { function = c.active.function; index = index }) ≡ Some i → idle_at (frame_at frames c.active.function).idle index ≡ true
       → (is_idle (frame_at frames c.active.function) index i ≡ true) × (after_count program frames c.active.function i ≡ 0)
   idle_kind index i at_i is = go i (fit.idle c.active.function ready.standing.known index i at_i is)
@@ -220,8 +216,7 @@ module _ (program : Program) (well : IsWellFormed program) (frames : List Frame)
       go (plain.Branch comparison left right_operand target) idle = (is, refl)
       go j idle = absurd idle
 
-  -- Consecutive idle instructions have no lines, so the instruction after them has the same line
-  -- number as the first.
+  -- Consecutive idle instructions have no lines, so the instruction after them has the same line number as the first.
   no_lines : (first count : ℕ) → first + count ≤ length (routine_at program c.active.function).code → AreIdleFrom (frame_at frames c.active.function).idle first (first + count)
       → instruction_line program frames c.active.function first ≡ instruction_line program frames c.active.function (first + count)
   no_lines first zero inside idle = let e : first ≡ first + 0 = omega arith in ap (instruction_line program frames c.active.function) e

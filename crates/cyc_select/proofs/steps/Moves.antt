@@ -82,8 +82,7 @@ moved_inside x destination source (suc count) (suc k) ahead below =
     ∙ (moved_inside (put x destination (x source)) (suc destination) (suc source) count k (ahead_after destination source count ahead) (omega (arith, below))
     ∙ next_same x destination source count ahead k (omega (arith, below)))
 
--- If no move overwrites a source still to be moved, moving the words one by one has the same result
--- as copying them all at once.
+-- If no move overwrites a source still to be moved, moving the words one by one has the same result as copying them all at once.
 pub moved_copied : (x : Words) (destination source count : ℕ) → IsAhead destination source count → (number : ℕ)
     → moved x destination source count number ≡ copied x source count x destination number
 moved_copied x destination source count ahead number = elim (cases_lt number destination) [
@@ -149,8 +148,7 @@ module _ (program : Program) (well : IsWellFormed program) (frames : List Frame)
         (standing_slot program well frames fit addresses pages calls few c q m base back (under_way in_frame) x s destination word below)
     stored_stands false register word kept result = standing_unkept program well frames fit addresses pages calls few c q m base back (under_way in_frame) x s destination word kept
 
-  -- A block that computes a word in a register, followed by the store of this register if needed,
-  -- writes the word to the slot.
+  -- A block that computes a word in a register, followed by the store of this register if needed, writes the word to the slot.
   block_gives : (q : Words) (m : Contents) (x : Words) → StandsWith q m x → (destination : ℕ) → destination < (routine_at program c.active.function).slots
       → (is : List Instr) (register but word : ℕ) → Keeps globals_length (words_per_call * calls) is q m but → after_r is q m (register % 32) ≡ word
       → (b : Bool) → is_kept (frame_at frames c.active.function) destination ≡ b

@@ -1,5 +1,4 @@
--- The simulation of calls from their first line on: arguments that are passed from memory are
--- stored there first.
+-- The simulation of calls from their first line on: arguments that are passed from memory are stored there first.
 use Rattle.std.proofs.Common.{◌≡◌, ℕ, zero, suc, ◌+◌, ◌*◌, ◌%◌, ◌<◌, ◌≤◌, Bool, true, false, List, [], ◌∷◌, ◌++◌, length, Option, Some, None, refl, sym, ap, subst, ◌∙◌, arith, inl, inr}
 use Rattle.std.specs.Prelude.{if◌then◌else◌}
 use Rattle.std.proofs.lemmas.Bool.{eq-eqb, cases_eq}
@@ -81,8 +80,7 @@ module _ (program : Program) (well : IsWellFormed program) (frames : List Frame)
           ap r (let e : made_in (frame_at frames c.active.function) slot % 32 ≡ k = omega (arith, made_in_is (frame_at frames c.active.function) slot k has, right.high slot k has) in e)
           ∙ cached k has
 
-  -- `IsSpilled` describes the effect of storing a slot's word in memory, if memory does not contain
-  -- it yet.
+  -- `IsSpilled` describes the effect of storing a slot's word in memory, if memory does not contain it yet.
   record IsSpilled (is : List Instr) (m : Contents) (slot : ℕ) : Type 0 where
     pub safe : AreSafe globals_length (words_per_call * calls) is r m
     pub same : after_r is r m ≡ r
@@ -225,8 +223,7 @@ module _ (program : Program) (well : IsWellFormed program) (frames : List Frame)
       let is = caches (arguments + slot) k has (0, (plain.Call callee arguments count result, at_i, among arguments count (arguments + slot) (omega arith) (omega (arith, below)))) in
       (right.low (arguments + slot) k has, right.high (arguments + slot) k has, is, subst IsWord is (now.r_words k))
 
-  -- A callee-saved register holds the word of its slot before a call if the slot is live after the
-  -- call and is not a result.
+  -- A callee-saved register holds the word of its slot before a call if the slot is live after the call and is not a result.
   finds_there : Finds program frames c.active.function c.active.next callee arguments count result (preserved_of r) c.active.slots
   finds_there slot j high has unwritten (steps, live) =
       caches slot (17 + j) has (suc steps, (plain.Call callee arguments count result, at_i, unwritten, suc c.active.next, eq-eqb (suc c.active.next) (suc c.active.next) refl, live))

@@ -127,8 +127,7 @@ module _ (globals stack base first : ℕ) (top : base + frame_size < 2 ^ 32) (ro
         store_same = rest.store_same;
       }
 
-  -- After the saves at a function's entry, the words that the function leaves to its caller are
-  -- those in the callee-saved registers.
+  -- After the saves at a function's entry, the words that the function leaves to its caller are those in the callee-saved registers.
   pub entered_left : (saved : ℕ) (q : Words) (m : Contents) → q FRAME ≡ base → saved ≤ 7
       → (j : ℕ) → Left first saved base (preserved_of q) (after_w (saves_from first 0 saved) q m) j ≡ preserved_of q j
   entered_left saved q m is few j = elim (cases_lt j saved) [
@@ -139,8 +138,7 @@ module _ (globals stack base first : ℕ) (top : base + frame_size < 2 ^ 32) (ro
     | inr past ↦ left_past first saved base (preserved_of q) (after_w (saves_from first 0 saved) q m) j past
   ]
 
-  -- After the restores at a function's return, the callee-saved registers hold the words left to
-  -- the caller.
+  -- After the restores at a function's return, the callee-saved registers hold the words left to the caller.
   pub returned_left : (saved : ℕ) (q : Words) (w : Contents) → q FRAME ≡ base → saved ≤ 7
       → (j : ℕ) → preserved_of (after_r (restores_from first 0 saved) q w) j ≡ Left first saved base (preserved_of q) w j
   returned_left saved q w is few j = elim (cases_lt j saved) [

@@ -7,8 +7,7 @@ use Rattle.cyc_plain.specs.inside.State.{Words, put, copied}
 use Rattle.cyc_plain.specs.inside.Step.{is_intact}
 use Rattle.cyc_plain.proofs.SlotLaws.{put-same, put-other, copied-inside, copied-below, copied-above}
 
--- Returns the four words of a new handler record: the previous handler, the frame, the line, and
--- the unchanged last word.
+-- Returns the four words of a new handler record: the previous handler, the frame, the line, and the unchanged last word.
 abbrev pub record_words : (previous frame line last : ℕ) → Words
 record_words previous frame line last = λ (k : ℕ). if k == 0 then previous else (if k == 1 then frame else (if k == 2 then line else last))
 

@@ -59,8 +59,7 @@ use Rattle.cyc_registers.specs.inside.Liveness.{IsLiveAt}
 
 -- ---- the request and its result
 
--- If the argument registers hold the operands of a request, they describe the call of the store
--- that the request makes.
+-- If the argument registers hold the operands of a request, they describe the call of the store that the request makes.
 is_call : (request : Request) (slots q : Words) → ((operand : Operand) → first_operand request ≡ Some operand → q 4 ≡ operand_word slots operand)
     → ((operand : Operand) → second_operand request ≡ Some operand → q 5 ≡ operand_word slots operand) → call_by request (q 4) (q 5) ≡ call_in slots request
 is_call (requests.OpenLexical destination) slots q first second = refl
@@ -71,8 +70,7 @@ is_call (requests.Allocate destination handle words) slots q first second =
     ap (λ (x : ℕ). services.Allocate x (q 5)) (first handle refl) ∙ ap (services.Allocate (operand_word slots handle)) (second words refl)
 is_call (requests.Free address) slots q first second = ap services.Free (first address refl)
 
--- The result registers hold the store's result after the lines that update the number of open
--- regions.
+-- The result registers hold the store's result after the lines that update the number of open regions.
 reported_is : (request : Request) (store : StoreState) (slots q : Words) (m : Contents) (choice : services.Choice)
     → put_all (destination_of request) (result_registers (answer_count request)) (after_r (regions_code request) (answered_r (answer store (call_in slots request) choice) q) m) slots
     ≡ reported (answer store (call_in slots request) choice) (destination_of request) slots
@@ -342,8 +340,7 @@ module _ (program : Program) (well : IsWellFormed program) (frames : List Frame)
     last_lines : Stands code (here + length is + length js) (ordinary last)
     last_lines = stands_after code (here + length is) js last after_lines
 
-    -- The labelled machine matches a request by the lines that load its arguments and call its
-    -- service.
+    -- The labelled machine matches a request by the lines that load its arguments and call its service.
     called_goes : (n : ℕ) → 0 < n
         → ((d : labelled.Configuration) → At program well frames fit code formed addresses pages calls few called c.output c.input ready w d → Goes n called hi (Running d))
         → Goes 1 here hi (Running run)
@@ -396,8 +393,7 @@ module _ (program : Program) (well : IsWellFormed program) (frames : List Frame)
       abbrev w1 : Contents
       w1 = record w { store = served c.store call chosen }
 
-      -- `answered` are the registers after the service and before the lines that update the number
-      -- of open regions.
+      -- `answered` are the registers after the service and before the lines that update the number of open regions.
       abbrev answered : Words
       answered = answered_r (answer c.store call chosen) ready
 

@@ -1,5 +1,4 @@
--- The simulation of returns: the results are loaded into registers, and the run continues after the
--- call or ends.
+-- The simulation of returns: the results are loaded into registers, and the run continues after the call or ends.
 use Rattle.std.proofs.Common.{◌≡◌, ◌≢◌, ℕ, zero, suc, ◌+◌, ◌-◌, ◌*◌, ◌%◌, ◌^◌, ◌<◌, ◌≤◌, Bool, true, false, not, List, [], ◌∷◌, ◌++◌, length, length-append, Some, slice_get, refl, sym, ap, subst, ◌∙◌, arith, inl, inr}
 use Rattle.std.specs.Prelude.{◌==◌, ◌⊎◌, if◌then◌else◌}
 use Rattle.std.proofs.lemmas.Bool.{cases_Bool, eq-eqb, ne_eqb}
@@ -47,8 +46,7 @@ use Rattle.cyc_select.proofs.relation.Matches.{After, At, Reached, reached, with
 
 -- ---- results loaded from slots into registers
 
--- Returns the last instructions before the jump of a return: they load the results, restore
--- registers, and pop the frame.
+-- Returns the last instructions before the jump of a return: they load the results, restore registers, and pop the frame.
 abbrev pub loaded : Frame → (value count : ℕ) → List Instr
 loaded frame value count = load_all frame value (result_registers count) ++ (restores frame ++ pop_frame ∷ [])
 
@@ -69,16 +67,14 @@ length_loaded frame value count few =
       length_restores frame.first_saved 0 frame.saved,
     )
 
--- `AreLoads` says that the result registers hold the returned slots after the loads, and that no
--- other register changes.
+-- `AreLoads` says that the result registers hold the returned slots after the loads, and that no other register changes.
 record AreLoads (globals stack : ℕ) (frame : Frame) (value count : ℕ) (r : Words) (w : Contents) (slots : Words) : Type 0 where
   pub safe : AreSafe globals stack (load_all frame value (result_registers count)) r w
   pub memory : after_w (load_all frame value (result_registers count)) r w ≡ w
   pub kept : (n : ℕ) → n < 32 → n ≢ 2 → n ≢ 3 → n ≢ 5 → after_r (load_all frame value (result_registers count)) r w n ≡ r n
   pub returned : (k : ℕ) → k < count → after_r (load_all frame value (result_registers count)) r w (result_register k) ≡ slots (value + k)
 
--- `AreLoaded` says that after the last lines of a return, the results are in registers and the
--- callee-saved registers are restored.
+-- `AreLoaded` says that after the last lines of a return, the results are in registers and the callee-saved registers are restored.
 record AreLoaded (globals stack base : ℕ) (frame : Frame) (value count : ℕ) (r : Words) (w : Contents) (slots : Words) : Type 0 where
   pub safe : AreSafe globals stack (loaded frame value count) r w
   pub base_moved : after_r (loaded frame value count) r w FRAME ≡ add_of (r FRAME) (sign_extended frame_size)
@@ -181,8 +177,7 @@ module _ (globals stack : ℕ) (frame : Frame) (r : Words) (w : Contents) (slots
   result_low (suc (suc zero)) count below few = ((omega arith), (λ e. absurd (omega (arith, e))))
   result_low (suc (suc (suc k))) count below few = absurd (omega (arith, below, few))
 
-  -- The module shows that after the loads of the results, callee-saved registers are restored and
-  -- the frame is popped.
+  -- The module shows that after the loads of the results, callee-saved registers are restored and the frame is popped.
   module _ (base : ℕ) (base_is : r FRAME ≡ base) (top : base + frame_size < 2 ^ 32) (room : frame.first_saved + 7 ≤ 256) (few_saved : frame.saved ≤ 7)
       (cells : (j : ℕ) → j < 7 → IsCell globals stack (base + 4 * (frame.first_saved + j))) where
     are_loaded : (count : ℕ) → count ≤ 3 → ((slot : ℕ) → value ≤ slot → slot < value + count → HeldIn globals stack (value_register frame slot) frame (r FRAME) w r slots slot)
@@ -372,8 +367,7 @@ module _ (program : Program) (well : IsWellFormed program) (frames : List Frame)
   loaded_length : length (ordinary (loaded frame value results)) ≡ results + frame.saved + 1
   loaded_length = length_ordinary (loaded frame value results) ∙ length_loaded frame value results few_results
 
-  -- Returns the last lines of a return, from those that load the results on, with or without
-  -- restored registers.
+  -- Returns the last lines of a return, from those that load the results on, with or without restored registers.
   abbrev tail : List Line
   tail = ordinary (loaded frame value results) ++ lines.Return ∷ []
 

@@ -1,5 +1,4 @@
--- The simulation of the machine's services: reading a byte, writing a byte, and ending the run by an
--- uncaught exception.
+-- The simulation of the machine's services: reading a byte, writing a byte, and ending the run by an uncaught exception.
 use Rattle.std.proofs.Common.{◌≡◌, ℕ, suc, ◌+◌, ◌-◌, ◌*◌, ◌%◌, ◌^◌, ◌<◌, ◌≤◌, List, [], ◌∷◌, ◌++◌, length, drop, Some, refl, sym, ap, subst, ◌∙◌, arith}
 use Rattle.std.specs.List.{AllByRecursion}
 use Rattle.cyc_words.specs.Ending.{Ending, Uncaught}

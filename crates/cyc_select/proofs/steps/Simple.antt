@@ -1,5 +1,4 @@
--- The simulation of instructions that neither call nor return: writes of slots, copies and
--- operators.
+-- The simulation of instructions that neither call nor return: writes of slots, copies and operators.
 use Rattle.std.proofs.Common.{◌≡◌, ◌≢◌, ℕ, suc, length-append, ◌+◌, ◌-◌, ◌*◌, ◌%◌, ◌<◌, ◌≤◌, Bool, true, false, List, [], ◌∷◌, ◌++◌, length, Option, Some, None, refl, sym, ap, subst, ◌∙◌, arith}
 use Rattle.std.specs.Prelude.{◌==◌, ◌||◌, if◌then◌else◌}
 use Rattle.std.specs.List.{AllByRecursion}
@@ -121,13 +120,11 @@ module _ (program : Program) (well : IsWellFormed program) (frames : List Frame)
   abbrev IsFree : Instruction → Type 0
   IsFree i = calls_nothing i ≡ true
 
-  -- `IsCounted` says that the number of lines emitted for an instruction is the length of its full
-  -- code.
+  -- `IsCounted` says that the number of lines emitted for an instruction is the length of its full code.
   abbrev pub IsCounted : Instruction → Type 0
   IsCounted i = count_of program frames c.active.function c.active.next i ≡ body_count program frames c.active.function i
 
-  -- `Gets` says that an instruction writes exactly this slot and passes control to the next
-  -- instruction.
+  -- `Gets` says that an instruction writes exactly this slot and passes control to the next instruction.
   abbrev Gets : Instruction → (destination : ℕ) → Type 0
   Gets i destination =
       ((slot : ℕ) → slot ≢ destination → writes program i slot ≡ false) × (writes program i destination ≡ true) × (leads i c.active.next (c.active.next + 1) ≡ true)
@@ -135,8 +132,7 @@ module _ (program : Program) (well : IsWellFormed program) (frames : List Frame)
   pub gets : (destination : ℕ) → ((slot : ℕ) → slot ≢ destination → (destination == slot) ≡ false) × ((destination == destination) ≡ true) × ((suc c.active.next == c.active.next + 1) ≡ true)
   gets destination = (λ slot other. eqb_other destination slot other, eqb_itself destination, eqb_next c.active.next)
 
-  -- `Agrees` says that registers are as before the instruction, except temporaries and at most one slot's
-  -- register.
+  -- `Agrees` says that registers are as before the instruction, except temporaries and at most one slot's register.
   pub record Agrees (but : ℕ) (q : Words) : Type 0 where
     pub zero_same : q 0 ≡ r 0
     pub base_same : q FRAME ≡ r FRAME
@@ -244,8 +240,7 @@ module _ (program : Program) (well : IsWellFormed program) (frames : List Frame)
       gives_from i at_i free destination word input given below does fine line count q d now_d is (made_in frame destination) (made_in frame destination % 32) agrees keeps result
       (λ k has. ap (after_r is q w) (made_here destination k has) ∙ result) (made_aside destination) long counted stands
 
-  -- The labelled machine matches an instruction that writes a computed word, from the instruction's
-  -- first line on.
+  -- The labelled machine matches an instruction that writes a computed word, from the instruction's first line on.
   pub gives_by : (i : Instruction) → IsAt i → IsFree i → (is : List Instr) (destination word count : ℕ) → 0 < length is → Keeps globals_length (words_per_call * calls) is r w (made_in frame destination % 32) → after_r is r w (made_in frame destination % 32) ≡ word
       → Gets i destination → destination < slots → performed program zeros c i ≡ gives c destination word → length is + keep_count frame destination ≡ count → count_of program frames c.active.function c.active.next i ≡ count
       → Stands code here (ordinary (is ++ keep_code frame destination)) → Goes 1 here (here + count) (Running run)
@@ -339,8 +334,7 @@ module _ (program : Program) (well : IsWellFormed program) (frames : List Frame)
       gives_by i at_i free (computed_code frame target plan) destination word (plan_count frame plan destination) (omega (arith, length_computed frame target plan, operation_some plan.operation)) leaves.keeps (leaves.result ∙ is)
       given below does (omega (arith, length_computed frame target plan)) counted stands
 
-  -- `IsPlanThere` says that the operands of a plan are held in registers or memory, and the machine
-  -- can compute its operation on them.
+  -- `IsPlanThere` says that the operands of a plan are held in registers or memory, and the machine can compute its operation on them.
   abbrev IsPlanThere : Plan → Type 0
   IsPlanThere plan =
       Held plan.left × Held plan.right × IsComputable globals_length (words_per_call * calls) plan.operation (word_of plan.left) (word_of plan.right)
@@ -366,8 +360,7 @@ module _ (program : Program) (well : IsWellFormed program) (frames : List Frame)
       plan_goes (plain.Unary operator destination operand) at_i refl (unary_plan operator operand) destination (unary_result operator (word_of operand))
       (unary_there operator operand operand_there) (unary_word c.active.slots operand (is_word operand operand_there) operator) (gets destination) below refl counted stands
 
-  -- The labelled machine matches an operator that is computed by a plan, without a test of the
-  -- divisor.
+  -- The labelled machine matches an operator that is computed by a plan, without a test of the divisor.
   pub binary_goes : (operator : BinaryOperator) (destination : ℕ) (left right : Operand) → IsAt (plain.Binary operator destination left right) → destination < slots → IsThere left → IsThere right
       → is_tested operator right ≡ false
       → performed program zeros c (plain.Binary operator destination left right) ≡ gives c destination (binary_result operator (word_of left) (word_of right))

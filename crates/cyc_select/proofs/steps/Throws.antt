@@ -1,5 +1,4 @@
--- The simulation of the instruction that throws: the exception reaches the newest handler, or ends
--- the run.
+-- The simulation of the instruction that throws: the exception reaches the newest handler, or ends the run.
 use Rattle.std.proofs.Common.{◌≡◌, ◌≢◌, ℕ, suc, ◌+◌, ◌-◌, ◌*◌, ◌<◌, ◌≤◌, Bool, true, false, not, List, [], ◌∷◌, ◌++◌, length, Some, refl, sym, ap, subst, ◌∙◌, arith, inr, length-append, inl}
 use Rattle.std.specs.Prelude.{◌==◌, ◌&&◌, nat_le, nat_lt, if◌then◌else◌}
 use Rattle.std.proofs.lemmas.Bool.{eq-eqb, ne_eqb, or_left, or_right, and_from, le-leb, lt-ltb, cond-true}
@@ -90,13 +89,11 @@ module _ (program : Program) (well : IsWellFormed program) (frames : List Frame)
 
     -- ---- an exception is thrown
 
-    -- `IsUnsaved` says that no function of the program saves the `j`-th callee-saved register, so
-    -- its word is equal in all calls.
+    -- `IsUnsaved` says that no function of the program saves the `j`-th callee-saved register, so its word is equal in all calls.
     abbrev IsUnsaved : (j : ℕ) → Type 0
     IsUnsaved j = (g : ℕ) → g < length program.functions → (frame_at frames g).saved ≤ j
 
-    -- Returns the registers as if a call had returned: the callee-saved registers are restored, and the caller's frame is the
-    -- current one.
+    -- Returns the registers as if a call had returned: the callee-saved registers are restored, and the caller's frame is the current one.
     abbrev as_returned : (left q : Words) (base : ℕ) → Words
     as_returned left q base = put (λ (n : ℕ). if nat_le 17 n && nat_lt n 24 then left (n - 17) else q n) FRAME base
 
@@ -106,8 +103,7 @@ module _ (program : Program) (well : IsWellFormed program) (frames : List Frame)
         ∙ (cond-true (nat_le 17 (17 + j) && nat_lt (17 + j) 24) (left (17 + j - 17)) (q (17 + j)) (and_from _ _ (le-leb 17 (17 + j) (omega arith)) (lt-ltb (17 + j) 24 (omega (arith, high))))
         ∙ ap left (let e : 17 + j - 17 ≡ j = omega arith in e))
 
-    -- `IsFound` describes the call whose handler catches the exception, as if this call were the
-    -- active one.
+    -- `IsFound` describes the call whose handler catches the exception, as if this call were the active one.
     record IsFound (tag value : ℕ) (t : states.State) : Type 0 where
       pub call : Activation
       pub waiting : List states.Frame
@@ -169,8 +165,7 @@ module _ (program : Program) (well : IsWellFormed program) (frames : List Frame)
             does = ap (λ (b : Bool). if b then come call waiting index first rest else states.Stuck c.output c.input) intact;
           })
 
-      -- When an exception leaves a call, the caller's frame is in memory as if the call had
-      -- returned.
+      -- When an exception leaves a call, the caller's frame is in memory as if the call had returned.
       popped : (call : Activation) (f : states.Frame) (waiting : List states.Frame) (q : Words) (low back : ℕ) → call.handlers ≡ []
           → (stands : Standing program frames addresses pages calls (record c { active = call; frames = f ∷ waiting }) q w low back (under_way (frame_at frames call.function).saves) call.slots)
           → Standing program frames addresses pages calls (record c { active = f.caller; frames = waiting })
@@ -269,8 +264,7 @@ module _ (program : Program) (well : IsWellFormed program) (frames : List Frame)
         some : r HANDLERS ≢ 0
         some none = absurd (omega (arith, none, record_at, its_lies.above_low, it.stands.deep))
 
-        -- The module assumes that the run continues at the handler, with registers loaded from the
-        -- handler's record.
+        -- The module assumes that the run continues at the handler, with registers loaded from the handler's record.
         module _ (final : Words) (zero_is : final 0 ≡ 0) (previous_is : final HANDLERS ≡ it.contents 0) (base_is : final FRAME ≡ it.contents 1) (lowest_is : final LOWEST ≡ r LOWEST) (count_is : final REGIONS ≡ r REGIONS) (middle_is : final GLOBALS ≡ r GLOBALS)
             (preserved_is : (j : ℕ) → j < 7 → preserved_of final j ≡ preserved_of r j) (tag_is : final 4 ≡ tag) (value_is : final 5 ≡ value) (g : labelled.Configuration)
             (at_line : At program well frames fit code formed addresses pages calls few (instruction_line program frames it.call.function it.index + 3) c.output c.input final w g) where
@@ -280,8 +274,7 @@ module _ (program : Program) (well : IsWellFormed program) (frames : List Frame)
             frames = it.waiting;
           }
 
-          -- The function of the handler saves every callee-saved register that any function of the
-          -- program may change.
+          -- The function of the handler saves every callee-saved register that any function of the program may change.
           saves_all : (j : ℕ) → its.saved ≤ j → IsUnsaved j
           saves_all j past g known =
               let most = fit.opening it.call.function g it.stands.known known (opens_at (routine_at program it.call.function).code it.index it.first it.one.handler it.one.opened) in

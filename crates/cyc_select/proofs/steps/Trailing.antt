@@ -260,8 +260,7 @@ module _ (program : Program) (well : IsWellFormed program) (frames : List Frame)
   abbrev given_w : Contents
   given_w = after_w kept_words b.r b.w
 
-  -- After the results are written and registers reloaded, the slots are those of the plain
-  -- configuration.
+  -- After the results are written and registers reloaded, the slots are those of the plain configuration.
   slots_are : (number : ℕ) → put_all b.result registers_of b.r b.waiting number ≡ c.active.slots number
   slots_are number =
       results_copied program well frames fit addresses pages calls few c b.r b.base saved (under_way true) b.result b.first b.values b.waiting (routine_at program b.callee).results few_results
@@ -280,8 +279,7 @@ module _ (program : Program) (well : IsWellFormed program) (frames : List Frame)
       let same : register ≡ k = (let e : Some register ≡ Some k = has in cc) in
       omega (arith, same, leb-true 17 register lives)
 
-  -- A slot that is live after a call and has no word in memory is a result, or its word is in a
-  -- callee-saved register.
+  -- A slot that is live after a call and has no word in memory is a result, or its word is in a callee-saved register.
   alone_returned : CachesBut program well frames fit addresses pages calls few true c b.base saved true c.active.next b.result past b.r low_words room_is shares_none b.result (length registers_of) b.r b.waiting
   alone_returned a k has wanted last outside =
       let unwritten = apart_from_all a outside in

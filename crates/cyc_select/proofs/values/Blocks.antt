@@ -40,16 +40,14 @@ abbrev pub IsAside : (but target : ℕ) → Type 0
 IsAside but target = (n : ℕ) → 6 ≤ n → n < 24 → n ≢ but → n ≢ target
 
 module _ (globals stack : ℕ) where
-  -- `Puts` describes instructions that write one register: afterwards it holds this word, and every other
-  -- register is unchanged.
+  -- `Puts` describes instructions that write one register: afterwards it holds this word, and every other register is unchanged.
   pub record Puts (is : List Instr) (r : Words) (w : Contents) (target at word : ℕ) : Type 0 where
     pub safe : AreSafe globals stack is r w
     pub memory : after_w is r w ≡ w
     pub result : after_r is r w at ≡ word
     pub others : (n : ℕ) → n < 32 → n ≢ target → after_r is r w n ≡ r n
 
-  -- `Keeps` describes instructions that leave unchanged the reserved registers and those of slots,
-  -- except the register `but`.
+  -- `Keeps` describes instructions that leave unchanged the reserved registers and those of slots, except the register `but`.
   pub record Keeps (is : List Instr) (r : Words) (w : Contents) (but : ℕ) : Type 0 where
     pub safe : AreSafe globals stack is r w
     pub memory : after_w is r w ≡ w

@@ -84,22 +84,19 @@ module _ (globals stack : ℕ) where
 
   -- ---- operands
 
-  -- `HeldIn` says that a slot's word is in its register, or at an address from which it can be
-  -- loaded.
+  -- `HeldIn` says that a slot's word is in its register, or at an address from which it can be loaded.
   abbrev pub HeldIn : Option ℕ → Frame → (base : ℕ) → (w : Contents) (r slots : Words) → (slot : ℕ) → Type 0
   HeldIn None frame base w r slots slot =
       IsCell globals stack (memory_address base (slot_offset frame slot)) × (w.words (memory_address base (slot_offset frame slot)) ≡ slots slot)
   HeldIn (Some register) frame base w r slots slot =
       (6 ≤ register) × (register < 24) × (r register ≡ slots slot) × IsWord (slots slot)
 
-  -- `IsHeld` says that an operand is a constant, or that its slot's word is in a register or in
-  -- memory.
+  -- `IsHeld` says that an operand is a constant, or that its slot's word is in a register or in memory.
   abbrev pub IsHeld : Frame → (base : ℕ) → (w : Contents) (r slots : Words) → Operand → Type 0
   IsHeld frame base w r slots (operands.Slot number) = HeldIn (value_register frame number) frame base w r slots number
   IsHeld frame base w r slots (operands.Word word) = IsWord word
 
-  -- The module assumes registers and memory in which the frame and the slots' registers are
-  -- unchanged.
+  -- The module assumes registers and memory in which the frame and the slots' registers are unchanged.
   module _ (frame : Frame) (base : ℕ) (w : Contents) (r slots : Words) (q : Words) (m : Contents) (zero : q ZERO ≡ 0) (same : q FRAME ≡ base) (memory : m ≡ w) (values : ValuesSame q r) where
     memory_puts : (target number : ℕ) → IsWritable (target % 32) → IsCell globals stack (memory_address base (slot_offset frame number)) → w.words (memory_address base (slot_offset frame number)) ≡ slots number
         → Puts globals stack (load target (slot_offset frame number) ∷ []) q m (target % 32) (target % 32) (slots number)
@@ -219,8 +216,7 @@ module _ (globals stack : ℕ) where
 
   -- ---- computed words
 
-  -- `IsComputable` says that the machine can compute an operation on two words: a division has no
-  -- zero divisor and does not overflow.
+  -- `IsComputable` says that the machine can compute an operation on two words: a division has no zero divisor and does not overflow.
   abbrev pub IsComputable : Operation → (a b : ℕ) → Type 0
   IsComputable (operations.MultiplyDivide Divide from) a b = (b ≢ 0) × (a ≡ 2 ^ 31 → b ≡ 2 ^ 32 - 1 → ⊥)
   IsComputable operation a b = Unit {0}
@@ -286,14 +282,12 @@ module _ (globals stack : ℕ) where
   minus_one_is n zero =
       ap (λ (x : ℕ). add_of x (sign_extended 65535)) zero ∙ (ap (add_of 0) (sign_extended_high 65535 (omega arith) (omega arith)) ∙ refl)
 
-  -- `Leaves` says that the instructions leave this word in the target register and change nothing
-  -- else.
+  -- `Leaves` says that the instructions leave this word in the target register and change nothing else.
   pub record Leaves (is : List Instr) (q : Words) (m : Contents) (target word : ℕ) : Type 0 where
     pub keeps : Keeps globals stack is q m (target % 32)
     pub result : after_r is q m (target % 32) ≡ word
 
-  -- The module assumes registers and memory in which the frame and the slots' registers are
-  -- unchanged.
+  -- The module assumes registers and memory in which the frame and the slots' registers are unchanged.
   module _ (frame : Frame) (base : ℕ) (w : Contents) (r slots : Words) (q : Words) (m : Contents) (zero : q ZERO ≡ 0) (same : q FRAME ≡ base) (memory : m ≡ w) (values : ValuesSame q r) where
     pub operands_put : (but : ℕ) (left right : Operand) → IsHeld frame base w r slots left → IsHeld frame base w r slots right
         → AreLoaded (operands_code frame left right) q m but (operand_register frame FIRST left) (operand_register frame SECOND right) (operand_word slots left) (operand_word slots right)
@@ -360,8 +354,7 @@ module _ (globals stack : ℕ) where
     not_third target apart (operands.Slot number) held = fetched_not_third (value_register frame number) target number apart held
     not_third target apart (operands.Word word) held = word_not_third (is_zero_word (operands.Word word)) target apart
 
-    -- `AreDivided` says that after the instructions, the dividend, the divisor and -1 are in
-    -- registers.
+    -- `AreDivided` says that after the instructions, the dividend, the divisor and -1 are in registers.
     pub record AreDivided (is : List Instr) (left right : Operand) : Type 0 where
       pub keeps : Keeps globals stack is q m FIRST
       pub dividend : after_r is q m (operand_register frame FIRST left % 32) ≡ operand_word slots left

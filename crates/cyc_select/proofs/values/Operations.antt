@@ -43,8 +43,7 @@ global_lies address is_word = elim (cases_lt (address % 2 ^ 16) (2 ^ 15)) [
       ∙ (let e : add_of (load_upper_result ((address + 2 ^ 15) / 2 ^ 16)) (address % 2 ^ 16 + (2 ^ 32 - 2 ^ 16)) ≡ address = omega (arith, high) in e)
 ]
 
--- The address of a global near the base register is the sum of the base address and a sign-extended
--- 16-bit offset.
+-- The address of a global near the base register is the sum of the base address and a sign-extended 16-bit offset.
 pub near_lies : (global : ℕ) → global < NEAR_GLOBALS → memory_address GLOBALS_MIDDLE ((data_base + 4 * global + 2 ^ 15) % 2 ^ 16) ≡ data_base + 4 * global
 near_lies global near = elim (cases_lt global (2 ^ 13)) [
   | inl low ↦
@@ -122,8 +121,7 @@ low_product a b is_a is_b =
 
 -- ---- quotients by -1
 
--- The quotient of a word by -1 is the low word of its product with -1, and the remainder is the
--- product of 0 and 0.
+-- The quotient of a word by -1 is the low word of its product with -1, and the remainder is the product of 0 and 0.
 pub product_quotient : (a : ℕ) → IsWord a → low_result Multiply a (2 ^ 32 - 1) ≡ div_of a (2 ^ 32 - 1)
 unfolding div_of
 product_quotient a is_a =

@@ -353,8 +353,7 @@ module _ (slots : Words) (left right : Operand) (left_fits : IsWord (operand_wor
   order_taken : (comparison : Comparison) → test_taken slots (order_test comparison left right) ≡ compares comparison (operand_word slots left) (operand_word slots right)
   order_taken comparison = go (is_zero_word right) (is_zero_word left) refl refl
     where
-      -- A test with the operand 0 on the right can be replaced by a test of the left operand's
-      -- sign.
+      -- A test with the operand 0 on the right can be replaced by a test of the left operand's sign.
       with_sign : (o : Option BranchZeroOp) → sign_of comparison ≡ o → operand_word slots right ≡ 0 → test_taken slots (sign_or o left (tests.Computed (comparison_plan comparison left right))) ≡ compares comparison (operand_word slots left) (operand_word slots right)
       with_sign (Some op) is zero = sign_taken comparison op (operand_word slots left) is ∙ ap (compares comparison (operand_word slots left)) (sym zero)
       with_sign None is zero = computed_taken comparison
@@ -379,8 +378,7 @@ module _ (slots : Words) (left right : Operand) (left_fits : IsWord (operand_wor
 
 -- ---- a property of all plans
 
--- A property holds for all plans if it holds for each plan made from operands that satisfy `P`, and the word 0
--- satisfies `P`.
+-- A property holds for all plans if it holds for each plan made from operands that satisfy `P`, and the word 0 satisfies `P`.
 module _ (P : Operand → Type 0) (zero : P (operands.Word 0)) (Q : Plan → Type 0)
     (of_arithmetic : (op : ArithmeticOp) (left right : Operand) (outcome : Outcome) → P left → P right → Q (arithmetic_plan op left right outcome))
     (of_immediate : (op : ImmediateOp) (left : Operand) (half : ℕ) (outcome : Outcome) → half < 2 ^ 16 → P left → Q (immediate_plan op left half outcome)) where
@@ -504,8 +502,7 @@ module _ (P : Operand → Type 0) (zero : P (operands.Word 0)) (Q : Plan → Typ
     all_operator binary.Greater left right fine l r = all_comparison comparisons.Greater left right l r
     all_operator binary.GreaterOrEqual left right fine l r = all_comparison comparisons.GreaterOrEqual left right l r
 
-    -- Exchanging the operands of a commutative operator, which is never a division, keeps the
-    -- property of its plan.
+    -- Exchanging the operands of a commutative operator, which is never a division, keeps the property of its plan.
     all_swapped : (operator : BinaryOperator) (left right : Operand) → is_swapped operator left ≡ true → P left → P right → Q (operator_plan operator right left)
     all_swapped binary.Add left right is l r = all_operator binary.Add right left refl r l
     all_swapped binary.Multiply left right is l r = all_operator binary.Multiply right left refl r l

@@ -17,13 +17,11 @@ use Rattle.cyc_select.specs.inside.Operands.{word_count, load_count, operand_cou
 use Rattle.cyc_select.specs.inside.Passing.{spills_count, copies_count}
 use Rattle.cyc_select.specs.inside.Hoisting.{is_idle, hoisted, hoisted_count}
 
--- Returns the number of lines at a return of `main` that end the run when its first call returns; 0
--- for other functions.
+-- Returns the number of lines at a return of `main` that end the run when its first call returns; 0 for other functions.
 abbrev pub ending_count : Program → (function : ℕ) → ℕ
 ending_count program function = if function == program.main then 4 else 0
 
--- Returns the number of lines that load an argument of a request; 0 if the request has no such
--- argument.
+-- Returns the number of lines that load an argument of a request; 0 if the request has no such argument.
 abbrev pub argument_count : Option Operand → ℕ
 argument_count None = 0
 argument_count (Some operand) = load_count operand
@@ -104,8 +102,7 @@ after_count program frames function (plain.Call callee arguments count result) =
     (routine_at program callee).results + reload_count (frame_at frames function)
 after_count program frames function instruction = 0
 
--- Returns the number of lines in the body of the instruction at `index`: 0 if the instruction is
--- idle.
+-- Returns the number of lines in the body of the instruction at `index`: 0 if the instruction is idle.
 abbrev pub place_count : Program → List Frame → (function index : ℕ) → Instruction → ℕ
 place_count program frames function index instruction =
     if is_idle (frame_at frames function) index instruction then 0 else body_count program frames function instruction

@@ -36,8 +36,7 @@ IsReached frame slot = slot_word frame slot < MOST_FRAME_WORDS
 abbrev pub AreReached : Frame → (first count : ℕ) → Type 0
 AreReached frame first count = (count ≡ 0) ⊎ (slot_word frame first + count ≤ MOST_FRAME_WORDS)
 
--- `IsFound` says that the offset of an operand's slot, if the operand is a slot, fits an
--- instruction.
+-- `IsFound` says that the offset of an operand's slot, if the operand is a slot, fits an instruction.
 abbrev pub IsFound : Frame → Operand → Type 0
 IsFound frame (operands.Slot number) = IsReached frame number
 IsFound frame (operands.Word word) = Unit {0}
@@ -46,8 +45,7 @@ abbrev pub IsArgumentFound : Frame → Option Operand → Type 0
 IsArgumentFound frame (Some operand) = IsFound frame operand
 IsArgumentFound frame None = Unit {0}
 
--- `IsRequestFound` says that the offsets of a request's operands and result slots fit an
--- instruction.
+-- `IsRequestFound` says that the offsets of a request's operands and result slots fit an instruction.
 pub record IsRequestFound (frame : Frame) (request : Request) : Type 0 where
   pub first : IsArgumentFound frame (first_operand request)
   pub second : IsArgumentFound frame (second_operand request)
@@ -69,8 +67,7 @@ most_lines = START_LINES + MOST_SIZE
 abbrev pub AreFew : Program → Type 0
 AreFew program = (k : ℕ) → (routine_at program k).results ≤ GREATEST_VALUE
 
--- Returns the line numbers of the instructions of a function's code from `index` on, if the first of them begins
--- at line `here`.
+-- Returns the line numbers of the instructions of a function's code from `index` on, if the first of them begins at line `here`.
 abbrev pub instruction_lines : Program → List Frame → (function index here : ℕ) → List Instruction → List ℕ
 instruction_lines program frames function index here [] = []
 instruction_lines program frames function index here (i ∷ code) =
@@ -102,8 +99,7 @@ pub record AreReady (program : Program) (frames : List Frame) (functions : List 
 abbrev pub IsReady : Ready → Type 0
 IsReady ready = AreReady ready.plain.now ready.frames.now ready.functions.now
 
--- `AreTables` describes the data from which the lines of one function are emitted, with the line
--- numbers of its instructions.
+-- `AreTables` describes the data from which the lines of one function are emitted, with the line numbers of its instructions.
 pub record AreTables (program : Program) (frames : List Frame) (functions : List FunctionLines) (lines : List ℕ) (function : ℕ) : Type 0 where
   pub ready : AreReady program frames functions
   pub function_in_range : function < length program.functions

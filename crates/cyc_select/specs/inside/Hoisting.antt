@@ -1,5 +1,4 @@
--- The instruction that is hoisted before a branch to fill the branch's delay slot: a copy of the first
--- line of the branch target.
+-- The instruction that is hoisted before a branch to fill the branch's delay slot: a copy of the first line of the branch target.
 use Rattle.std.specs.Prelude.{ℕ, ◌+◌, ◌%◌, ◌^◌, ◌==◌, ◌&&◌, ◌||◌, Bool, false, not, nat_lt, nat_le, if◌then◌else◌, List, [], ◌∷◌, ◌++◌, Option, Some, None, slice_get}
 use Rattle.cyc_isa.specs.declared.instr.Instr.{Instr}
 use Rattle.cyc_isa.specs.declared.instr.Instr.TheVariants as machine
@@ -25,8 +24,7 @@ use Rattle.cyc_select.specs.inside.Instructions.{add_immediate, small, minus, lo
 use Rattle.cyc_select.specs.inside.Slots.{value_register, made_in, is_own}
 use Rattle.cyc_select.specs.inside.Operands.{or_immediate, operand_register, condition_of, is_tested}
 
--- Returns true if an instruction has no lines: its frame marks it as idle, and instructions of its
--- kind may be idle.
+-- Returns true if an instruction has no lines: its frame marks it as idle, and instructions of its kind may be idle.
 abbrev pub is_idle : Frame → (index : ℕ) → Instruction → Bool
 is_idle frame index (plain.Move destination source) = idle_at frame.idle index
 is_idle frame index (plain.MoveWords destination source count) = idle_at frame.idle index
@@ -49,8 +47,7 @@ word_first target word =
     then small target (word % 2 ^ 16)
     else (if nat_lt word (2 ^ 16) then or_immediate target word else load_upper target word)
 
--- Returns the first line that loads an operand into a register, or `following` if no line is needed, or
--- `None` if the line reads memory.
+-- Returns the first line that loads an operand into a register, or `following` if no line is needed, or `None` if the line reads memory.
 abbrev pub slot_first : Option ℕ → (following : Option Instr) → Option Instr
 slot_first None following = None
 slot_first (Some own) following = following
@@ -172,8 +169,7 @@ abbrev pub with_hoisted : List Instr → Option Instr → List Instr
 with_hoisted instructions None = instructions
 with_hoisted instructions (Some first) = instructions ++ first ∷ []
 
--- Returns the label to which a branch jumps: the line after the target's first one, if this first
--- line is hoisted.
+-- Returns the label to which a branch jumps: the line after the target's first one, if this first line is hoisted.
 abbrev pub after_hoisted : Option Instr → (label : ℕ) → ℕ
 after_hoisted None label = label
 after_hoisted (Some first) label = label + 1

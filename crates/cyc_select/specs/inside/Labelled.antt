@@ -8,8 +8,7 @@ use Rattle.cyc_machine_model.specs.State.{text_base, text_end, globals_length}
 use Rattle.cyc_select.specs.declared.code.Line.{Line}
 use Rattle.cyc_select.specs.declared.code.Line.TheVariants as lines
 
--- Labelled code consists of lines, executed from the first one on, and of the initial words of the
--- data range.
+-- Labelled code consists of lines, executed from the first one on, and of the initial words of the data range.
 pub record Labelled : Type 0 where
   pub lines : List Line
   pub globals : List ℕ

@@ -71,21 +71,18 @@ from_world w line =
       line = line;
     }
 
--- Returns the labelled state of a finished run: ended with the program's ending, or stopped if it
--- has none.
+-- Returns the labelled state of a finished run: ended with the program's ending, or stopped if it has none.
 abbrev pub closed : World → Option Ending → State
 closed w (Some ending) = Ended ending w.output w.input
 closed w None = Stopped w.output w.input
 
--- Returns the labelled state of a MIPS machine's world, with this next line if the machine is
--- running.
+-- Returns the labelled state of a MIPS machine's world, with this next line if the machine is running.
 abbrev pub settled : World → (line : ℕ) → Phase → State
 settled w line phases.Running = Running (from_world w line)
 settled w line phases.Waiting = Stopped w.output w.input
 settled w line (phases.Over end) = closed w (ending_of end)
 
--- `Performs` says that the MIPS machine can execute an ordinary instruction and then reach this
--- labelled state.
+-- `Performs` says that the MIPS machine can execute an ordinary instruction and then reach this labelled state.
 abbrev pub Performs : Configuration → Instr → State → Type 0
 Performs c instruction new =
     (event : Event) × (after : machines.State) × Acts (executes (machine_of c) instruction) (machine_of c) event after
@@ -107,8 +104,7 @@ at c line = record c { line = line }
 abbrev pub linked : (ℕ → ℕ) → Configuration → Configuration
 linked addresses c = record c { registers = (with_register (core_of c) RETURN_ADDRESS (addresses (c.line + 1))).registers }
 
--- `Returns` says that a return goes to the line after a call whose address is in register 31, and stops the
--- run if no such line exists.
+-- `Returns` says that a return goes to the line after a call whose address is in register 31, and stops the run if no such line exists.
 abbrev pub Returns : Labelled → (ℕ → ℕ) → Configuration → State → Type 0
 Returns code addresses c new =
     ((line : ℕ) × IsReturnPoint code line × (addresses line ≡ word_in c RETURN_ADDRESS) × (new ≡ Running (at c line)))
@@ -132,8 +128,7 @@ abbrev pub ExecutesAt : Labelled → (ℕ → ℕ) → Configuration → Option 
 ExecutesAt code addresses c (Some line) new = Executes code addresses c line new
 ExecutesAt code addresses c None new = new ≡ Stopped c.output c.input
 
--- `Step` says that the labelled machine may step from `old` to `new`. A finished run steps to its
--- own state.
+-- `Step` says that the labelled machine may step from `old` to `new`. A finished run steps to its own state.
 abbrev pub Step : Labelled → (ℕ → ℕ) → State → State → Type 0
 Step code addresses (Running c) new = ExecutesAt code addresses c (slice_get code.lines c.line) new
 Step code addresses (Ended ending output input) new = new ≡ Ended ending output input

@@ -40,8 +40,7 @@ abbrev pub is_zero_word : Operand → Bool
 is_zero_word (operands.Slot number) = false
 is_zero_word (operands.Word word) = word == 0
 
--- Returns true if the divisor is a constant by which the machine can divide every word: neither 0
--- nor -1.
+-- Returns true if the divisor is a constant by which the machine can divide every word: neither 0 nor -1.
 abbrev pub is_plain_divisor : Operand → Bool
 is_plain_divisor (operands.Slot number) = false
 is_plain_divisor (operands.Word word) = not (word == 0) && not (word == 2 ^ 32 - 1)
@@ -51,8 +50,7 @@ abbrev pub shift_amount : Operand → Option ℕ
 shift_amount (operands.Slot number) = None
 shift_amount (operands.Word word) = Some (word % 32)
 
--- Returns the amount of the left shift that multiplies by an operand, if the operand is a constant
--- power of two.
+-- Returns the amount of the left shift that multiplies by an operand, if the operand is a constant power of two.
 abbrev pub power_of : Operand → Option ℕ
 power_of (operands.Slot number) = None
 power_of (operands.Word word) =

@@ -31,8 +31,7 @@ use Rattle.cyc_select.specs.inside.Slots.{value_register, or_else, is_kept, load
 
 -- ---- operands
 
--- A word is loaded into a register by one instruction if one half suffices, otherwise by both
--- halves.
+-- A word is loaded into a register by one instruction if one half suffices, otherwise by both halves.
 abbrev pub or_immediate : (target half : ℕ) → Instr
 or_immediate target half = machine.Immediate immediate.Or (register_of target) (register_of ZERO) half
 
@@ -160,8 +159,7 @@ abbrev pub operand_count : Frame → Operand → ℕ
 operand_count frame (operands.Slot number) = fetch_count (value_register frame number)
 operand_count frame (operands.Word word) = if is_zero_word (operands.Word word) then 0 else word_count word
 
--- Returns the number of lines that store a slot's word in the frame: 0 if the slot's home is a
--- register alone.
+-- Returns the number of lines that store a slot's word in the frame: 0 if the slot's home is a register alone.
 abbrev pub keep_count : Frame → (slot : ℕ) → ℕ
 keep_count frame slot = if is_kept frame slot then 1 else 0
 
@@ -229,8 +227,7 @@ test_count frame (tests.Operands op left right) = operand_count frame left + ope
 test_count frame (tests.Sign op operand) = operand_count frame operand
 test_count frame (tests.Computed plan) = count_of_operation frame plan
 
--- Returns true if an operator is a division whose divisor may be 0 or -1, so that its code tests
--- the divisor.
+-- Returns true if an operator is a division whose divisor may be 0 or -1, so that its code tests the divisor.
 abbrev pub is_tested : BinaryOperator → (divisor : Operand) → Bool
 is_tested binary.Divide divisor = not (is_plain_divisor divisor)
 is_tested binary.Remainder divisor = not (is_plain_divisor divisor)

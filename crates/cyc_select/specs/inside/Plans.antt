@@ -34,8 +34,7 @@ abbrev pub arithmetic_plan : ArithmeticOp → (left right : Operand) → Outcome
 arithmetic_plan op left right outcome =
     record { operation = operations.Arithmetic op; left = left; right = right; outcome = outcome }
 
--- Returns a plan whose instruction has an immediate operand. The right operand of this plan is the word 0, which needs no
--- line.
+-- Returns a plan whose instruction has an immediate operand. The right operand of this plan is the word 0, which needs no line.
 abbrev pub immediate_plan : ImmediateOp → Operand → (half : ℕ) → Outcome → Plan
 immediate_plan op left half outcome =
     record { operation = operations.Immediate op half; left = left; right = operands.Word 0; outcome = outcome }
@@ -62,8 +61,7 @@ abbrev pub multiply_divide_plan : MultiplyDivideOp → MoveFromOp → (left righ
 multiply_divide_plan op from left right =
     record { operation = operations.MultiplyDivide op from; left = left; right = right; outcome = outcomes.AsItIs }
 
--- Returns the plan of a product: a shift if one factor is a power of two, otherwise a
--- multiplication.
+-- Returns the plan of a product: a shift if one factor is a power of two, otherwise a multiplication.
 abbrev pub product_or : Option ℕ → (left right : Operand) → Plan
 product_or (Some amount) left right = shift_by (Some amount) shift.Left left right
 product_or None left right = multiply_divide_plan Multiply Low left right
@@ -73,8 +71,7 @@ product_plan left right = product_or (power_of right) left right
 
 -- ---- comparisons
 
--- Returns the comparison that holds for the exchanged operands exactly if this one holds for the
--- operands in order.
+-- Returns the comparison that holds for the exchanged operands exactly if this one holds for the operands in order.
 abbrev pub mirrored : Comparison → Comparison
 mirrored comparisons.Less = comparisons.Greater
 mirrored comparisons.LessOrEqual = comparisons.GreaterOrEqual
@@ -89,8 +86,7 @@ zero_plan operand holds =
     then immediate_plan immediate.SetLessUnsigned operand 1 outcomes.AsItIs
     else arithmetic_plan arithmetic.SetLessUnsigned (operands.Word 0) operand outcomes.AsItIs
 
--- Returns the plan that tests two words for equality or difference: it tests their difference for
--- 0.
+-- Returns the plan that tests two words for equality or difference: it tests their difference for 0.
 abbrev pub differs_plan : (left right : Operand) → Outcome → Plan
 differs_plan left right outcome =
     immediate_or (negated_half right) immediate.AddUnsigned left outcome
@@ -102,8 +98,7 @@ equal_plan left right holds =
     then zero_plan left holds
     else differs_plan left right (if holds then outcomes.WhetherZero else outcomes.WhetherNotZero)
 
--- Returns the plan that tests that the left word is less than the right one, or that it is not
--- less.
+-- Returns the plan that tests that the left word is less than the right one, or that it is not less.
 abbrev pub less_plan : (left right : Operand) → Outcome → Plan
 less_plan left right outcome =
     immediate_or (signed_half right) immediate.SetLess left outcome
@@ -114,8 +109,7 @@ less_unsigned_plan left right outcome =
     immediate_or (signed_half right) immediate.SetLessUnsigned left outcome
     (arithmetic_plan arithmetic.SetLessUnsigned left right outcome)
 
--- Returns the plan that tests that the left word is at most the right one: it is less than the
--- right word's successor.
+-- Returns the plan that tests that the left word is at most the right one: it is less than the right word's successor.
 abbrev pub at_most_plan : (left right : Operand) → (holds : Bool) → Plan
 at_most_plan left right holds =
     immediate_or (next_half right) immediate.SetLess left (if holds then outcomes.AsItIs else outcomes.WhetherZero)
@@ -131,8 +125,7 @@ compared_plan comparisons.GreaterOrEqual left right = less_plan left right outco
 compared_plan comparisons.LessUnsigned left right = less_unsigned_plan left right outcomes.AsItIs
 compared_plan comparisons.GreaterOrEqualUnsigned left right = less_unsigned_plan left right outcomes.WhetherZero
 
--- Returns true if the operands of a comparison should be exchanged: the left one is a constant, and
--- the comparison can be mirrored.
+-- Returns true if the operands of a comparison should be exchanged: the left one is a constant, and the comparison can be mirrored.
 abbrev pub is_mirrored : Comparison → Operand → Bool
 is_mirrored comparisons.LessUnsigned left = false
 is_mirrored comparisons.GreaterOrEqualUnsigned left = false
@@ -168,8 +161,7 @@ abbrev pub bits_plan : ArithmeticOp → ImmediateOp → (left right : Operand) �
 bits_plan op number_op left right =
     immediate_or (low_half right) number_op left outcomes.AsItIs (arithmetic_plan op left right outcomes.AsItIs)
 
--- Returns the plan of an operator. For a division, the machine must be able to divide every word by
--- the divisor.
+-- Returns the plan of an operator. For a division, the machine must be able to divide every word by the divisor.
 abbrev pub operator_plan : BinaryOperator → (left right : Operand) → Plan
 operator_plan binary.Add left right = sum_plan left right
 operator_plan binary.Subtract left right = difference_plan left right
@@ -188,8 +180,7 @@ operator_plan binary.LessOrEqual left right = comparison_plan comparisons.LessOr
 operator_plan binary.Greater left right = comparison_plan comparisons.Greater left right
 operator_plan binary.GreaterOrEqual left right = comparison_plan comparisons.GreaterOrEqual left right
 
--- Returns true if the operands of an operator should be exchanged: the left one is a constant, and
--- the operator commutes.
+-- Returns true if the operands of an operator should be exchanged: the left one is a constant, and the operator commutes.
 abbrev pub is_swapped : BinaryOperator → Operand → Bool
 is_swapped binary.Add left = is_word left
 is_swapped binary.Multiply left = is_word left
@@ -213,8 +204,7 @@ sign_of comparisons.Greater = Some signs.Greater
 sign_of comparisons.GreaterOrEqual = Some signs.GreaterOrEqual
 sign_of comparison = None
 
--- Returns a test of the operand's sign if a branch on the sign performs the comparison, otherwise
--- the test `other`.
+-- Returns a test of the operand's sign if a branch on the sign performs the comparison, otherwise the test `other`.
 abbrev pub sign_or : Option BranchZeroOp → Operand → Test → Test
 sign_or (Some op) operand other = tests.Sign op operand
 sign_or None operand other = other

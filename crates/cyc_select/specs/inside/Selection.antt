@@ -52,8 +52,7 @@ ordinary instructions = map lines.Ordinary instructions
 abbrev pub divided_code : Frame → (left right : Operand) → List Instr
 divided_code frame left right = operands_code frame left right ++ add_immediate THIRD ZERO (minus 1) ∷ []
 
--- Returns the instruction that computes a quotient or a remainder by -1: the product of the dividend and -1, or that of 0 and
--- 0.
+-- Returns the instruction that computes a quotient or a remainder by -1: the product of the dividend and -1, or that of 0 and 0.
 abbrev pub product_code : MoveFromOp → (left : ℕ) → Instr
 product_code High left = multiply_divide_of Multiply ZERO ZERO
 product_code Low left = multiply_divide_of Multiply left THIRD
@@ -96,8 +95,7 @@ abbrev pub move_code : Frame → (destination : ℕ) → Operand → List Line
 move_code frame destination source =
     ordinary (move_to (value_register frame destination) frame destination source)
 
--- Returns the code of a branch that is taken if a test holds, with the hoisted line, if any, before
--- the branch.
+-- Returns the code of a branch that is taken if a test holds, with the hoisted line, if any, before the branch.
 abbrev pub branch_code : Frame → Test → (first : Option Instr) → (label : ℕ) → List Line
 branch_code frame test first label =
     ordinary (with_hoisted (test_code frame test) first)
@@ -123,8 +121,7 @@ moves frame destination source (suc count) =
     move_to (value_register frame destination) frame destination (operands.Slot source)
     ++ moves frame (suc destination) (suc source) count
 
--- Returns the code that copies words from slots to slots, loading all words before it writes the
--- first.
+-- Returns the code that copies words from slots to slots, loading all words before it writes the first.
 abbrev pub all_moved : Frame → (destination source count : ℕ) → List Instr
 all_moved frame destination source count =
     load_words frame source (result_registers count) ++ store_all frame destination (result_registers count)
@@ -228,8 +225,7 @@ ending_code is_main frame here value =
     ++ ordinary (load_slot frame ARGUMENT value ∷ small SERVICE END_RETURNED ∷ syscall ∷ [])
     else []
 
--- Returns the code that returns from a function with `results` result words. The return of the
--- first call of `main` ends the run.
+-- Returns the code that returns from a function with `results` result words. The return of the first call of `main` ends the run.
 abbrev pub returning_code : (is_main : Bool) → Frame → (here value results : ℕ) → List Line
 returning_code is_main frame here value results =
     ordinary (restoring_code frame)
@@ -237,8 +233,7 @@ returning_code is_main frame here value results =
     ++ ordinary (load_all frame value (result_registers results) ++ (restores frame ++ pop_frame ∷ []))
     ++ lines.Return ∷ [])
 
--- Returns the code that fills a handler's record: the previous handler, the frame, and the line
--- after the recording call.
+-- Returns the code that fills a handler's record: the previous handler, the frame, and the line after the recording call.
 abbrev pub recorded_code : Frame → (first : ℕ) → List Instr
 recorded_code frame first =
     store_slot frame HANDLERS first
@@ -269,8 +264,7 @@ try_code frame here first label =
 abbrev pub load_record : (target offset : ℕ) → Instr
 load_record target offset = machine.Memory LoadWord (register_of target) (register_of HANDLERS) offset
 
--- Returns the code that passes an exception to the newest handler: it loads the handler's address,
--- its frame and the previous handler.
+-- Returns the code that passes an exception to the newest handler: it loads the handler's address, its frame and the previous handler.
 abbrev pub unwound_code : List Instr
 unwound_code =
     load_record RETURN_ADDRESS 8 ∷ load_record FRAME 4 ∷ load_record HANDLERS 0 ∷ []
@@ -339,8 +333,7 @@ following program frames function (plain.Call callee arguments count result) =
     returned_code (frame_at frames function) result (routine_at program callee).results
 following program frames function instruction = []
 
--- Returns the lines of the instruction at `index`, if the first of them has number `here`; an idle
--- instruction has none.
+-- Returns the lines of the instruction at `index`, if the first of them has number `here`; an idle instruction has none.
 abbrev pub place_lines : Program → List Frame → (function index here : ℕ) → Instruction → List Line
 place_lines program frames function index here instruction =
     if is_idle (frame_at frames function) index instruction then [] else body program frames function here instruction

@@ -1,5 +1,4 @@
--- The code that reads and writes slots and globals, and the code that saves registers at a
--- function's entry.
+-- The code that reads and writes slots and globals, and the code that saves registers at a function's entry.
 use Rattle.std.specs.Prelude.{ℕ, zero, suc, ◌+◌, ◌*◌, ◌/◌, ◌%◌, ◌^◌, ◌==◌, ◌&&◌, Bool, false, nat_lt, if◌then◌else◌, List, [], ◌∷◌, ◌++◌, map, sum_by, take, Option, Some, None}
 use Rattle.cyc_plain.specs.declared.limits.TheConstants.{MOST_FRAME_WORDS}
 use Rattle.cyc_isa.specs.Decoding.{register_of}
@@ -26,8 +25,7 @@ abbrev pub or_else : Option ℕ → ℕ → ℕ
 or_else None other = other
 or_else (Some register) other = register
 
--- Returns true if a slot's value is also in its word of the frame, so that its home includes
--- memory.
+-- Returns true if a slot's value is also in its word of the frame, so that its home includes memory.
 abbrev pub is_kept : Frame → (slot : ℕ) → Bool
 is_kept frame slot = homing.is_kept (homing.home_of frame.homes slot)
 
@@ -39,8 +37,7 @@ load_from (Some register) frame target slot = copy target register
 abbrev pub load_slot : Frame → (target slot : ℕ) → Instr
 load_slot frame target slot = load_from (value_register frame slot) frame target slot
 
--- Returns the register in which a slot's word is computed: the slot's own, or else the first
--- temporary.
+-- Returns the register in which a slot's word is computed: the slot's own, or else the first temporary.
 abbrev pub made_in : Frame → (slot : ℕ) → ℕ
 made_in frame slot = or_else (value_register frame slot) FIRST
 
@@ -60,8 +57,7 @@ abbrev pub is_own : Option ℕ → (register : ℕ) → Bool
 is_own None register = false
 is_own (Some own) register = own == register
 
--- Returns the code that writes a register to a slot. If it is the slot's own register, no copy is
--- needed.
+-- Returns the code that writes a register to a slot. If it is the slot's own register, no copy is needed.
 abbrev pub hand_code : Frame → (source slot : ℕ) → List Instr
 hand_code frame source slot =
     if is_own (value_register frame slot) source then keep_code frame slot else give_code frame source slot
@@ -160,8 +156,7 @@ coming_home (homes.Register register) = if homing.is_preserved register then hom
 abbrev pub coming : Frame → Frame
 coming frame = record frame { homes = map coming_home frame.homes }
 
--- Returns the home into which an arrived parameter is loaded at a function's entry, after the lines that save the home's
--- register.
+-- Returns the home into which an arrived parameter is loaded at a function's entry, after the lines that save the home's register.
 abbrev pub arriving_home : Home → Home
 arriving_home homes.Memory = homes.Memory
 arriving_home (homes.Both register) = if homing.is_preserved register then homes.Both register else homes.Memory
@@ -176,8 +171,7 @@ arrivals frame = reloads_from frame 0 (arriving frame)
 abbrev pub arrival_count : Frame → ℕ
 arrival_count frame = sum_by homing.saved_count (take frame.parameters frame.homes)
 
--- Returns the lines at a function's entry: they save registers, then load the parameters that belong in
--- them.
+-- Returns the lines at a function's entry: they save registers, then load the parameters that belong in them.
 abbrev pub saving_code : Frame → List Instr
 saving_code frame = way_code frame ++ (saves frame ++ arrivals frame)
 

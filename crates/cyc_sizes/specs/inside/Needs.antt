@@ -18,8 +18,7 @@ most_frame_count = 2 ^ 32
 abbrev pub operands_need : Arguments → (before own : ℕ) → ℕ
 operands_need cs before own = max (before + argument_words cs + own) (arguments_need cs before)
 
--- The frame words that one operator of a chain of this type needs with its right operand, if the left operand
--- has `left` words.
+-- The frame words that one operator of a chain of this type needs with its right operand, if the left operand has `left` words.
 abbrev pub operation_need : Operation → Ty → (left : ℕ) → ℕ
 operation_need (operation.Compute w o e) t left =
     max (left + operand_words (type_of (view_expression e)) + words_of t) (left + expression_need (view_expression e))

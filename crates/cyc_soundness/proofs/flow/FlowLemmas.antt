@@ -1,5 +1,4 @@
--- This file is about the flow states of locals: implication between states, and the parts of a
--- state that the rules only lower.
+-- This file is about the flow states of locals: implication between states, and the parts of a state that the rules only lower.
 use Rattle.std.proofs.Common.{◌≡◌, ℕ, zero, suc, Bool, true, false, not, List, [], ◌∷◌, ◌++◌, refl, sym, ap, subst, ◌∙◌}
 use Rattle.std.specs.Prelude.{◌≢◌, get_or, slice_set, if◌then◌else◌}
 use Rattle.std.proofs.lemmas.List.{get_or-set_other}

@@ -47,8 +47,7 @@ unreached_is : (f : flow.State) → is_reached f ≡ false → f ≡ Unreached
 unreached_is Unreached e = refl
 unreached_is (Reached as') e = let k : true ≡ false = e in absurd (cc)
 
--- Code after unreachable code is unreachable, and no reachable `break` in this code leaves the
--- enclosing loop.
+-- Code after unreachable code is unreachable, and no reachable `break` in this code leaves the enclosing loop.
 module _ (w : ℕ → Bool) (c : Around) (js : Items) (a b : Known) (fresh : AreFresh w js) (flows : Derives (rule_items c js a) b) (none : is_reached a.now ≡ false) where
   unreached_fit : (o : Guard) (d : Bool) → Fits o d a.breaks → (is_reached b.now ≡ false) × Fits o d b.breaks
   unreached_fit o d before =
@@ -352,8 +351,7 @@ module _ (n : ℕ) where
         go true same = (each_still (locks_of js) l.now (out same) (there, locked there)).1
         go false same = let k : true ≡ false = sym there ∙ never_items w c js a l fresh flows same in absurd (cc)
 
-    -- The requirements that clauses satisfy while a local is lent, with the flow states after the
-    -- clauses and at their breaks.
+    -- The requirements that clauses satisfy while a local is lent, with the flow states after the clauses and at their breaks.
     record LocksClauses (k : ℕ) (c : Around) (cs : Clauses) (a b : Known) : Type 0 where
       kept : InClauses locking k cs
       now : IsLockedIf b.now

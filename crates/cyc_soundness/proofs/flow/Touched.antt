@@ -1,5 +1,4 @@
--- The body of a `try` touches no local on which the clauses rely, because the clauses begin without the locals that the body
--- touches.
+-- The body of a `try` touches no local on which the clauses rely, because the clauses begin without the locals that the body touches.
 use Rattle.std.proofs.Common.{◌≡◌, ℕ, zero, suc, ◌+◌, Bool, true, false, List, [], ◌∷◌, ◌++◌, Option, Some, None, refl}
 use Rattle.std.specs.Prelude.{get_or, slice_set, if◌then◌else◌}
 use Rattle.cyc_types.specs.TypedTrees.{Local, Global, Expression, Number, NullPointer, HeapRegion, Counter, Copy, Move, Peek, Load, AddressOf, AddressOfCell, NumberOfElements, FreeUnique, FreeKey, Call, Unary, Binary}

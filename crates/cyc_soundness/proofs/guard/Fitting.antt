@@ -61,8 +61,7 @@ vacated_fits p true f n h k l = ap (λ x. with_fullness Vacant x n) h
 vacated_fits p false Unreached n h k l = tt
 vacated_fits p false (Reached as') n h k l = fits_set p as' n Vacant h (vacant_fits p n k l)
 
--- Emptying a touched local preserves the match with the guard if the rules require that the local
--- is unlocked.
+-- Emptying a touched local preserves the match with the guard if the rules require that the local is unlocked.
 pub moved_out : (p : Guard) (e : Bool) (f : State) (n : ℕ) (ns : List ℕ) → Fits p e f → Rests p ns → has ns n ≡ true → not (is_locked (fullness f n)) ≡ true → Fits p e (with_fullness Vacant f n)
 moved_out p true f n ns h r m k = ap (λ x. with_fullness Vacant x n) h
 moved_out p false Unreached n ns h r m k = tt
@@ -107,8 +106,7 @@ emptied_fits p false ts (Reached as') h r =
 
 -- ---- inner guards
 
--- Says that the inner guard locks the listed locals in addition to the locals that the outer guard
--- locks.
+-- Says that the inner guard locks the listed locals in addition to the locals that the outer guard locks.
 abbrev pub LeavesAt : (listed : Bool) → (inner outer : Guard) → ℕ → Type 0
 LeavesAt b p o n = (p.locked n ≡ (o.locked n || b)) × (b ≡ true → o.locked n ≡ false) × (o.relied n ≡ true → p.relied n ≡ true)
 

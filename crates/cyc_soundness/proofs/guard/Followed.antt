@@ -336,8 +336,7 @@ mutual
 falls_to : (k l : Known) {m : Known} → l ≡ m → IsAtLeast (held_of k.breaks) (held_of m.breaks) → IsAtLeast (held_of k.breaks) (held_of l.breaks)
 falls_to k l eq h = subst (λ z. IsAtLeast (held_of k.breaks) (held_of z.breaks)) (sym eq) h
 
--- The flow state at the breaks after a statement is at most the state at the breaks before the
--- statement.
+-- The flow state at the breaks after a statement is at most the state at the breaks before the statement.
 mutual
   pub falls : (c : Around) (s : Statement) (k l : Known) → Derives (rule_statement c s k) l → IsAtLeast (held_of k.breaks) (held_of l.breaks)
   falls c (Block b js) k l (m, x, (u, eq)) = falls_to k l eq (falls_items c js k m x)

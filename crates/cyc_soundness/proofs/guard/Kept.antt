@@ -260,8 +260,7 @@ kept_continue (Some l) f left b h (k, u) = h (held_of l.head) (tested left l.hea
 
 -- ---- catch clauses
 
--- The locals on which the clauses of a `try` rely: the locals that hold values at the start of the
--- clauses.
+-- The locals on which the clauses of a `try` rely: the locals that hold values at the start of the clauses.
 record Caught (p : Guard) (ts : List ℕ) (f : State) : Type 0 where
   relied : ℕ → Bool
   reliable : IsReliable p relied (held_of f)

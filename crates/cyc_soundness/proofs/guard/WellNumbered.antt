@@ -1,5 +1,4 @@
--- In a well-typed program the numbers of declared locals are fresh: a lent local is in scope, and a declared local has
--- the next number.
+-- In a well-typed program the numbers of declared locals are fresh: a lent local is in scope, and a declared local has the next number.
 use Rattle.std.proofs.Common.{◌≡◌, ℕ, suc, ◌+◌, ◌<◌, ◌≤◌, Bool, true, false, cond, nat_eq, List, [], ◌∷◌, Some, None, length, refl, subst, arith, inl, inr}
 use Rattle.cyc_types.specs.Types.{Ty}
 use Rattle.cyc_types.specs.Declarations.{declared_types, item_types}

@@ -1,5 +1,4 @@
--- This file is about the holders of resources at the beginning and end of a call or a loan, and
--- about the holders of keys.
+-- This file is about the holders of resources at the beginning and end of a call or a loan, and about the holders of keys.
 use Rattle.std.proofs.Common.{◌≡◌, ◌≢◌, ℕ, suc, ◌+◌, ◌≤◌, ◌<◌, true, List, [], ◌∷◌, ◌++◌, length, set, Some, slice_get, refl, sym, ap, subst, ◌∙◌, inl, inr, arith, length-append}
 use Rattle.std.specs.Prelude.{if◌then◌else◌}
 use Rattle.std.proofs.lemmas.Bool.{ltb-true, lt-ltb}

@@ -1,5 +1,4 @@
--- This file is about the cells that a step reads and writes: cells of variables, and cells to which
--- a pointer points.
+-- This file is about the cells that a step reads and writes: cells of variables, and cells to which a pointer points.
 use Rattle.std.proofs.Common.{◌≡◌, ◌≢◌, Option, ℕ, zero, suc, ◌≤◌, ◌<◌, Bool, true, false, List, [], ◌∷◌, Some, None, slice_get, refl, sym, ap, subst, ◌∙◌, arith}
 use Rattle.std.specs.Prelude.{if◌then◌else◌}
 use Rattle.std.proofs.lemmas.Option.{same_Some}

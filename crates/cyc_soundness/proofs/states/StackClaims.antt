@@ -149,8 +149,7 @@ lent_still empties old g h x y k lent j t object still changed same above less (
     go true still above = changed.away object j (variable_type t l true (OfLocal g.depth lent), there, refl) away
         (lender_other x y g k lent old object same above (variable_type t l true (OfLocal g.depth lent), there, refl)) (lent_other true x g (EndLoan lent ∷ k) j object old above less)
 
--- A stack stays typed when a resource changes its holder, if no entry of the stack claims this
--- resource.
+-- A stack stays typed when a resource changes its holder, if no entry of the stack claims this resource.
 pub stack_by : (empties : Bool) (p : Program) (old : Holder) (g h : Typing) (x : Exits) (bs : List InScope) (w : Want) (k : List Entry) → (empties ≡ false → AreStill g h) → Changed old g h → IsAboveBy empties x g k old → IsStack p g x bs w k → IsStack p h x bs w k
 stack_by empties p old g h x bs Nothing [] still changed above is = changed.pending ∙ is
 stack_by empties p old g h x bs (Val r f) (Needs a ∷ k) still changed above (ts, cs, next, waits, are, rest) = (

@@ -1,5 +1,4 @@
--- This file is about the typing of stacks, which is preserved when the typing of the world grows, and
--- about the locals in scope.
+-- This file is about the typing of stacks, which is preserved when the typing of the world grows, and about the locals in scope.
 use Rattle.std.proofs.Common.{◌≡◌, ◌≢◌, inl, inr, ℕ, ◌≤◌, ◌<◌, ◌+◌, Bool, true, false, List, [], ◌∷◌, Option, Some, None, slice_get, refl, sym, ap, subst, ◌∙◌, arith}
 use Rattle.std.specs.Prelude.{if◌then◌else◌, nat_lt, ◌⊎◌, zero, suc, length, get_or}
 use Rattle.std.proofs.lemmas.Bool.{ltb-true, false_from_ne_true}

@@ -1,5 +1,4 @@
--- This file is about steps in which no resource changes its holder and the world is unchanged:
--- typed parts stay typed.
+-- This file is about steps in which no resource changes its holder and the world is unchanged: typed parts stay typed.
 use Rattle.std.proofs.Common.{◌≡◌, ◌≢◌, ℕ, Bool, true, false, List, set, Option, Some, None, slice_get, refl, sym, ap, subst, ◌∙◌, inl, inr, ◌⊎◌}
 use Rattle.std.specs.Prelude.{if◌then◌else◌, ◌==◌}
 use Rattle.std.proofs.lemmas.Bool.{eqb-true}
@@ -57,8 +56,7 @@ module _ (g h : Typing) (stays : Stays g h) where
 
 -- ---- the world is unchanged
 
--- A resource moves to another holder. Each cell held its own content before, and the contents of different cells
--- are different resources.
+-- A resource moves to another holder. Each cell held its own content before, and the contents of different cells are different resources.
 pub hands_typed : (g : Typing) (o : Option Thing) (old new : Holder) (here : ℕ → Standing) (regions : List Region) (objects : List Object) → Owns g.own old o → IsHeld old
     → ((object i : ℕ) (t : ObjectType) (x : Object) → slice_get g.objects object ≡ Some t → slice_get objects object ≡ Some x → IsKept (record g { own = given o new g.own; here = here }) object i t.is_hidden
     → (IsKept g object i t.is_hidden × (At object i ≢ old)) ⊎ ((u : RunTy) (c : Cell) (v : values.Value) → slice_get t.cells i ≡ Some u → slice_get x.cells i ≡ Some c → c.content ≡ Some v → Claims (given o new g.own) (At object i) u v))

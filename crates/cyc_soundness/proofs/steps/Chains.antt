@@ -1,5 +1,4 @@
--- This file is about operator chains, conversions and tests that await a value: when the value is passed, the step
--- yields a typed state.
+-- This file is about operator chains, conversions and tests that await a value: when the value is passed, the step yields a typed state.
 use Rattle.std.proofs.Common.{◌≡◌, ◌⊎◌, inl, inr, ℕ, Bool, true, false, not, List, [], ◌∷◌, Option, Some, None, refl, sym, ap, subst, ◌∙◌, arith}
 use Rattle.std.specs.Prelude.{◌+◌, nat_lt, if◌then◌else◌}
 use Rattle.std.proofs.lemmas.Bool.{and_from}

@@ -77,8 +77,7 @@ moved_spared : (q : Relied) (place : Place) (n : ℕ) (v : Ty) (u : ValueType) �
 moved_spared q place n v u gives moved spared = subst (λ z. SparesAssigned q (Local place n) z) (gives ∙ ap (λ (b : Bool). if b then types.Void else types.Value v) moved) spared
 
 module _ (p : Program) where
-  -- If the region variables of a called function are instantiated with these lifetimes, then the function
-  -- takes and returns these types.
+  -- If the region variables of a called function are instantiated with these lifetimes, then the function takes and returns these types.
   called_is : (x : Exits) (bs : List InScope) (c : Context) (callee : Callee) (s : Signature) (m : List Region) → IsContext p x bs c → IsCallee c callee s → AreNotUnique m → ((number : ℕ) (h : Function) → slice_get p.functions number ≡ Some h → AreConstraints h.variables h.constraints) → AreLive c (instantiated m s).effect
       → AreOutliving c (instantiated m s).constraints
       → IsCalled p bs callee (map (read bs) (map (substituted_ty m) s.parameters)) (read_value bs (result_type (option_map (substituted_ty m) s.result)))

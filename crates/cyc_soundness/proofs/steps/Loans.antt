@@ -1,5 +1,4 @@
--- This file is about loans to the end of a block: dynamic regions that are opened by keys, and unique objects that are
--- shared by aliases.
+-- This file is about loans to the end of a block: dynamic regions that are opened by keys, and unique objects that are shared by aliases.
 use Rattle.std.proofs.Common.{◌≡◌, inl, inr, set, ℕ, suc, ◌+◌, ◌≤◌, ◌<◌, Bool, true, false, List, [], ◌∷◌, length, Option, Some, None, slice_get, refl, sym, ap, subst, ◌∙◌, arith, zero}
 use Rattle.std.specs.Prelude.{if◌then◌else◌}
 use Rattle.std.proofs.lemmas.Bool.{eq-eqb}
@@ -87,8 +86,7 @@ unique_is (types.Handle r) unique = absurd (let z : false ≡ true = unique in c
 unique_is (types.Key r) unique = absurd (let z : false ≡ true = unique in cc)
 unique_is (types.Struct s rs) unique = absurd (let z : false ≡ true = unique in cc)
 
--- The lifetime of a shared object: it lasts while the object is lent, or for ever if the pointer is
--- null.
+-- The lifetime of a shared object: it lasts while the object is lent, or for ever if the pointer is null.
 abbrev shared_life : values.Value → Life
 shared_life (values.Thin object offset) = Kept (PointerTo object)
 shared_life (values.Fat object start count index) = Kept (PointerTo object)
@@ -162,8 +160,7 @@ module _ (g : Typing) (regions : List state.Region) (objects : List state.Object
   shared_typed k t (values.Handle n) is lent = shared_other k t lives.Owned (values.Handle n) tt is
   shared_typed k t (values.Key n) is lent = shared_other k t lives.Owned (values.Key n) tt is
 
--- If a property holds for the lifetimes of the heap and of all lent objects, then it holds for the lifetime of a
--- shared value.
+-- If a property holds for the lifetimes of the heap and of all lent objects, then it holds for the lifetime of a shared value.
 shared_by : (v : values.Value) (P : Life → Type 0) → P heap_life → ((object : ℕ) → P (Kept (PointerTo object))) → P (shared_life v)
 shared_by values.Null P heap lent = heap
 shared_by (values.Thin object offset) P heap lent = lent object

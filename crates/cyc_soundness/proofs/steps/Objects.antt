@@ -1,5 +1,4 @@
--- This file is about the creation of objects: an object is created with empty cells, which are then
--- written one by one.
+-- This file is about the creation of objects: an object is created with empty cells, which are then written one by one.
 use Rattle.std.proofs.Common.{◌≡◌, ◌≢◌, ℕ, zero, suc, ◌+◌, ◌≤◌, ◌<◌, true, false, List, [], ◌∷◌, length, map, reverse, Some, slice_get, refl, sym, ap, subst, ◌∙◌, arith, None}
 use Rattle.std.specs.Prelude.{if◌then◌else◌}
 use mathlib.Core.List.{reverse_aux}
@@ -39,8 +38,7 @@ blank_cells g h [] (v ∷ vs) are = absurd are
 blank_cells g h (t ∷ ts) [] are = absurd are
 blank_cells g h (t ∷ ts) (v ∷ vs) (is, are) = ((is.0, refl), blank_cells g h ts vs are)
 
--- Operands on the stack, which has the last operand first, keep their claims when they become
--- arguments in order.
+-- Operands on the stack, which has the last operand first, keep their claims when they become arguments in order.
 pub given_turned : (g : Typing) (i : ℕ) (ts us : List RunTy) (vs ws : List Operand) → AreOperands g ts vs → AreClaimed g.own i ts vs → AreGiven g.own (i + length ts) us ws → AreGiven g.own i (turned ts us) (reverse_aux vs ws)
 given_turned g i [] us [] ws operands are more = let e : i + 0 ≡ i = omega arith in subst (λ j. AreGiven g.own j us ws) e more
 given_turned g i [] us (v ∷ vs) ws operands are more = absurd operands

@@ -1,5 +1,4 @@
--- This file is about the cells to which a pointer points, the stack entries that await such a cell,
--- and operators on pointers.
+-- This file is about the cells to which a pointer points, the stack entries that await such a cell, and operators on pointers.
 use Rattle.std.proofs.Common.{◌≡◌, ◌⊎◌, inl, inr, ℕ, zero, suc, ◌+◌, ◌<◌, ◌≤◌, Bool, true, false, List, [], ◌∷◌, length, map, Option, Some, None, slice_get, refl, sym, ap, subst, ◌∙◌, arith}
 use Rattle.std.specs.Prelude.{if◌then◌else◌, nat_lt, ◌==◌, ◌&&◌}
 use Rattle.std.proofs.lemmas.Bool.{eq-eqb, ltb-true, and_from}

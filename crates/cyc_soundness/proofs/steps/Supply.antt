@@ -1,5 +1,4 @@
--- This file is about passing a value to the stack entry that awaits it: the step yields a typed
--- state.
+-- This file is about passing a value to the stack entry that awaits it: the step yields a typed state.
 use Rattle.std.proofs.Common.{◌≡◌, ap, ℕ, zero, suc, ◌<◌, ◌≤◌, Bool, true, false, List, [], ◌∷◌, length, Option, Some, None, slice_get, refl, sym, subst, ◌∙◌, arith, ◌+◌}
 use Rattle.std.specs.Prelude.{if◌then◌else◌}
 use Rattle.std.proofs.lemmas.Option.{same_Some}

@@ -46,8 +46,7 @@ use Rattle.cyc_soundness.proofs.types.RegionLemmas.{there_of}
 use Rattle.cyc_soundness.proofs.types.CallRegions.{cell_live, global_means}
 use Rattle.cyc_soundness.proofs.states.Cells.{part_had, running, life_of, lasting_common, open_object, value_part, held_still}
 
--- Says that an object is a local that holds its own content, or an object to which pointers may
--- point.
+-- Says that an object is a local that holds its own content, or an object to which pointers may point.
 abbrev pub IsFree : Typing → (object : ℕ) → ObjectType → Type 0
 IsFree g object y = ((n : ℕ) × IsHere g g.depth n object) ⊎ (y.is_hidden ≡ false)
 
@@ -311,8 +310,7 @@ module _ (p : Program) (g : Typing) (x : Exits) (bs : List InScope) (e : Environ
             (stack_by false p hand still (giving still o right) x bs (Go f) k (λ e object. refl) changed (let le : operands_in k ≤ operands_in k = omega arith in le) stack),
       ))
 
-  -- The first write of a swap: the left side receives the content of the right side, and an operand holds the old
-  -- content.
+  -- The first write of a swap: the left side receives the content of the right side, and an operand holds the old content.
   first_on : (one two : Write) (k : List Entry) (f : flow.State) (t : Ty) → AreOpen w.regions (ends_of k) → LiveIn k bs → Holds g f bs → IsWrite p g bs f t one → IsWrite p g bs f t two → g.pending ≡ Settled
       → ClaimsAt g.own two.place (read bs t) one.operand.value → ClaimsAt g.own one.place (read bs t) two.operand.value → IsStack p (record g { pending = Settled }) x bs (Go f) k
       → IsWell p (stored_at one.place one.operand (Writing (two ∷ []) None) k e w)

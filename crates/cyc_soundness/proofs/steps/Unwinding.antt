@@ -1,5 +1,4 @@
--- This file is about unwinding the control stack entry by entry: normally, by `break`, `continue` and `return`,
--- and by an exception.
+-- This file is about unwinding the control stack entry by entry: normally, by `break`, `continue` and `return`, and by an exception.
 use Rattle.std.proofs.Common.{◌≡◌, ◌≤◌, ℕ, zero, suc, arith, Bool, true, false, List, [], ◌∷◌, Option, Some, None, refl, sym, ap, subst, ◌∙◌, slice_get}
 use Rattle.std.proofs.lemmas.Option.{same_Some}
 use Rattle.cyc_types.specs.Types.{Ty, ValueType}

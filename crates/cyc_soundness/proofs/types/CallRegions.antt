@@ -252,8 +252,7 @@ is_among n [] = false
 is_among n (regions.Variable k ∷ rs) = if n == k then true else is_among n rs
 is_among n (r ∷ rs) = is_among n rs
 
--- The lifetime of an instantiated region is the lifetime of the region variable under the
--- instantiation.
+-- The lifetime of an instantiated region is the lifetime of the region variable under the instantiation.
 these_are : (bs : List InScope) (m : List Region) (r : Region) → lives_by (lives_in bs) m r ≡ lives_of (these_by (lives_in bs) m) r
 these_are bs m regions.Heap = refl
 these_are bs m regions.Unique = refl

@@ -1,5 +1,4 @@
--- This file is about the lifetimes that region variables denote when a region is named, opened, or
--- passed at a call.
+-- This file is about the lifetimes that region variables denote when a region is named, opened, or passed at a call.
 use Rattle.std.proofs.Common.{◌≡◌, ◌≢◌, inl, inr, ℕ, suc, ◌≤◌, ◌<◌, Bool, true, false, List, [], ◌∷◌, length, eqb, refl, sym, ap, subst, ◌∙◌, arith}
 use Rattle.std.specs.Prelude.{Option, if◌then◌else◌, ◌==◌, Contains}
 use Rattle.std.proofs.lemmas.Bool.{eqb-true, eq-eqb, false_from_ne_true}

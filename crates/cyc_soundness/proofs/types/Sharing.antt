@@ -1,5 +1,4 @@
--- This file is about linear and shared values: it determines the types whose values are linear
--- resources.
+-- This file is about linear and shared values: it determines the types whose values are linear resources.
 use Rattle.std.proofs.Common.{◌≡◌, ◌≢◌, ℕ, true, false, List, refl, subst}
 use Rattle.cyc_syntax.specs.declared.tree.PointerKind.{PointerKind}
 use Rattle.cyc_types.specs.declared.region.Region.{Region}

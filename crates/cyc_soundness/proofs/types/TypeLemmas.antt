@@ -1,5 +1,4 @@
--- This file is about types in their two forms (with regions and with lifetimes), their kinds, and
--- conversions.
+-- This file is about types in their two forms (with regions and with lifetimes), their kinds, and conversions.
 use Rattle.std.proofs.Common.{◌≡◌, ◌⊎◌, inl, inr, true, List, [], ◌∷◌, map, Option, Some, None, refl, sym, ap, subst, ◌∙◌}
 use Rattle.std.specs.Prelude.{option_map}
 use Rattle.cyc_syntax.specs.declared.tree.PointerKind.{PointerKind}
@@ -84,8 +83,7 @@ same_of : (m n : Lives) (rs : List Region) → AllOf (λ r. m r ≡ n r) rs → 
 same_of m n [] same = refl
 same_of m n (r ∷ rs) (one, same) = ap (λ l. l ∷ map m rs) one ∙ ap (λ ls. n r ∷ ls) (same_of m n rs same)
 
--- If two assignments of lifetimes agree on the regions of a type, then the type is read equally
--- under both.
+-- If two assignments of lifetimes agree on the regions of a type, then the type is read equally under both.
 pub read_alike : (m n : Lives) (t : Ty) → AllIn (λ r. m r ≡ n r) t → at m t ≡ at n t
 read_alike m n types.Int same = refl
 read_alike m n types.Char same = refl
@@ -109,8 +107,7 @@ regions_by : (n : Lives) (m rs : List Region) → map n (map (substituted_region
 regions_by n m [] = refl
 regions_by n m (r ∷ rs) = ap (λ ls. lives_by n m r ∷ ls) (regions_by n m rs)
 
--- Reading a type after its regions are instantiated equals reading the type under the instantiated
--- lifetimes.
+-- Reading a type after its regions are instantiated equals reading the type under the instantiated lifetimes.
 pub instance_by : (n : Lives) (m : List Region) (t : Ty) → at n (substituted_ty m t) ≡ at (lives_by n m) t
 instance_by n m types.Int = refl
 instance_by n m types.Char = refl

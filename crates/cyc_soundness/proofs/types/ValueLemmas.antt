@@ -1,5 +1,4 @@
--- This file is about the results of operators, tests and conversions on typed values: a value of the expected
--- type, or an exception.
+-- This file is about the results of operators, tests and conversions on typed values: a value of the expected type, or an exception.
 use Rattle.std.proofs.Common.{◌≡◌, ℕ, ◌+◌, ◌<◌, Bool, true, false, List, ◌∷◌, Some, eqb, refl, sym, subst, ◌∙◌, arith}
 use Rattle.std.specs.Prelude.{if◌then◌else◌, nat_lt}
 use Rattle.std.proofs.lemmas.Bool.{ltb-true}
@@ -43,15 +42,13 @@ outlasts_through a b c (encloses l m ls ms us vs end more) (for_ever _) = elim e
 outlasts_through a b c (encloses l m ls ms us vs end more) (with_globals _) = elim end [ ]
 outlasts_through a b c (encloses l m ls ms us vs end more) (encloses _ n _ ns _ ws next too) = encloses l n ls ns us ws (ends_through (l ∷ ls) ms m ns end next) (λ r is. too r (more r is))
 
--- The lifetime of an object, as a pointer to the object sees it, outlasts the object's own
--- lifetime.
+-- The lifetime of an object, as a pointer to the object sees it, outlasts the object's own lifetime.
 pub lasts_itself : (object : ℕ) (l : Life) → Outlasts (life_at object l) l
 lasts_itself object (OfRegion number ns us) = alike (OfRegion number ns us)
 lasts_itself object Owned = borrows object
 lasts_itself object (Kept a) = alike (Kept a)
 
--- If the given outlives pairs hold between lifetimes, then all pairs that follow from them hold
--- too.
+-- If the given outlives pairs hold between lifetimes, then all pairs that follow from them hold too.
 pub given_agree : (c : RegionContext) (n : Lives) → ((a b : Region) → IsGiven c a b → Outlasts (n a) (n b)) → AgreesWith c n
 given_agree c n agree a b (itself _) = alike (n a)
 given_agree c n agree a b (given _ _ is) = agree a b is
@@ -173,8 +170,7 @@ module _ (g : Typing) where
   key_converted l (values.Key region) is = is
   key_converted l v is = absurd is
 
-  -- If a pointer's lifetime outlasts another lifetime, then the pointer keeps its target when it
-  -- gets the shorter lifetime.
+  -- If a pointer's lifetime outlasts another lifetime, then the pointer keeps its target when it gets the shorter lifetime.
   shortened : (t : RunTy) (l m : Life) (object offset : ℕ) → Outlasts l m → IsTarget g t l object offset → IsTarget g t m object offset
   shortened t l m object offset outlasts (x, there, shown, lasts, part) = (x, there, shown, outlasts_through (life_at object x.life) l m lasts outlasts, part)
 
@@ -186,8 +182,7 @@ module _ (g : Typing) where
   pointer_shortened marks.Fat t l m (values.Fat object start count index) outlasts is = λ i less. shortened t l m object (start + i) outlasts (is i less)
   pointer_shortened k t l m v outlasts is = absurd is
 
-  -- For all lifetimes of the regions, converting a convertible value yields a value of the target
-  -- type.
+  -- For all lifetimes of the regions, converting a convertible value yields a value of the target type.
   pub converted_by : (n : Lives) (c : Context) (s : ValueType) (t : Ty) (v : Operand) → AgreesWith c.regions n → Converts c s t → IsResult g (value_at n s) v
       → Fits g (at n t) (conversion (tests.kind_of t) v.value)
   converted_by n c (types.Value types.Int) types.Int v agrees conv is = int_converted v.value is.1
@@ -205,8 +200,7 @@ module _ (g : Typing) where
       subst (λ z. Fits g (Pointer k (at n t) (n r)) (conversion (tests.kind_of_mark k) z)) (sym is.1) (null_converted k (at n t) (n r))
   converted_by n c s t v agrees conv is = absurd conv
 
-  -- A value that is converted has the kind that the typed tree states as the source of the
-  -- conversion.
+  -- A value that is converted has the kind that the typed tree states as the source of the conversion.
   pub kind_given : (n : Lives) (c : Context) (s : ValueType) (t : Ty) (v : Operand) → Converts c s t → IsResult g (value_at n s) v → v.kind ≡ tests.kind_of_value s
   kind_given n c types.Void types.Int v conv is = absurd conv
   kind_given n c types.Void types.Char v conv is = absurd conv

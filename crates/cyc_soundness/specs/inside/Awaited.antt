@@ -38,8 +38,7 @@ use Rattle.cyc_soundness.specs.inside.Judgements.{seen_by, Evaluates, EvaluatesW
 pub data Want : Type 0 where
   -- Nothing is awaited, because the run is over.
   Nothing : Want
-  -- A value of this type (or none, if no value is used) is awaited; the flow state after it is
-  -- given.
+  -- A value of this type (or none, if no value is used) is awaited; the flow state after it is given.
   Val : RunValue → flow.State → Want
   -- A cell of this type and lifetime is awaited, which is reached through a peek of this local or, without a peek, through
   -- an operand on the stack.
@@ -60,14 +59,12 @@ held (Advance peek target base) = base ∷ []
 held (MakeFields owner before rest) = before
 held a = []
 
--- The number of operands that an entry stores; the pointer to an array under construction counts as
--- one operand.
+-- The number of operands that an entry stores; the pointer to an array under construction counts as one operand.
 abbrev pub count_held : Awaiting → ℕ
 count_held (FillElement object count index level kind element) = 1
 count_held a = length (held a)
 
--- The number of operands of an entry that awaits a cell; the left side of a swap counts as one
--- operand.
+-- The number of operands of an entry that awaits a cell; the left side of a swap counts as one operand.
 abbrev pub count_place : AwaitingPlace → ℕ
 count_place (SwapRight kind peek is_cell left) = 1
 count_place a = 0
@@ -113,8 +110,7 @@ abbrev pub turned : {A : Type 0} → List A → List A → List A
 turned [] rest = rest
 turned (a ∷ before) rest = turned before (a ∷ rest)
 
--- The live regions and constraints at the start of a function, before the function's own region is
--- open.
+-- The live regions and constraints at the start of a function, before the function's own region is open.
 abbrev pub regions_at_call : Function → RegionContext
 regions_at_call h = record { written = h.constraints; live = regions.Heap ∷ regions.Unique ∷ h.effect; opened = [] }
 
@@ -133,8 +129,7 @@ IsCalled p bs (callees.Function number) ts r =
     (h : Function) × (these : ℕ → Life) × (live : ℕ → Bool) × (slice_get p.functions number ≡ Some h) × IsInstance bs h these live
     × (ts ≡ map (at (lives_of these)) h.parameters) × (r ≡ value_at (lives_of these) (result_type h.result))
 
--- Says that these are the field types of a struct with these lifetimes as parameters, and that no
--- field type is a key.
+-- Says that these are the field types of a struct with these lifetimes as parameters, and that no field type is a key.
 abbrev pub AreFields : Program → (struct : ℕ) → List Life → List RunTy → Type 0
 AreFields p n ls ts = (s : StructType) × (slice_get p.structs n ≡ Some s) × (length ls ≡ s.parameters) × (ts ≡ map (at (lives_among ls)) s.fields) × AreKeyless ts
 
@@ -161,8 +156,7 @@ pub record IsLoop (p : Program) (x : Exits) (bs : List InScope) (l : LoopExit) (
   pub fails : Implies f exit
   pub left : Implies l.breaks exit
 
--- Says that evaluating one element of an array of this type loses no facts of the state before the
--- element.
+-- Says that evaluating one element of an array of this type loses no facts of the state before the element.
 pub record Repeats (q : Relied) (c : Context) (level : ℕ) (kind : Kind) (element : Expression) (t : Ty) (f : flow.State) : Type 0 where
   pub now : flow.State
   pub level_is : level ≡ c.counters
@@ -181,8 +175,7 @@ abbrev pub IsPlainValue : RunValue → Type 0
 IsPlainValue (Value t) = IsPlain t
 IsPlainValue r = Unit {0}
 
--- Says that the remaining operators of a chain fit the left operand. If the operand is a peek, then the next operator
--- must only look at it.
+-- Says that the remaining operators of a chain fit the left operand. If the operand is a peek, then the next operator must only look at it.
 abbrev pub IsChained : Option ℕ → RunValue → Operations → Type 0
 IsChained peek r (ThenTest o a os) = Unit {0}
 IsChained peek r (ThenPointerPeek n o a os) = (peek ≡ Some n) ⊎ ((peek ≡ None) × IsPlainValue r)
@@ -197,8 +190,7 @@ abbrev pub IsCommonLife : Life → Type 0
 IsCommonLife Owned = ⊥
 IsCommonLife l = Unit {0}
 
--- Says that the type alone determines if a value claims a resource: the type is not a unique
--- pointer.
+-- Says that the type alone determines if a value claims a resource: the type is not a unique pointer.
 abbrev pub IsByType : RunTy → Type 0
 IsByType (lives.Pointer k t l) = IsCommonLife l
 IsByType t = Unit {0}
@@ -294,14 +286,12 @@ IsArray g t l object count index =
     (y : ObjectType) × (slice_get g.objects object ≡ Some y) × (y.is_hidden ≡ false) × (y.life ≡ l)
     × ((i : ℕ) → i < count → slice_get y.cells i ≡ Some t) × IsFilled g object index × (index ≤ count)
 
--- Says that an array is under construction and that an operand on the stack holds the pointer to
--- it.
+-- Says that an array is under construction and that an operand on the stack holds the pointer to it.
 abbrev pub IsArrayOf : Typing → (hand : ℕ) → List RunTy → (object count index : ℕ) → Type 0
 IsArrayOf g i (lives.Pointer m t l ∷ []) object count index = (index < count) × IsArray g t l object count index × Owns g.own (Hand i) (pointer_at l object)
 IsArrayOf g i ts object count index = ⊥
 
--- Says that operands stored on the stack (newest first), above `below` other operands, claim their
--- resources.
+-- Says that operands stored on the stack (newest first), above `below` other operands, claim their resources.
 abbrev pub AreClaimed : (own : Thing → Holder) → (below : ℕ) → List RunTy → List Operand → Type 0
 AreClaimed own i (t ∷ ts) (v ∷ vs) = Claims own (Hand (i + length ts)) t v.value × AreClaimed own i ts vs
 AreClaimed own i ts vs = Unit {0}
@@ -339,8 +329,7 @@ Keeps g i a (t ∷ ts) = AreOperands g (t ∷ ts) (held a) × AreClaimed g.own i
 
 -- ---- swaps
 
--- One side of a swap after its evaluation: a variable that is full in this flow state, or a cell to which a
--- pointer points.
+-- One side of a swap after its evaluation: a variable that is full in this flow state, or a cell to which a pointer points.
 pub data IsSpot (p : Program) (g : Typing) (bs : List InScope) (t : Ty) (f : flow.State) : values.Value → Type 0 where
   of_local : (b : Bound) → IsAmong (Variable b) bs → b.of_type ≡ read bs t → IsFullIn f b.number → IsSpot p g bs t f (values.Thin b.object 0)
   of_global : (number : ℕ) → slice_get (map (λ (v : GlobalVariable). v.of_type) p.globals) number ≡ Some t → read bs t ≡ at as_heap t
@@ -355,8 +344,7 @@ pub data IsLeftSpot (p : Program) (g : Typing) (hand : ℕ) (peek : Option ℕ) 
   left_cell : (place : values.Value) (r : Region) → IsThere bs r → HasType g (lives.Pointer marks.NonNull (read bs t) (lives_in bs r)) place
       → ClaimsPart g hand peek (thing_of (lives.Pointer marks.NonNull (read bs t) (lives_in bs r)) place) → IsLeftSpot p g hand peek bs t f place
 
--- Says that the left side is stored in the swap's entry while the right side is evaluated; both
--- sides have this type.
+-- Says that the left side is stored in the swap's entry while the right side is evaluated; both sides have this type.
 abbrev pub KeepsPlace : Program → Typing → (hand : ℕ) → List InScope → AwaitingPlace → RunTy → flow.State → Type 0
 KeepsPlace p g i bs (SwapRight kind peek is_cell left) r f = (t : Ty) × (r ≡ read bs t) × (is_struct t ≡ false) × IsLeftSpot p g i peek bs t f left
 KeepsPlace p g i bs a r f = Unit {0}

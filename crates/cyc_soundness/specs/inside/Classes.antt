@@ -16,8 +16,7 @@ use Rattle.cyc_soundness.specs.inside.Lives.{AllIn, IsKnown}
 abbrev pub IsDeclarable : ℕ → Ty → Type 0
 IsDeclarable n t = AllIn (IsKnown n) t
 
--- The flow states at the starts of the clauses of each enclosing `try`, on which these clauses
--- rely.
+-- The flow states at the starts of the clauses of each enclosing `try`, on which these clauses rely.
 abbrev pub Relied : Type 0
 Relied = List flow.State
 

@@ -32,25 +32,21 @@ pub record Bound : Type 0 where
 abbrev pub local_type : (depth : ℕ) → Bound → ObjectType
 local_type d b = variable_type b.of_type b.life b.is_hidden (OfLocal d b.number)
 
--- An entry of a scope: a local, a counter, a region variable, the region variables of a call, or
--- the region of a block.
+-- An entry of a scope: a local, a counter, a region variable, the region variables of a call, or the region of a block.
 pub data InScope : Type 0 where
   Variable : Bound → InScope
   -- The counter of an enclosing array `for`.
   Level : (level : ℕ) → InScope
-  -- The lifetime that the region variable with this number denotes; the flag tells if the region is
-  -- live.
+  -- The lifetime that the region variable with this number denotes; the flag tells if the region is live.
   Names : (number : ℕ) → Life → (is_live : Bool) → InScope
-  -- The lifetimes that all region variables of a call denote; the second function tells which of
-  -- them are live.
+  -- The lifetimes that all region variables of a call denote; the second function tells which of them are live.
   Instance : (ℕ → Life) → (ℕ → Bool) → InScope
   -- the region that contains the variables of the innermost block
   Home : (region : ℕ) → InScope
 
 -- ---- regions
 
--- The lifetime of a region variable; a region variable without an entry in the scope denotes the
--- heap.
+-- The lifetime of a region variable; a region variable without an entry in the scope denotes the heap.
 abbrev pub life_named : List InScope → ℕ → Life
 life_named [] k = heap_life
 life_named (Variable b ∷ bs) k = life_named bs k
@@ -100,8 +96,7 @@ home_of (b ∷ bs) = home_of bs
 abbrev pub IsHomed : Lives → (region : ℕ) → Life → Type 0
 IsHomed m region l = l ≡ m (regions.Variable region)
 
--- Says that the scope entry is the newest local of the typing context, followed by the rest of the
--- locals.
+-- Says that the scope entry is the newest local of the typing context, followed by the rest of the locals.
 abbrev pub IsNewest : Lives → List LocalInScope → InScope → (rest : List LocalInScope) → Type 0
 IsNewest m vs (Variable b) rest =
     (v : LocalInScope) × (vs ≡ v ∷ rest) × (v.number ≡ b.number) × (at m v.of_type ≡ b.of_type) × (is_moved v.of_type ≡ b.is_hidden) × IsHomed m v.region b.life
@@ -131,8 +126,7 @@ abbrev pub IsBound : (locals counters : ℕ → Option ℕ) → List InScope →
 IsBound locals counters [] = Unit {0}
 IsBound locals counters (b ∷ bs) = HasMeaning locals counters b × IsBound locals counters bs
 
--- Says that the objects of locals are variables of the right types. The lifetimes of regions are known, and live
--- ones are open.
+-- Says that the objects of locals are variables of the right types. The lifetimes of regions are known, and live ones are open.
 abbrev pub IsOfVariable : Typing → InScope → Type 0
 IsOfVariable g (Variable b) = (slice_get g.objects b.object ≡ Some (local_type g.depth b)) × IsOpenIn g b.life
 IsOfVariable g (Names number life live) = IsKnownLife g life × (live ≡ true → IsOpenIn g life)
@@ -143,8 +137,7 @@ abbrev pub AreVariables : Typing → List InScope → Type 0
 AreVariables g [] = Unit {0}
 AreVariables g (b ∷ bs) = IsOfVariable g b × AreVariables g bs
 
--- Says that a lifetime lasts to the end of one of the regions that stack entries will close, or for
--- ever.
+-- Says that a lifetime lasts to the end of one of the regions that stack entries will close, or for ever.
 abbrev pub IsLasting : List ℕ → Life → Type 0
 IsLasting regions (OfRegion number around lent) = (OfRegion number around lent ≡ heap_life) ⊎ IsEndOf (number ∷ around) regions
 IsLasting regions (Kept a) = Unit {0}
@@ -168,8 +161,7 @@ home_in (CloseRegion region outer ∷ stack) = region
 home_in (Caller outer ∷ stack) = globals_number
 home_in (entry ∷ stack) = home_in stack
 
--- Says that the lifetimes of the live entries of a scope last at least until this stack is reached
--- again.
+-- Says that the lifetimes of the live entries of a scope last at least until this stack is reached again.
 abbrev pub LiveIn : List Entry → List InScope → Type 0
 LiveIn stack bs = AreLiveIn (ends_of stack) bs × (home_of bs ≡ home_in stack)
 
@@ -270,8 +262,7 @@ is_loop (Some l) = true
 
 -- ---- lifetimes that the regions of a context denote
 
--- Says that live regions denote lifetimes that have not ended, and that the outlives constraints
--- hold between lifetimes.
+-- Says that live regions denote lifetimes that have not ended, and that the outlives constraints hold between lifetimes.
 pub record AreNamed (c : RegionContext) (these : ℕ → Life) (live : ℕ → Bool) : Type 0 where
   pub there : (r : Region) → Contains (live_regions c.live c.opened) r → IsThereBy live r
   pub agrees : (a b : Region) → IsGiven c a b → Outlasts (lives_of these a) (lives_of these b)
@@ -282,8 +273,7 @@ pub record AreNamed (c : RegionContext) (these : ℕ → Life) (live : ℕ → B
 abbrev pub Stand : RegionContext → List InScope → Type 0
 Stand c bs = AreNamed c (λ n. life_named bs n) (λ n. is_live_named bs n)
 
--- Says that the variables of the innermost block are in the region that this region variable
--- denotes.
+-- Says that the variables of the innermost block are in the region that this region variable denotes.
 abbrev pub IsHome : (region : ℕ) → List InScope → Type 0
 IsHome region bs = IsNumber (life_named bs region) (home_of bs) × (is_live_named bs region ≡ true)
 
@@ -298,8 +288,7 @@ pub record AreKnown (n : ℕ) (c : RegionContext) (vs : List LocalInScope) (resu
   pub locals : AreKnownLocals n vs
   pub gives : AllInValue (IsKnown n) (result_type result)
 
--- Says that a typing context is that of a tree in a function of this program, with these exits and
--- this scope.
+-- Says that a typing context is that of a tree in a function of this program, with these exits and this scope.
 pub record IsContext (p : Program) (x : Exits) (bs : List InScope) (c : Context) : Type 0 where
   pub globals : c.globals ≡ map (λ (g : GlobalVariable). g.of_type) p.globals
   pub functions : c.functions ≡ map signature_of p.functions
@@ -320,8 +309,7 @@ pub record IsContext (p : Program) (x : Exits) (bs : List InScope) (c : Context)
 abbrev pub lives_among : List Life → Lives
 lives_among ls = lives_of (λ n. slice_index_or ls n heap_life)
 
--- Says that the typing knows the program: its globals are the first objects, and its structs have the cells of
--- their fields.
+-- Says that the typing knows the program: its globals are the first objects, and its structs have the cells of their fields.
 pub record KnowsProgram (g : Typing) (p : Program) : Type 0 where
   pub globals : (number : ℕ) (t : Ty) → slice_get (map (λ (v : GlobalVariable). v.of_type) p.globals) number ≡ Some t
       → (slice_get g.objects number ≡ Some (global_type (at as_heap t))) × IsFull g number × IsDeclarable 0 t

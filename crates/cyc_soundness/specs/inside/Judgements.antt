@@ -44,24 +44,21 @@ pub record Passes (q : Relied) (c : Context) (ts : List Ty) (as' : Arguments) (f
   pub flows : Derives (rule_arguments waiting as' f) h
   pub kept : InArguments q as'
 
--- The typing and flow judgement of a memory access of this type, through a pointer into this
--- region.
+-- The typing and flow judgement of a memory access of this type, through a pointer into this region.
 pub record Locates (q : Relied) (c : Context) (d : Dereference) (f : flow.State) (t : Ty) (r : Region) (h : flow.State) : Type 0 where
   pub waiting : List ℕ
   pub typed : IsCell c d t r
   pub flows : Derives (rule_place waiting d f) h
   pub kept : InPlace q d
 
--- The typing and flow judgement of the initial contents of an object of this type; k is the kind of
--- the pointer to it.
+-- The typing and flow judgement of the initial contents of an object of this type; k is the kind of the pointer to it.
 pub record Makes (q : Relied) (c : Context) (i : Initial) (k : PointerKind) (t : Ty) (f h : flow.State) : Type 0 where
   pub waiting : List ℕ
   pub typed : IsMade c i k t
   pub flows : Derives (rule_initial waiting i f) h
   pub kept : InInitial q i
 
--- The typing and flow judgement of one side of a swap of this type; the resulting state is the state after
--- both sides were evaluated.
+-- The typing and flow judgement of one side of a swap of this type; the resulting state is the state after both sides were evaluated.
 pub record Finds (q : Relied) (c : Context) (y : Side) (f : flow.State) (t : Ty) (h : flow.State) : Type 0 where
   pub waiting : List ℕ
   pub typed : IsSide c y t
@@ -69,8 +66,7 @@ pub record Finds (q : Relied) (c : Context) (y : Side) (f : flow.State) (t : Ty)
   pub used : AllKept (side_demanded waiting y h)
   pub kept : InSide q y
 
--- The typing and flow judgement of a statement, with the flow state after it and the state at its
--- breaks.
+-- The typing and flow judgement of a statement, with the flow state after it and the state at its breaks.
 pub record Executes (x : Exits) (c : Context) (s : Statement) (f h : flow.State) : Type 0 where
   pub before : flow.State
   pub following : flow.State
@@ -79,8 +75,7 @@ pub record Executes (x : Exits) (c : Context) (s : Statement) (f h : flow.State)
   pub breaks : AreBreaks x.loop following
   pub kept : InStatement x.relied c.next_region s
 
--- The typing and flow judgement of the rest of a block; at its end, the locals that these items have
--- locked are full again.
+-- The typing and flow judgement of the rest of a block; at its end, the locals that these items have locked are full again.
 pub record Continues (x : Exits) (c : Context) (js : Items) (f h : flow.State) : Type 0 where
   pub before : flow.State
   pub following : flow.State

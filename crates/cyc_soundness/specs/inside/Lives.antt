@@ -22,11 +22,9 @@ pub data Thing : Type 0 where
 -- lent resources last at least as long as the region.
 pub data Life : Type 0 where
   OfRegion : (region : ℕ) → (around : List ℕ) → (lent : Thing → Bool) → Life
-  -- The lifetime of a unique object: it lasts until the holder of the unique pointer frees the
-  -- object.
+  -- The lifetime of a unique object: it lasts until the holder of the unique pointer frees the object.
   Owned : Life
-  -- A lifetime that no scope ends: that of a dynamic region, or of a unique object while it is
-  -- lent.
+  -- A lifetime that no scope ends: that of a dynamic region, or of a unique object while it is lent.
   Kept : Thing → Life
 
 pub data RunTy : Type 0 where
@@ -45,8 +43,7 @@ pub data RunValue : Type 0 where
   Value : RunTy → RunValue
   -- A value of this type that a peek reads; the variable of this object keeps the value.
   Seen : (object : ℕ) → RunTy → RunValue
-  -- A pointer into the object of the local at which a peek looks or, without a peek, of an operand
-  -- on the stack.
+  -- A pointer into the object of the local at which a peek looks or, without a peek, of an operand on the stack.
   Into : (peek : Option ℕ) → RunTy → RunValue
 
 -- the lifetimes that the regions of a function denote
@@ -93,8 +90,7 @@ lives_of m regions.Heap = heap_life
 lives_of m regions.Unique = Owned
 lives_of m (regions.Variable n) = m n
 
--- The lifetimes for reading a type without region variables, such as a global's type: each variable is
--- read as the heap.
+-- The lifetimes for reading a type without region variables, such as a global's type: each variable is read as the heap.
 abbrev pub as_heap : Lives
 as_heap r = lives_of (λ n. heap_life) r
 

@@ -101,8 +101,7 @@ pub record IsMaking (g : Typing) (hand : ℕ) (writes : List Write) (v : Operand
   pub filled : IsFilled g object offset
   pub rest : AreNext g offset of_type.cells operands
   pub whole : IsWhole g of_type t
-  -- The operands for the remaining cells are on the stack, and above them is the pointer to the
-  -- object.
+  -- The operands for the remaining cells are on the stack, and above them is the pointer to the object.
   pub place : ℕ
   pub least : hand ≤ place
   pub given : AreNextGiven g.own place offset of_type.cells operands
@@ -110,8 +109,7 @@ pub record IsMaking (g : Typing) (hand : ℕ) (writes : List Write) (v : Operand
 
 -- ---- states
 
--- Says that a function with a result returns a value of its type, and that a function without a
--- result returns no value.
+-- Says that a function with a result returns a value of its type, and that a function without a result returns no value.
 abbrev pub IsReturn : Typing → (below : ℕ) → Option Ty → RunValue → Option Operand → Type 0
 IsReturn g i None r None = Unit {0}
 IsReturn g i (Some t) r (Some v) = IsResult g r v × ClaimsAlone g.own i r v.value
@@ -192,8 +190,7 @@ pub record IsRunning (p : Program) (focus : Focus) (k : List Entry) (e : Environ
   pub live : LiveIn k locals
   pub stands : IsFocus p typing exits locals focus k
 
--- Says that every part of a state is well-typed, so the state is neither dead nor wrong. This is
--- the invariant of the soundness proof.
+-- Says that every part of a state is well-typed, so the state is neither dead nor wrong. This is the invariant of the soundness proof.
 abbrev pub IsWell : Program → State → Type 0
 IsWell p (Running focus k e w) = IsRunning p focus k e w
 IsWell p (Ended ending output input) = Unit {0}

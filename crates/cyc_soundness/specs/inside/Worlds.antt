@@ -17,8 +17,7 @@ pub data IsAmong {A : Type 0} (a : A) : List A → Type 0 where
   first : (as' : List A) → IsAmong a (a ∷ as')
   later : (b : A) (as' : List A) → IsAmong a as' → IsAmong a (b ∷ as')
 
--- The local whose variable the object is, given by its number and by how many other calls enclose
--- its call.
+-- The local whose variable the object is, given by its number and by how many other calls enclose its call.
 pub data Slot : Type 0 where
   NoLocal : Slot
   OfLocal : (depth number : ℕ) → Slot
@@ -56,8 +55,7 @@ pub data Pending : Type 0 where
 pub record Typing : Type 0 where
   -- The type of each object, given the object's number.
   pub objects : List ObjectType
-  -- For each object, how many of its leading cells hold values; a cell that holds a value holds one for
-  -- ever.
+  -- For each object, how many of its leading cells hold values; a cell that holds a value holds one for ever.
   pub filled : List ℕ
   -- the types of a struct's cells, given its number and the lifetimes of its region parameters
   pub fields : ℕ → List Life → Option (List RunTy)
@@ -121,8 +119,7 @@ AgreesWith c n = (a b : NamedRegion) → OutlivesIn c a b → Outlasts (n a) (n 
 
 -- ---- values
 
--- Says that an object of this type contains a part of the given type at this cell: a value, or a struct, which is the
--- complete object.
+-- Says that an object of this type contains a part of the given type at this cell: a value, or a struct, which is the complete object.
 abbrev pub IsPart : Typing → (object : ℕ) → ObjectType → RunTy → (offset : ℕ) → Type 0
 IsPart g object x (Struct n ls) offset = (offset ≡ 0) × (g.fields n ls ≡ Some x.cells) × IsFilled g object (length x.cells)
 IsPart g object x t offset = (slice_get x.cells offset ≡ Some t) × IsFilled g object (suc offset)
@@ -214,8 +211,7 @@ IsNewOwner l (Unique false) = ⊥
 IsNewOwner l (Unique true) = IsOwner l (Unique true)
 IsNewOwner l (InRegion number) = IsOwner l (InRegion number)
 
--- Says that a type is not the type of a dynamic region's key; cells to which pointers may point
--- contain no such keys.
+-- Says that a type is not the type of a dynamic region's key; cells to which pointers may point contain no such keys.
 abbrev pub IsKeyless : RunTy → Type 0
 IsKeyless (Key (Kept (KeyOf region))) = ⊥
 IsKeyless t = Unit {0}
@@ -272,8 +268,7 @@ IsStart (Pointer k t l) (values.Thin object offset) = AtStart l offset 0
 IsStart (Pointer k t l) (values.Fat object start count index) = AtStart l start index
 IsStart t v = Unit {0}
 
--- Says that the holder owns the resource that a value represents, if any, and that a unique pointer
--- points to its object's start.
+-- Says that the holder owns the resource that a value represents, if any, and that a unique pointer points to its object's start.
 abbrev pub Claims : (own : Thing → Holder) → Holder → RunTy → values.Value → Type 0
 Claims own h t v = Owns own h (thing_of t v) × IsStart t v
 
@@ -309,14 +304,12 @@ IsHere g d n object = (g.here object ≡ Here) × IsSlot g d n object
 abbrev pub IsHiding : Typing → (object : ℕ) → (is_hidden : Bool) → Type 0
 IsHiding g object hidden = (x : ObjectType) × (slice_get g.objects object ≡ Some x) × (x.is_hidden ≡ hidden)
 
--- Says that a resource, if there is one, is held by this local, to whose variable no pointer
--- points.
+-- Says that a resource, if there is one, is held by this local, to whose variable no pointer points.
 abbrev pub IsLookedAt : Typing → (number : ℕ) → Option Thing → Type 0
 IsLookedAt g n None = Unit {0}
 IsLookedAt g n (Some a) = (object : ℕ) × IsHere g g.depth n object × IsHiding g object true × (g.own a ≡ At object 0)
 
--- Says that a resource is held by the local at which a peek looks or, without a peek, by an operand
--- on the stack.
+-- Says that a resource is held by the local at which a peek looks or, without a peek, by an operand on the stack.
 abbrev pub ClaimsPart : Typing → (hand : ℕ) → (peek : Option ℕ) → Option Thing → Type 0
 ClaimsPart g i None o = Owns g.own (Hand i) o
 ClaimsPart g i (Some n) o = IsLookedAt g n o
@@ -339,8 +332,7 @@ ClaimsAlone own i (Seen object t) v = ⊥
 ClaimsAlone own i (Into peek t) v = ⊥
 ClaimsAlone own i r v = Unit {0}
 
--- Says that a cell holds the resource of its own content; a hidden variable may have given its
--- content away.
+-- Says that a cell holds the resource of its own content; a hidden variable may have given its content away.
 abbrev pub IsKept : Typing → (object offset : ℕ) → (is_hidden : Bool) → Type 0
 IsKept g object offset hidden = (hidden ≡ true → g.here object ≡ Here) × (g.pending ≢ Awaits object offset)
 
@@ -374,8 +366,7 @@ pub record IsTyped (g : Typing) (regions : List Region) (objects : List Object) 
   pub owned : (object : ℕ) (t : ObjectType) (x : Object) → slice_get g.objects object ≡ Some t → slice_get objects object ≡ Some x → AreOwned g object t x.cells
   pub lent : (object : ℕ) (t : ObjectType) (x : Object) → slice_get g.objects object ≡ Some t → slice_get objects object ≡ Some x → AreLent g object t x.cells
 
--- Says that a new object with this lifetime may be allocated, since the region of the lifetime is
--- open.
+-- Says that a new object with this lifetime may be allocated, since the region of the lifetime is open.
 abbrev pub IsOpenLife : List Region → Life → Type 0
 IsOpenLife regions (OfRegion number around lent) = is_open (slice_get regions number) ≡ true
 IsOpenLife regions (Kept (KeyOf number)) = is_open (slice_get regions number) ≡ true

@@ -1,5 +1,4 @@
--- These modules define the flow rules as relations on states, in the form that a proof about runs
--- needs.
+-- These modules define the flow rules as relations on states, in the form that a proof about runs needs.
 pub mod Held
 pub mod Expressions
 pub mod Statements

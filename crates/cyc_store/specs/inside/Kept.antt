@@ -25,8 +25,7 @@ pub record Table : Type 0 where
   pub word : ℕ → ℕ
   pub live : ℕ → Bool
 
--- Says that a list is a chain: each element names the next element, and the last element names the
--- end.
+-- Says that a list is a chain: each element names the next element, and the last element names the end.
 abbrev pub IsChain : (next : ℕ → ℕ) → (first : ℕ) → List ℕ → Type 0
 IsChain next first [] = first ≡ NONE
 IsChain next first (x ∷ xs) = (first ≡ x) × IsChain next (next x) xs
@@ -47,8 +46,7 @@ abbrev pub limit : (owner : Option ℕ) → (filled : ℕ) → ℕ
 limit None filled = 0
 limit (Some h) filled = if h == UNIQUE then 0 else filled
 
--- The role of the first page of a region of this sort. Unique blocks are not a region of the table, so no first page has their
--- role.
+-- The role of the first page of a region of this sort. Unique blocks are not a region of the table, so no first page has their role.
 abbrev pub role_of_sort : Sort → Role
 role_of_sort Heap = role.Heap
 role_of_sort Lexical = role.Lexical

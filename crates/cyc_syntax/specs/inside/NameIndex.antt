@@ -24,14 +24,12 @@ other_in others text = get_by (λ v. slice_cmp nat_cmp text v.items) others
 abbrev pub number_if : List (List ℕ) → List ℕ → Option ℕ
 number_if texts text = if is_among text texts then Some (number_of texts text) else None
 
--- Returns the result of a lookup: the number of the first text with this key if it is equal, otherwise the entry
--- among the other texts.
+-- Returns the result of a lookup: the number of the first text with this key if it is equal, otherwise the entry among the other texts.
 abbrev pub found_at : List (List ℕ) → Option ℕ → Option ℕ → List ℕ → Option ℕ
 found_at texts None other text = None
 found_at texts (Some n) other text = if bytes_eq (get_or texts n []) text then Some n else other
 
--- `IsIndexOf` says that the index is correct: the lookup of each text returns its number, or nothing if the
--- text is not in the list.
+-- `IsIndexOf` says that the index is correct: the lookup of each text returns its number, or nothing if the text is not in the list.
 pub record IsIndexOf (texts : List (List ℕ)) (first : ℕ → Option ℕ) (other : List ℕ → Option ℕ) : Type 0 where
   -- The number stored for a key is an index into the list of texts.
   pub within : (key : ℕ) → IfSome (first key) (λ n. n < length texts)

@@ -1,5 +1,4 @@
--- The view of the code's syntax trees: each tree without its layout in memory. The form of the view is this project's
--- own choice.
+-- The view of the code's syntax trees: each tree without its layout in memory. The form of the view is this project's own choice.
 use Rattle.std.specs.Prelude.{List, [], ◌∷◌, map, Option, Some, None, option_map}
 use Rattle.std.specs.declared.vec.Vec.{Vec}
 use Rattle.std.specs.declared.alloc.Global.{Global as Heap}

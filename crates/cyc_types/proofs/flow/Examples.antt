@@ -67,8 +67,7 @@ abbrev ints : ℕ → List Ty
 ints zero = []
 ints (suc n) = Int ∷ ints n
 
--- a function with n parameters and m other locals, whose closing brace is at the given line and
--- column
+-- a function with n parameters and m other locals, whose closing brace is at the given line and column
 abbrev routine : Option Ty → (parameters locals : ℕ) → List Item → ℕ → ℕ → Function
 routine t n m js l k = record {
   name = 0;

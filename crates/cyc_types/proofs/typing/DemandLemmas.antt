@@ -1,5 +1,4 @@
--- If a tree satisfies one record of demands, it satisfies every record of demands that the first
--- one implies.
+-- If a tree satisfies one record of demands, it satisfies every record of demands that the first one implies.
 use Rattle.std.proofs.Common.{ℕ, List, [], ◌∷◌, Option, Some, None}
 use Rattle.cyc_types.specs.declared.typed.PointerOperator.{PointerOperator}
 use Rattle.cyc_types.specs.TypedTrees.{Expression, Number, Load, AddressOfCell, NumberOfElements, FreeUnique, FreeKey, Call, Unary, Binary, Assign, Store, New, Dereference, Target, Member, Element, Placement, OnHeap, AsUnique, ByHandle}

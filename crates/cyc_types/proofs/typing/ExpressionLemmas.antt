@@ -121,8 +121,7 @@ module _ (p : typed.Program) (h : typed.Function) where
   IsMeantCallee callees.Getchar s = s ≡ signature_of_ints []
   IsMeantCallee (callees.Function n) s = slice_get (map signature_of p.functions) n ≡ Some s
 
-  -- says that the meaning of a name is correct, given the locals in scope and the number of
-  -- enclosing array `for`s
+  -- says that the meaning of a name is correct, given the locals in scope and the number of enclosing array `for`s
   abbrev pub IsMeant : List LocalInScope → ℕ → Meaning → Type 0
   IsMeant vs n Unknown = Unit {0}
   IsMeant vs n (scopes.Variable (typed.Local q m) t home) = ((r : ℕ) × HasPlace vs m t r × (home ≡ regions.Variable r)) × (slice_get all_variables m ≡ Some t) × IsKeyOfVariable t
@@ -255,8 +254,7 @@ module _ (p : typed.Program) (h : typed.Function) where
     abbrev pub IsWell : typed.Expression → Type 0
     IsWell a = WellTyped here a (type_of a)
 
-    -- says that an expression is well-typed or is a peek (a read of a unique pointer that leaves
-    -- its local full)
+    -- says that an expression is well-typed or is a peek (a read of a unique pointer that leaves its local full)
     abbrev pub IsSeen : typed.Expression → ValueType → Type 0
     IsSeen a v = WellTyped here a v ⊎ IsPeek here a v
 
@@ -359,8 +357,7 @@ module _ (p : typed.Program) (h : typed.Function) where
     seen_well (Bracketed q e) walked a w d = seen_well e walked a w d
     seen_well e walked a w d = inl (w a d)
 
-    -- an operand that is well-typed or a peek, and whose type is not a unique pointer, is
-    -- well-typed
+    -- an operand that is well-typed or a peek, and whose type is not a unique pointer, is well-typed
     plain_of : (a : typed.Expression) (v : ValueType) → IsSeen a v → is_value is_unique v ≡ false → WellTyped here a v
     plain_of a v (inl w) n = w
     plain_of (typed.Peek q m t) v (inr (k, u, e)) n = absurd (true≢false (sym u ∙ ap (is_value is_unique) (sym e) ∙ n))
@@ -382,8 +379,7 @@ module _ (p : typed.Program) (h : typed.Function) where
     place_well (Counter n) q o x k d = absurd d
     place_well (Routine f s) q o x k d = absurd d
 
-    -- says that a memory cell reached by an expression is well-typed if the demands of its access
-    -- are satisfied
+    -- says that a memory cell reached by an expression is well-typed if the demands of its access are satisfied
     abbrev IsReached : Reached → Type 0
     IsReached w = AllKept w.asked → IsCell here w.cell (type_of_place w.cell) w.region
 
@@ -457,8 +453,7 @@ module _ (p : typed.Program) (h : typed.Function) where
 
     -- ---- operators
 
-    -- says that an operand is well-typed; if the operator only peeks at the operand, the operand
-    -- may be a peek
+    -- says that an operand is well-typed; if the operator only peeks at the operand, the operand may be a peek
     abbrev IsOperand : Bool → typed.Expression → Type 0
     IsOperand true a = IsSeen a (type_of a)
     IsOperand false a = IsWell a

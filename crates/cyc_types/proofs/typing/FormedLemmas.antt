@@ -51,8 +51,7 @@ heaps_known : (n k : ℕ) → AllOf (IsKnown n) (replicate k regions.Heap)
 heaps_known n zero = tt
 heaps_known n (suc k) = (tt, heaps_known n k)
 
--- if all region arguments are known, substituting one of them for a region variable gives a known
--- region
+-- if all region arguments are known, substituting one of them for a region variable gives a known region
 known_at : (n : ℕ) (rs : List Region) (i : ℕ) (d : Region) → AllOf (IsKnown n) rs → i < length rs → IsKnown n (slice_index_or rs i d)
 known_at n [] i d k l = absurd (omega arith)
 known_at n (r ∷ rs) zero d (k, ks) l = k
@@ -77,8 +76,7 @@ type_substituted n m rs (Struct i ss) ks l k = all_substituted n m rs ss ks l k
 
 -- ---- types
 
--- says that each struct in a type has as many region arguments as its declaration has region
--- parameters
+-- says that each struct in a type has as many region arguments as its declaration has region parameters
 abbrev pub IsCounted : List StructName → Ty → Type 0
 IsCounted structs (Pointer k t r) = IsCounted structs t
 IsCounted structs (Struct n rs) = (s : StructName) → slice_get structs n ≡ Some s → length rs ≡ s.parameters
@@ -92,8 +90,7 @@ counted_substituted structs rs (Handle r) c = tt
 counted_substituted structs rs (Key r) c = tt
 counted_substituted structs rs (Struct n ss) c = λ s at. length-map ss (substituted_region rs) ∙ c s at
 
--- says that a type mentions only the first n region variables, and that its structs have the right
--- number of region arguments
+-- says that a type mentions only the first n region variables, and that its structs have the right number of region arguments
 abbrev pub IsFormed : List StructName → ℕ → Ty → Type 0
 IsFormed structs n t = AllIn (IsKnown n) t × IsCounted structs t
 
@@ -297,8 +294,7 @@ module _ (g : Scope) (formed : IsFormedScope g) where
   abbrev pub IsFormedFound : Found → Type 0
   IsFormedFound x = IsFormed g.structs g.next_region (type_of_side x.side) × IsKnown g.next_region x.region
 
-  -- says that a memory cell's type and region are well-formed if the demands of its access are
-  -- satisfied
+  -- says that a memory cell's type and region are well-formed if the demands of its access are satisfied
   abbrev IsFormedReached : Reached → Type 0
   IsFormedReached w = AllKept w.asked → IsFormed g.structs g.next_region (type_of_place w.cell) × IsKnown g.next_region w.region
 
@@ -327,8 +323,7 @@ module _ (g : Scope) (formed : IsFormedScope g) where
       go true rest = one
       go false rest = rest
 
-  -- if a value has a well-formed struct type, the type of each field, with the struct's region
-  -- arguments substituted, is well-formed
+  -- if a value has a well-formed struct type, the type of each field, with the struct's region arguments substituted, is well-formed
   field_formed : (v : ValueType) (x : ℕ) → is_value has_members v ≡ true → IsFormedValue g.structs g.next_region v
       → IsFormed g.structs g.next_region (field_type (arguments_of (target_of (value_of v))) (field_among (fields_of g (target_of (value_of v))) x))
   field_formed (Value (Pointer k (Struct n rs) r)) x i ((known, j), counted) = go (slice_get g.fields n) refl
@@ -398,8 +393,7 @@ module _ (g : Scope) (formed : IsFormedScope g) where
   AreFormedHere [] = Unit {0}
   AreFormedHere (a ∷ as') = IsFormedHere a × AreFormedHere as'
 
-  -- says that every region that a call assigns to a region variable of the callee's signature is
-  -- known
+  -- says that every region that a call assigns to a region variable of the callee's signature is known
   abbrev AreKnownPairs : List (Region × Region) → Type 0
   AreKnownPairs [] = Unit {0}
   AreKnownPairs (p ∷ ps) = IsKnown g.next_region p.1 × AreKnownPairs ps

@@ -134,8 +134,7 @@ opened_formed g formed r h (Fixed l t) q j (kept, eq) = (_, _, eq)
 opened_formed g formed r h (Counter n) q j (kept, eq) = (_, _, eq)
 opened_formed g formed r h (Routine f s) q j d = absurd d
 
--- the type of an alias declaration is well-formed; the type may mention the new region that the
--- declaration introduces
+-- the type of an alias declaration is well-formed; the type may mention the new region that the declaration introduces
 aliased_formed : (g : Scope) (formed : IsFormedScope g) (r x : Named) (w : WrittenType) (m : Meaning) (q : Place) (j : typed.Item) → IsFormedMeaning g.structs g.next_region m
     → AllKept (type_demanded g.structs (with_name r g).names None w) → Derives (aliased g r x w m q) j → (t : Ty) × (k : ℕ) × (j ≡ typed.DeclareAlias g.next_region g.next_local t q k) × IsFormed g.structs (suc g.next_region) t
 aliased_formed g formed r x w Unknown q j k kept d = absurd d

@@ -1,5 +1,4 @@
--- Lemmas: a region named in a signature is one that its parameters declare, the heap, or the unique
--- region.
+-- Lemmas: a region named in a signature is one that its parameters declare, the heap, or the unique region.
 use Rattle.std.proofs.Common.{◌≡◌, ◌≢◌, ◌⊎◌, ℕ, zero, suc, ◌+◌, ◌<◌, ◌≤◌, Bool, true, false, cond, not, nat_eq, ◌&&◌, ◌||◌, List, [], ◌∷◌, Option, Some, None, map, replicate, inl, inr, refl, sym, ap, subst, ◌∙◌, arith}
 use Rattle.std.specs.Prelude.{is_some, unwrap_or}
 use Rattle.std.proofs.lemmas.Bool.{and_parts, and_from, or_left, eqb-true, true≢false, not-true}
@@ -27,8 +26,7 @@ use Rattle.cyc_types.proofs.typing.ExpressionLemmas.{IsKeyOfVariable}
 abbrev pub IsBase : List RegionName → Type 0
 IsBase names = (x : ℕ) → (region_among names x ≡ None) ⊎ ((region_among names x ≡ Some Heap) ⊎ (region_among names x ≡ Some Unique))
 
--- says that a name denotes the same region as before, or was undeclared and now denotes a region
--- variable below `next`
+-- says that a name denotes the same region as before, or was undeclared and now denotes a region variable below `next`
 abbrev IsOld : ℕ → (before now : Option Region) → Type 0
 IsOld next before now = (now ≡ before) ⊎ ((m : ℕ) × (now ≡ Some (Variable m)) × (1 ≤ m) × (m < next) × (before ≡ None))
 
@@ -36,8 +34,7 @@ old_weaker : (n m : ℕ) (before now : Option Region) → n ≤ m → IsOld n be
 old_weaker n m before now l (inl e) = inl e
 old_weaker n m before now l (inr (k, is, one, below, none)) = inr (k, is, one, (omega arith), none)
 
--- the region that a name denotes is one of the first k region variables, the heap or the unique
--- region
+-- the region that a name denotes is one of the first k region variables, the heap or the unique region
 named_of : (k n : ℕ) (before : Option Region) (now : Option Region) → (before ≡ None) ⊎ ((before ≡ Some Heap) ⊎ (before ≡ Some Unique)) → IsOld n before now → n ≤ suc k → (r : Region) → now ≡ Some r → IsNamed k r
 named_of k n before now (inl e) (inl same) l r is = absurd (none-some r (sym e ∙ (sym same ∙ is)))
 named_of k n before now (inr (inl e)) (inl same) l Heap is = tt
@@ -265,8 +262,7 @@ variables_keyless ts o (suc m) n = go (has_key (and_result ts o) (Variable n)) r
     go true e rest = rest
     go false e rest = ((variable_not_unique n, no_key_keyless (Variable n) ts (without_result (Variable n) ts o e)), rest)
 
--- if a region name is declared and does not name the unique region, its region differs from the
--- unique region
+-- if a region name is declared and does not name the unique region, its region differs from the unique region
 pub other_than_unique : (names : List RegionName) (r : Named) → is_known names r ≡ true → not (is_name_of names Unique r) ≡ true → region_of names r ≢ Unique
 other_than_unique names r k u = go (region_among names r.name) k u
   where

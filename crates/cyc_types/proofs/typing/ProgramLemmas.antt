@@ -282,8 +282,7 @@ module _ (p : typed.Program) (q : Program) (agrees : Agrees p q) where
 
 -- ---- main
 
--- builds a function's signature from the parts of its parameter list: members, effect and
--- constraints
+-- builds a function's signature from the parts of its parameter list: members, effect and constraints
 abbrev of_parts : Known → Option WrittenType → List Member → Option (List Named) → List Constraint → Signature
 of_parts k r ms e cs = signature_of k r (record { list = Listed ms; effect = e; constraints = cs })
 

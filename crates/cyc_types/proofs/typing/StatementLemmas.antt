@@ -38,8 +38,7 @@ use Rattle.cyc_types.proofs.typing.CountLemmas.{AreCounted, statement_counted, i
 
 -- ---- keys in written types
 
--- if a declared region name denotes neither the heap nor the unique region, it denotes a region
--- variable
+-- if a declared region name denotes neither the heap nor the unique region, it denotes a region variable
 variable_named : (names : List RegionName) (r : Named) → is_known names r ≡ true → not (is_name_of names regions.Unique r) ≡ true → not (is_name_of names regions.Heap r) ≡ true
     → IsKeyOfVariable (Key (formation.region_of names r))
 variable_named names r k u e = go (region_among names r.name) k u e
@@ -295,8 +294,7 @@ module _ (p : typed.Program) (h : typed.Function) where
   alias_no_key r (types.Pointer k t s) is = tt
   alias_no_key r u is = absurd (cc)
 
-  -- says that the exception of a catch clause is declared, and declared with an int exactly if the
-  -- clause receives an int
+  -- says that the exception of a catch clause is declared, and declared with an int exactly if the clause receives an int
   abbrev IsFor : Scope → Option Named → ℕ → Type 0
   IsFor g v n = (has : Bool) × IsException (at p h g) n has × (has ≡ is_some v)
 

@@ -51,8 +51,7 @@ use Rattle.cyc_types.proofs.typing.DemandLemmas.{functions_meet}
 
 -- ---- the demands
 
--- The demands that typed trees of source texts satisfy: those of `specs/Texts`, and that each
--- constant is a word.
+-- The demands that typed trees of source texts satisfy: those of `specs/Texts`, and that each constant is a word.
 abbrev pub tree_demands : Demands
 tree_demands = record {
   number = IsWord;
@@ -179,8 +178,7 @@ key_text (Routine f s) p a d = absurd d
 
 -- ---- sums
 
--- If the first operand of a sum is not an int, the sum is pointer arithmetic and has the pointer's
--- type.
+-- If the first operand of a sum is not an int, the sum is pointer arithmetic and has the pointer's type.
 sum_put : (left : ValueType) (o : Operator) (fat : PointerOperator) (a : typed.Expression) (os : typed.Operations) → is_int left ≡ false → (is_int left || is_value is_movable left) ≡ true
     → (then_added left o fat a os ≡ typed.ThenPointer fat a os) × (is_int (Value (value_of left)) ≡ false)
 sum_put Void o fat a os other kept = absurd (cc)
@@ -189,8 +187,7 @@ sum_put (Value Int) o fat a os other kept = absurd (cc)
 sum_put (Value t) o fat a os other kept = (refl, other)
 
 module _ (g : Scope) (p : Place) (k : Option ℕ) (left : ValueType) (q : Place) (a : typed.Expression) (other : is_int left ≡ false) where
-  -- adding a pointer-arithmetic operation in front of a chain of pointer arithmetic gives a chain
-  -- of pointer arithmetic
+  -- adding a pointer-arithmetic operation in front of a chain of pointer arithmetic gives a chain of pointer arithmetic
   sum_of_pointer : (o : Operator) (fat : PointerOperator) (j : Joined) → is_comparison fat ≡ false → Derives (sums_joined p left o fat q a) j
       → (is_int (Value j.1) ≡ false) × ((os : typed.Operations) → are_sums os ≡ true → are_sums (j.0 os) ≡ true)
   sum_of_pointer o fat j sum ((kept, more), eq) =
@@ -205,8 +202,7 @@ module _ (g : Scope) (p : Place) (k : Option ℕ) (left : ValueType) (q : Place)
   level_of_sums operators.Subtract j two d = sum_of_pointer _ pointers.SubtractFat j refl d
   level_of_sums o j two d = absurd (cc)
 
--- if the left operand of a chain of sums is not an int, the chain consists of pointer arithmetic
--- only
+-- if the left operand of a chain of sums is not an int, the chain consists of pointer arithmetic only
 sums_chain : (g : Scope) (p : Place) (k : Option ℕ) (left : ValueType) (os : Operations) → AreOperations 1 os → is_int left ≡ false → (bs : typed.Operations × Ty) → Derives (rule_chain g p k left os) bs
     → are_sums bs.0 ≡ true
 sums_chain g p k left NoOperations w other bs (kept, eq) = ap (λ (z : typed.Operations × Ty). are_sums z.0) eq
@@ -214,8 +210,7 @@ sums_chain g p k left (ThenOperation o q e os) (two, w, ws) other bs (put, (b, k
     let (next, sums) = level_of_sums g p k left (place_of e) (as_int b) other o put two d in
     ap (λ (z : typed.Operations × Ty). are_sums z.0) eq ∙ sums cs.0 (sums_chain g p None (Value put.1) os ws next cs ks)
 
--- says that, if `+` or `-` follows a left operand that is not an int, all operations after it are
--- pointer arithmetic
+-- says that, if `+` or `-` follows a left operand that is not an int, all operations after it are pointer arithmetic
 abbrev IsAloneAfter : BinaryOperator → ValueType → typed.Operations → Type 0
 IsAloneAfter operators.Add left os = is_int left ≡ false → are_sums os ≡ true
 IsAloneAfter operators.Subtract left os = is_int left ≡ false → are_sums os ≡ true
@@ -231,8 +226,7 @@ alone_after g p k left q a below o os put cs two w d h = tt
 
 -- ---- operators
 
--- says that adding an operation in front of a chain keeps the demands on trees of texts if the
--- operand and the chain satisfy them
+-- says that adding an operation in front of a chain keeps the demands on trees of texts if the operand and the chain satisfy them
 abbrev IsTextBefore : typed.Expression → Joined → Type 0
 IsTextBefore a j = (os : typed.Operations) → Meets tree_demands a → OperationsMeet tree_demands os → OperationsMeet tree_demands (j.0 os)
 
@@ -313,8 +307,7 @@ passed_count [] ts e = refl
 passed_count (a ∷ as') [] e = absurd (omega (arith, e))
 passed_count (a ∷ as') (t ∷ ts) e = ap suc (passed_count as' ts (omega (arith, e)))
 
--- a struct initializer of the typed tree has as many values as the struct has fields, and at least
--- one value
+-- a struct initializer of the typed tree has as many values as the struct has fields, and at least one value
 fields_text : (g : Scope) (s : Named) (rs : List Named) (es : Expressions) (as' : List typed.Expression) → KnowsFew g → 1 ≤ length as' → AreOfText as' → IsTextObject (fields_made g s rs es as')
 fields_text g s rs es as' few some w kept =
     let ts : List Ty = field_types (arguments_written g s rs) (fields_known g s) in
@@ -446,8 +439,7 @@ module _ (g : Scope) (few : KnowsFew g) where
   condition_text : (e : Expression) → IsExpression assignment_level e → IsOfWordsWritten e → GivesText (rule_condition g e)
   condition_text e w words a (b, h, (k, eq)) = subst (Meets tree_demands) (sym eq) (served_text b (seen_text g e (rule g e) (λ c d. expression_text g few assignment_level e w words c d) b h))
 
--- declaring the local that receives a caught exception's int keeps the bounds on field counts and
--- exception numbers
+-- declaring the local that receives a caught exception's int keeps the bounds on field counts and exception numbers
 caught_few : (v : Option Named) (g : Scope) → KnowsFew g → KnowsFew (with_caught v g)
 caught_few None g few = few
 caught_few (Some x) g few = few
@@ -502,8 +494,7 @@ mutual
 
 -- ---- programs
 
--- says that the program's declarations have few fields per struct, and that exception numbers are
--- words
+-- says that the program's declarations have few fields per struct, and that exception numbers are words
 abbrev ProgramKnowsFew : Program → Type 0
 ProgramKnowsFew p = AreFewFields p.fields × (suc (length p.exceptions) < 2 ^ 32)
 
@@ -521,8 +512,7 @@ within_append : (xs ys : Yield) → AllByRecursion IsWithin (xs ++ ys) → AllBy
 within_append [] ys h = (tt, h)
 within_append (x ∷ xs) ys (w, h) = let (l, r) = within_append xs ys h in ((w, l), r)
 
--- if the leaves of a list item are within the limits, the item's number is at most the limit on
--- list items
+-- if the leaves of a list item are within the limits, the item's number is at most the limit on list items
 item_few : (i : ℕ) (leaves more : Yield) → 1 ≤ length leaves → AllByRecursion IsWithin (yields.item_number i leaves ++ more) → i ≤ max_items
 item_few i [] more some w = absurd (omega (arith, some))
 item_few i (leaf ∷ leaves) more some (w, ws) = w.item
@@ -577,7 +567,6 @@ program_meets texts symbols tree p has within words short (u, heads, (v, main, (
     let few : ProgramKnowsFew known = (fields_few known.known tree within, omega (arith, many, exceptions_few tree, weight, short)) in
     subst (λ (z : typed.Program). FunctionsMeet tree_demands z.functions) (sym eq) (functions_text known few tree has.formed (tree_constants symbols tree has words) fs functions)
 
--- a program whose functions satisfy the demands `tree_demands` satisfies the demands of
--- `specs/Texts`
+-- a program whose functions satisfy the demands `tree_demands` satisfies the demands of `specs/Texts`
 pub of_text : (p : typed.Program) → FunctionsMeet tree_demands p.functions → IsOfTextProgram p
 of_text p = functions_meet tree_demands text_demands (record { number = λ n w. tt; fields = λ cs w. w; pointer = λ o os w. w; exception = λ n w. w }) p.functions

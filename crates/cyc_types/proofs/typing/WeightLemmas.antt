@@ -141,8 +141,7 @@ assignment_weight (CellSide c) b = omega arith
 
 -- ---- operators
 
--- says that adding an operation in front of a chain adds at most one token for the operator and the
--- weight of the operand
+-- says that adding an operation in front of a chain adds at most one token for the operator and the weight of the operand
 abbrev IsAdded : typed.Expression → Joined → Type 0
 IsAdded a j = (os : typed.Operations) → operations_weight (j.0 os) ≤ 1 + expression_weight a + operations_weight os
 
@@ -299,8 +298,7 @@ mutual
 
 -- ---- statements
 
--- the initial value of a local, with its `=` token, weighs at most as much in the typed tree as in
--- the syntax tree
+-- the initial value of a local, with its `=` token, weighs at most as much in the typed tree as in the syntax tree
 initial_lighter : (g : Scope) (w : WrittenType) (x : Named) (v : Option Expression) (c : Ty × Option Converted) → Derives (rule_initial g w x v) c
     → optional_weight (λ d. 1 + converted_weight d) c.1 ≤ optional_weight (λ e. 1 + written.expression_weight e) v
 initial_lighter g w x None c (k, eq) = subst (λ (z : Ty × Option Converted). optional_weight (λ d. 1 + converted_weight d) z.1 ≤ 0) (sym eq) (omega arith)

@@ -27,8 +27,7 @@ is_free q n (Reached as') = not (list_any (λ m. nat_eq m n) q)
 abbrev pub use_demanded : (waiting : List ℕ) → Place → ℕ → State → List Demand
 use_demanded q p n f = full_demanded p n f ++ demand codes.LockedVariable p (is_free q n f) ∷ []
 
--- the demands on an assignment to a local: its value is not lent out, and no peek of the local is
--- pending
+-- the demands on an assignment to a local: its value is not lent out, and no peek of the local is pending
 abbrev pub store_demanded : (waiting : List ℕ) → Place → ℕ → State → List Demand
 store_demanded q p n f = demand codes.LockedVariable p (not (is_locked (fullness f n)) && is_free q n f) ∷ []
 
@@ -106,8 +105,7 @@ abbrev mutual
   rule_placement q AsUnique f = gives f
   rule_placement q (ByHandle a) f = rule q a f
 
-  -- The elements of an array are evaluated in a loop after the array's length. The loop that evaluates the
-  -- elements may run zero times.
+  -- The elements of an array are evaluated in a loop after the array's length. The loop that evaluates the elements may run zero times.
   pub rule_initial : (waiting : List ℕ) → Initial → State → Rule State
   rule_initial q (Plain k a) f = rule q a f
   rule_initial q (Fields as') f = rule_arguments q as' f

@@ -22,8 +22,7 @@ start_of h = Reached (each_is Full h.parameters ++ each_is Vacant h.locals)
 abbrev pub in_function : Around
 in_function = record { loop = None; locks = [] }
 
--- the demand that execution does not reach the end of a function with a result; its position is
--- that of the closing brace
+-- the demand that execution does not reach the end of a function with a result; its position is that of the closing brace
 abbrev pub end_demanded : Option Ty → Place → State → List Demand
 end_demanded None p f = []
 end_demanded (Some t) p f = demand codes.MissingReturn p (not (is_reached f)) ∷ []

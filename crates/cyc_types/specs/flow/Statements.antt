@@ -50,8 +50,7 @@ abbrev pub peeked_side : Side → Option ℕ
 peeked_side (VariableSide l t) = None
 peeked_side (CellSide d) = peek_after d
 
--- the demands on a side of a swap that is a variable; the variable is used after both sides have
--- been evaluated
+-- the demands on a side of a swap that is a variable; the variable is used after both sides have been evaluated
 abbrev pub side_demanded : (waiting : List ℕ) → Side → State → List Demand
 side_demanded q (VariableSide (Local p n) t) f = use_demanded q p n f
 side_demanded q (VariableSide (Global n) t) f = []
@@ -67,8 +66,7 @@ rule_swapped x y f = Part (rule_side [] x f) (λ g. Part (rule_side (and_peeked 
 abbrev pub in_loop : Place → State → Around
 in_loop p head = record { loop = Some (record { place = p; head = head }); locks = [] }
 
--- the state after leaving a loop's body: the locals that the body's items locked hold their values
--- again
+-- the state after leaving a loop's body: the locals that the body's items locked hold their values again
 abbrev pub left_loop : Around → State → State
 left_loop c f = with_each Full c.locks f
 
@@ -104,8 +102,7 @@ abbrev pub rule_declared : ℕ → Option Converted → State → Rule State
 rule_declared n None f = gives (with_fullness Vacant f n)
 rule_declared n (Some c) f = Part (rule_converted [] c f) (λ g. gives (with_fullness Full g n))
 
--- the flow rule for an item that declares one local and locks another; the position is that of the
--- locked local's name
+-- the flow rule for an item that declares one local and locks another; the position is that of the locked local's name
 abbrev pub rule_locked : ℕ → Place → (locked : ℕ) → State → Rule State
 rule_locked n p m f = Own (full_demanded p m f) (with_fullness Full (with_fullness Locked f m) n)
 
@@ -115,8 +112,7 @@ at_end js k = at (with_each Full (locks_of js) k.now) k
 
 -- ---- clauses
 
--- the state at the start of a catch clause, from the state at its `try`: a local that the body touches counts
--- as empty
+-- the state at the start of a catch clause, from the state at its `try`: a local that the body touches counts as empty
 abbrev pub caught : State → Statement → State
 caught f s = emptied (touched_statement s []) f
 
@@ -124,8 +120,7 @@ abbrev pub with_caught : Option ℕ → State → State
 with_caught None f = f
 with_caught (Some n) f = with_fullness Full f n
 
--- the state after a `try` with one more catch clause: the meet of the state before and the state at
--- the end of the clause
+-- the state after a `try` with one more catch clause: the meet of the state before and the state at the end of the clause
 abbrev pub or_clause : State → Items → Known → Known
 or_clause before js k = at (meet before (at_end js k).now) k
 

@@ -1,5 +1,4 @@
--- The state of each local at a program point of a typed tree: full, lent out or empty. (The choice of three states is this project's
--- own.)
+-- The state of each local at a program point of a typed tree: full, lent out or empty. (The three states are this project's own choice.)
 use Rattle.std.specs.Prelude.{ℕ, Bool, true, false, ◌&&◌, if◌then◌else◌, List, [], ◌∷◌, get_or, slice_set}
 
 -- The fullness of a local, in rising order: the local may be empty, holds a value that is lent out, or holds a value.
@@ -57,8 +56,7 @@ abbrev pub is_reached : State → Bool
 is_reached Unreached = false
 is_reached (Reached as') = true
 
--- The fullness of a local in a state. In an unreachable state each local is full, so unreachable code breaks no flow
--- rule.
+-- The fullness of a local in a state. In an unreachable state each local is full, so unreachable code breaks no flow rule.
 abbrev pub fullness : State → ℕ → Fullness
 fullness Unreached n = Full
 fullness (Reached as') n = get_or as' n Vacant
@@ -80,8 +78,7 @@ abbrev pub is_locked : Fullness → Bool
 is_locked Locked = true
 is_locked a = false
 
--- returns the state in which each local in the list is empty, except locked locals, which keep
--- their fullness
+-- returns the state in which each local in the list is empty, except locked locals, which keep their fullness
 abbrev pub emptied : List ℕ → State → State
 emptied [] f = f
 emptied (n ∷ ns) f = emptied ns (if is_locked (fullness f n) then f else with_fullness Vacant f n)

@@ -12,8 +12,7 @@ use Rattle.cyc_types.specs.TypedTrees.{Return, Break, Continue, Throw, Try, Item
 abbrev pub and_local : ℕ → List ℕ → List ℕ
 and_local n ns = ns ++ (n ∷ [])
 
--- an assignment touches its local if the assignment has no value, that is, if it assigns a unique
--- pointer or a key
+-- an assignment touches its local if the assignment has no value, that is, if it assigns a unique pointer or a key
 abbrev pub and_assigned : Lvalue → ValueType → List ℕ → List ℕ
 and_assigned (Local p n) Void ns = and_local n ns
 and_assigned l t ns = ns
@@ -81,8 +80,7 @@ abbrev pub touched_thrown : Option Expression → List ℕ → List ℕ
 touched_thrown None ns = ns
 touched_thrown (Some a) ns = touched a ns
 
--- a declaration without an initial value touches its local; with an initial value, it touches the
--- locals that the value touches
+-- a declaration without an initial value touches its local; with an initial value, it touches the locals that the value touches
 abbrev pub touched_declaration : ℕ → Option Converted → List ℕ → List ℕ
 touched_declaration n None ns = and_local n ns
 touched_declaration n (Some c) ns = touched_converted c ns

@@ -13,8 +13,7 @@ place_of places Heap = places.heap
 place_of places Unique = places.unique
 place_of places (Variable n) = get_or places.variables.items n None
 
--- says that, among the last constraints, the region's first constraint is at the given index of the
--- list of all constraints
+-- says that, among the last constraints, the region's first constraint is at the given index of the list of all constraints
 abbrev pub IsFirst : List Constraint → List Constraint → Region → Option ℕ → Type 0
 IsFirst all last a None = (b : Region) → table_leads last a b ≡ region_eq a b
 IsFirst all last a (Some k) =

@@ -14,7 +14,6 @@ abbrev pub hidden_by : List RegionName → List (Option Region)
 hidden_by [] = []
 hidden_by (n ∷ ns) = region_among ns n.name ∷ hidden_by ns
 
--- says that the table maps each name to the region it denotes, and that each binding stores the region
--- it hides
+-- says that the table maps each name to the region it denotes, and that each binding stores the region it hides
 abbrev pub Finds : List (Option Region) → List Binding → Type 0
 Finds table bs = ((x : ℕ) → get_or table x None ≡ region_among (names_of bs) x) × (map (λ (b : Binding). b.hidden) (reverse bs) ≡ hidden_by (names_of bs))

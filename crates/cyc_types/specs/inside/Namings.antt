@@ -4,8 +4,7 @@ use Rattle.cyc_types.specs.declared.region.Region.TheVariants.{Heap, Unique}
 use Rattle.cyc_types.specs.typing.Scopes.{RegionName}
 use Rattle.cyc_types.specs.typing.Formation.{Naming}
 
--- builds the code's record of region names and the next region number, as it is after some
--- parameters
+-- builds the code's record of region names and the next region number, as it is after some parameters
 abbrev pub naming : List RegionName → ℕ → Naming
 naming names next = record { names = names; next = next }
 

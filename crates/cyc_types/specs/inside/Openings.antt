@@ -24,16 +24,13 @@ scope_at scopes i = get_or scopes i (record { region = Heap; kind = Block })
 abbrev pub live_before : List Region → List Scope → ℕ → List Region
 live_before live scopes i = live_regions live (reverse (take i scopes))
 
--- says that the scope at the given index is in order, so that its region can be found without a
--- search
+-- says that the scope at the given index is in order, so that its region can be found without a search
 pub record IsOrderly (written : List (Region × Region)) (live : List Region) (openings : List ℕ) (scopes : List Scope) (i : ℕ) : Type 0 where
-  -- the scope's region was live before any scope opened, or the table stores the index of the
-  -- region's oldest scope
+  -- the scope's region was live before any scope opened, or the table stores the index of the region's oldest scope
   pub found : (is_region_among (scope_at scopes i).region live ≡ true)
       ⊎ ((opening_of openings (scope_at scopes i).region ≤ i)
       × ((scope_at scopes (opening_of openings (scope_at scopes i).region)).region ≡ (scope_at scopes i).region))
-  -- if the live regions outlive the scope's region, no constraint makes the region outlive another, and the
-  -- region was not live before
+  -- if the live regions outlive the scope's region, no constraint makes the region outlive another, and the region was not live before
   pub alone : is_outlived_by_live (scope_at scopes i).kind ≡ true →
       (b : Region) → above written (scope_at scopes i).region b ≡ region_eq (scope_at scopes i).region b
   pub fresh : is_outlived_by_live (scope_at scopes i).kind ≡ true →

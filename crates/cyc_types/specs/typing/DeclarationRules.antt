@@ -21,8 +21,7 @@ use Rattle.cyc_types.specs.typing.Formation.{Naming, region_of, type_written, ty
 
 -- ---- the entities that signatures declare
 
--- the declarations known in the whole text: the built-in regions, the structs by number, and the number of the
--- name `main`
+-- the declarations known in the whole text: the built-in regions, the structs by number, and the number of the name `main`
 pub record Known : Type 0 where
   pub regions : List RegionName
   pub structs : List StructName
@@ -64,8 +63,7 @@ exceptions_of (Function r x ps b ∷ ds) = exceptions_of ds
 
 -- ---- signatures
 
--- the region names and the number of the next region, as they are after the parameters of a
--- function
+-- the region names and the number of the next region, as they are after the parameters of a function
 abbrev pub parameter_naming : Known → Parameters → Naming
 parameter_naming k ps = after_members (record { names = k.regions; next = 1 }) (members_of ps.list)
 
@@ -83,8 +81,7 @@ abbrev pub and_result : List Ty → Option Ty → List Ty
 and_result ts None = ts
 and_result ts (Some t) = t ∷ ts
 
--- the list of `count` region variables from number `from` on, without those that have a key among
--- the types
+-- the list of `count` region variables from number `from` on, without those that have a key among the types
 abbrev pub without_keys : List Ty → (count from : ℕ) → List Region
 without_keys ts zero n = []
 without_keys ts (suc m) n = if has_key ts (Variable n) then without_keys ts m (suc n) else Variable n ∷ without_keys ts m (suc n)
@@ -107,8 +104,7 @@ signature_of k r ps = record {
   constraints = constraints_of (parameter_naming k ps).names ps.constraints;
 }
 
--- the declared functions and globals; functions and globals are each numbered in the order of their
--- declarations
+-- the declared functions and globals; functions and globals are each numbered in the order of their declarations
 abbrev pub declared_from : Known → (globals functions : ℕ) → List Declaration → List Declared
 declared_from k n m [] = []
 declared_from k n m (StructType s rs fs ∷ ds) = declared_from k n m ds
@@ -155,8 +151,7 @@ value_demanded t q (Some (Negative p n)) = demand codes.TypeMismatch p (is_numbe
 value_demanded t q (Some (Byte p c)) = demand codes.TypeMismatch p (is_number t) ∷ []
 value_demanded t q (Some (NullPointer p)) = demand codes.TypeMismatch p (is_pointer t) ∷ demand codes.NullForNonNull p (not (is_non_null t)) ∷ []
 
--- the demands on a declared name: it is new, and it is not `main` unless the declaration may define
--- `main`
+-- the demands on a declared name: it is new, and it is not `main` unless the declaration may define `main`
 abbrev pub head_demanded : Place → (is_new is_no_main : Bool) → List Demand
 head_demanded p is_new is_no_main = demand codes.DeclaredTwice p is_new ∷ demand codes.BadMain p is_no_main ∷ []
 
@@ -187,8 +182,7 @@ abbrev pub result_demanded : Known → List RegionName → Option WrittenType �
 result_demanded k names None = []
 result_demanded k names (Some w) = type_demanded k.structs names None w
 
--- the demands on each region of a written effect: it is declared, is not the unique region, and has no key among
--- the types
+-- the demands on each region of a written effect: it is declared, is not the unique region, and has no key among the types
 abbrev pub effect_demanded : List RegionName → List Ty → List Named → List Demand
 effect_demanded names ts [] = []
 effect_demanded names ts (r ∷ rs) =

@@ -40,8 +40,7 @@ use Rattle.cyc_types.specs.typing.Formation.{struct_number, parameters_among, ar
 
 -- ---- conversions
 
--- returns true if a value of the first type can be converted to the second; the regions of the outermost pointer
--- marks are not compared
+-- returns true if a value of the first type can be converted to the second; the regions of the outermost pointer marks are not compared
 abbrev pub is_convertible : Ty → Ty → Bool
 is_convertible Int Int = true
 -- an int is converted to a char by taking its low byte, and a char to an int by keeping its value
@@ -203,8 +202,7 @@ field_among (f ∷ fs) x = if nat_eq f.name x then Some f.of_type else field_amo
 abbrev pub field_type : List Region → Option Ty → Ty
 field_type rs t = substituted_ty rs (unwrap_or t Int)
 
--- The memory cell `e->f`, for the operand e at position p. If the operand is not a pointer to a struct, its fields
--- are unknown.
+-- The memory cell `e->f`, for the operand e at position p. If the operand is not a pointer to a struct, its fields are unknown.
 abbrev pub selected : Scope → Place → typed.Expression → Named → Reached
 selected g p a f = record {
   asked = demand codes.TypeMismatch p (is_value has_members (type_of a))
@@ -298,8 +296,7 @@ abbrev pub operand : Bool → (used seen : Rule typed.Expression) → Rule typed
 operand true used seen = seen
 operand false used seen = used
 
--- a pair: the function that puts an operation in front of a chain of operations, and the
--- operation's result type
+-- a pair: the function that puts an operation in front of a chain of operations, and the operation's result type
 abbrev pub Joined : Type 0
 Joined = (typed.Operations → typed.Operations) × Ty
 
@@ -308,8 +305,7 @@ abbrev pub peeked_local : typed.Expression → Option ℕ
 peeked_local (typed.Peek p n t) = Some n
 peeked_local a = None
 
--- puts an operation on a pointer or `NULL` in front of a chain of operations; its left operand may
--- be a peek
+-- puts an operation on a pointer or `NULL` in front of a chain of operations; its left operand may be a peek
 abbrev pub then_pointer : Option ℕ → PointerOperator → typed.Expression → typed.Operations → typed.Operations
 then_pointer None o a = typed.ThenPointer o a
 then_pointer (Some n) o a = typed.ThenPointerPeek n o a
@@ -322,8 +318,7 @@ ints_joined p left o q a = Own (int_wanted left p ∷ int_wanted (type_of a) q �
 abbrev pub tests_joined : Place → ValueType → LogicalOperator → Place → typed.Expression → Rule Joined
 tests_joined p left o q a = Own (test_wanted left p ∷ test_wanted (type_of a) q ∷ []) (typed.ThenTest o a, Int)
 
--- returns true if pointer arithmetic is allowed on a pointer type: the pointer is fat and not
--- unique
+-- returns true if pointer arithmetic is allowed on a pointer type: the pointer is fat and not unique
 abbrev pub is_movable : Ty → Bool
 is_movable t = is_fat t && not (is_unique t)
 
@@ -342,8 +337,7 @@ is_comparable (Value Int) = true
 is_comparable (Value (Pointer k t r)) = true
 is_comparable (Value t) = false
 
--- returns true if two types can be compared: two ints, two thin pointers with equal targets, or a
--- pointer and `NULL`
+-- returns true if two types can be compared: two ints, two thin pointers with equal targets, or a pointer and `NULL`
 abbrev pub are_compared : ValueType → ValueType → Bool
 are_compared (Value Int) (Value Int) = true
 are_compared (Value (Pointer k t r)) (Value (Pointer l u s)) = is_thin_mark k && (is_thin_mark l && ty_eq t u)
@@ -448,8 +442,7 @@ abbrev pub first_places : List (Region × Region) → (count from : ℕ) → Lis
 first_places ps zero n = []
 first_places ps (suc k) n = first_place ps n ∷ first_places ps k (suc n)
 
--- the regions that instantiate the region variables of a signature at a call, by their numbers; no region variable
--- has the number 0
+-- the regions that instantiate the region variables of a signature at a call, by their numbers; no region variable has the number 0
 abbrev pub instance_of : Signature → List typed.Expression → List Region
 instance_of s as' = regions.Heap ∷ first_places (paired_arguments s.parameters as') s.variables 1
 
@@ -523,8 +516,7 @@ pub record Placed : Type 0 where
   pub placement : Placement
   pub region : Region
 
--- the contents of a new object: the demands on them, the node, the type of the target, and the mark
--- of the resulting pointer
+-- the contents of a new object: the demands on them, the node, the type of the target, and the mark of the resulting pointer
 pub record Made : Type 0 where
   pub asked : List Demand
   pub initial : typed.Initial
@@ -545,8 +537,7 @@ by_handle g p a = record {
   region = region_of (value_of (type_of a));
 }
 
--- the rule for the placement of a new object; `unique_region` is allowed only as such a placement,
--- in parentheses or not
+-- the rule for the placement of a new object; `unique_region` is allowed only as such a placement, in parentheses or not
 abbrev pub rule_placement : Scope → Place → Expression → (walked : Rule typed.Expression) → Rule Placed
 rule_placement g p (UniqueRegion q) walked = gives as_unique
 rule_placement g p (Bracketed q e) walked = rule_placement g p e walked
@@ -649,8 +640,7 @@ abbrev mutual
   rule_postfixed g p first (ThenIndex i ps) = Part first (λ a. Part (rule g i) (λ b. rule_further g p (indexed g p a (place_of i) (as_int b)) ps))
   rule_postfixed g p first (ThenField f ps) = Part first (λ a. rule_further g p (selected g p a f) ps)
 
-  -- the rule for the postfixes after a memory cell; if there is a further postfix, the cell is read
-  -- first
+  -- the rule for the postfixes after a memory cell; if there is a further postfix, the cell is read first
   pub rule_further : Scope → Place → Reached → Postfixes → Rule Reached
   rule_further g p w NoPostfixes = gives w
   rule_further g p w (ThenIndex i ps) = Part (loaded p w) (λ a. Part (rule g i) (λ b. rule_further g p (indexed g p a (place_of i) (as_int b)) ps))

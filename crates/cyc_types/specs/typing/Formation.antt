@@ -52,8 +52,7 @@ base_written structs names (Struct s rs) = struct_written structs names s rs
 base_written structs names (Handle r) = types.Handle (region_of names r)
 base_written structs names (Key r) = types.Key (region_of names r)
 
--- the default for an omitted region: `outermost` for the outermost (last) pointer mark, the heap for
--- all other marks
+-- the default for an omitted region: `outermost` for the outermost (last) pointer mark, the heap for all other marks
 abbrev pub left_out_at : Region → List Pointer → Region
 left_out_at outermost [] = outermost
 left_out_at outermost (m ∷ ms) = Heap
@@ -62,8 +61,7 @@ abbrev pub pointers_written : List RegionName → Region → Ty → List Pointer
 pointers_written names outermost t [] = t
 pointers_written names outermost t (m ∷ ms) = pointers_written names outermost (types.Pointer m.kind t (region_or names (left_out_at outermost ms) m.region)) ms
 
--- the type denoted by a written type; an omitted region is `outermost` at the outermost pointer mark, and the
--- heap elsewhere
+-- the type denoted by a written type; an omitted region is `outermost` at the outermost pointer mark, and the heap elsewhere
 abbrev pub type_written : List StructName → List RegionName → (outermost : Region) → WrittenType → Ty
 type_written structs names outermost w = pointers_written names outermost (base_written structs names w.base) w.marks
 
@@ -162,8 +160,7 @@ abbrev pub name_demanded : List RegionName → (own : Option ℕ) → Named → 
 name_demanded names None r = demand codes.UnknownName r.place (is_known names r)
 name_demanded names (Some own) r = demand codes.DeclaredTwice r.place (not (nat_eq r.name own))
 
--- the demand that a region name does not denote the unique region, which is allowed only after a
--- pointer mark; the heap has no key
+-- the demand that a region name does not denote the unique region, which is allowed only after a pointer mark; the heap has no key
 abbrev pub no_unique_demanded : List RegionName → Named → Demand
 no_unique_demanded names r = demand codes.RegionOrKeyMisused r.place (not (is_name_of names Unique r))
 
@@ -179,8 +176,7 @@ abbrev pub is_count : Option ℕ → List Named → Bool
 is_count None rs = true
 is_count (Some n) rs = is_empty rs || nat_eq (length rs) n
 
--- the demands on a struct name and its region arguments, in a written type that begins at position
--- p
+-- the demands on a struct name and its region arguments, in a written type that begins at position p
 abbrev pub struct_demanded : List StructName → List RegionName → (own : Option ℕ) → Place → Named → List Named → List Demand
 struct_demanded structs names own p s rs =
     demand codes.UnknownName s.place (is_some (parameters_among structs s.name))
@@ -207,8 +203,7 @@ is_fat_mark marks.Nullable = false
 is_fat_mark marks.NonNull = false
 is_fat_mark marks.Fat = true
 
--- returns true if a type's shape is allowed: a struct only as the target of a thin pointer, and no pointer to a
--- key
+-- returns true if a type's shape is allowed: a struct only as the target of a thin pointer, and no pointer to a key
 abbrev pub is_shape : BaseType → List Pointer → Bool
 is_shape Int ms = true
 is_shape Char ms = true

@@ -67,19 +67,16 @@ program_known texts tree = record {
   declared = declared_before texts ++ declared_from (known_of texts tree) 0 0 tree;
 }
 
--- adds a function's parameters to the list of locals, newest first; the first parameter gets the
--- number n
+-- adds a function's parameters to the list of locals, newest first; the first parameter gets the number n
 abbrev pub parameter_locals : List Member → List Ty → ℕ → List LocalVariable → List LocalVariable
 parameter_locals (m ∷ ms) (t ∷ ts) n vs = parameter_locals ms ts (suc n) (record { name = m.name.name; number = n; of_type = t; region = 0; sort = Ordinary } ∷ vs)
 parameter_locals ms ts n vs = vs
 
--- the region names known in a function's body: the function's own region and those of the
--- parameters
+-- the region names known in a function's body: the function's own region and those of the parameters
 abbrev pub body_names : Known → Named → Parameters → List RegionName
 body_names k x ps = record { name = x.name; region = regions.Variable 0 } ∷ (parameter_naming k ps).names
 
--- The region context of a function's body: the body's own region opens while the regions of the
--- effect are live.
+-- The region context of a function's body: the body's own region opens while the regions of the effect are live.
 abbrev pub body_regions : Signature → RegionContext
 body_regions s =
     with_scope kinds.Block (regions.Variable 0) (record { written = s.constraints; live = regions.Heap ∷ regions.Unique ∷ s.effect; opened = [] })
@@ -192,8 +189,7 @@ rule_program texts tree = rule_program_known (program_known texts tree) (before_
 
 -- ---- the judgements of the rules
 
--- Says that the program is well-typed with the given typed tree. The number of a name is the index of its text in the
--- list.
+-- Says that the program is well-typed with the given typed tree. The number of a name is the index of its text in the list.
 abbrev pub IsTypedProgram : List (List ℕ) → List Declaration → typed.Program → Type 0
 IsTypedProgram texts tree p = Derives (rule_program texts tree) p
 

@@ -43,8 +43,7 @@ pub data Meaning : Type 0 where
   Variable : Lvalue → Ty → (home : RegionCode) → Meaning
   -- a name that denotes the handle declared by a `region` item, which may not be assigned
   Fixed : Lvalue → Ty → Meaning
-  -- a name that denotes the counter of an array `for`, numbered by the number of enclosing
-  -- `for`s; a counter may not be assigned
+  -- a name that denotes the counter of an array `for`, numbered by the number of enclosing `for`s; a counter may not be assigned
   Counter : (level : ℕ) → Meaning
   Routine : Callee → Signature → Meaning
 
@@ -53,8 +52,7 @@ pub record Declared : Type 0 where
   pub name : ℕ
   pub meaning : Meaning
 
--- the signature of a built-in function whose parameters have the given types and whose result is an
--- int
+-- the signature of a built-in function whose parameters have the given types and whose result is an int
 abbrev pub signature_of_ints : List Ty → Signature
 signature_of_ints ts = record { variables = 0; parameters = ts; result = Some Int; effect = []; constraints = [] }
 
@@ -77,8 +75,7 @@ pub record LocalVariable : Type 0 where
   pub sort : Sort
 
 pub record Scope : Type 0 where
-  -- the structs and exceptions of the program, indexed by number, and the fields of the structs; the first exception
-  -- has the number 1
+  -- the structs and exceptions of the program, indexed by number, and the fields of the structs; the first exception has the number 1
   pub structs : List StructName
   pub fields : List (List Field)
   pub exceptions : List Exception
@@ -239,8 +236,7 @@ abbrev mutual
 
 -- ---- scopes
 
--- the scope after a statement: the statement's declarations are out of scope, their numbers are used, and their
--- region names are taken
+-- the scope after a statement: the statement's declarations are out of scope, their numbers are used, and their region names are taken
 abbrev pub following : Scope → Statement → Scope
 following g s = record g { next_local = g.next_local + locals_in s; next_region = g.next_region + regions_in s; taken = names_in s ++ g.taken }
 

@@ -81,8 +81,7 @@ caught g (Some has) before x v =
     Own (demand codes.DeclaredTwice x.place (not (list_any (nat_eq x.name) before)) ∷ demand codes.TypeMismatch x.place (is_given has (is_some v)) ∷ [])
     (exception_number g.exceptions x.name)
 
--- the scope inside the items of a catch clause: a block with the local that receives the
--- exception's int
+-- the scope inside the items of a catch clause: a block with the local that receives the exception's int
 abbrev pub with_caught : Option Named → Scope → Scope
 with_caught None g = g
 with_caught (Some v) g = with_local Ordinary v Int g
@@ -100,8 +99,7 @@ new_demanded g x = demand codes.DeclaredTwice x.place (not (is_declared g x))
 abbrev pub new_name_demanded : Scope → Named → Demand
 new_name_demanded g r = demand codes.DeclaredTwice r.place (not (is_taken g r))
 
--- the default for a local's omitted outermost region: the region of its initial value, if this
--- value is a pointer
+-- the default for a local's omitted outermost region: the region of its initial value, if this value is a pointer
 abbrev pub left_out_of : ValueType → RegionCode
 left_out_of (Value (Pointer k t r)) = r
 left_out_of t = regions.Heap

@@ -162,8 +162,7 @@ kind_of (Handle r) = kinds.Handle
 kind_of (Key r) = kinds.Key
 kind_of (Struct n rs) = kinds.Int
 
--- the kind of an expression's value; for an expression without a value, the kind is arbitrary and
--- never used
+-- the kind of an expression's value; for an expression without a value, the kind is arbitrary and never used
 abbrev pub kind_of_value : ValueType → Kind
 kind_of_value Void = kinds.Int
 kind_of_value Null = kinds.Nullable

@@ -46,8 +46,7 @@ pub record Context : Type 0 where
   pub exceptions : List Bool
   pub globals : List Ty
   pub functions : List Signature
-  -- the types of the function's locals by number, the number of the function's regions, and the
-  -- function's result type
+  -- the types of the function's locals by number, the number of the function's regions, and the function's result type
   pub variables : List Ty
   pub region_count : ℕ
   pub result : Option Ty
@@ -101,8 +100,7 @@ IsCallee c callees.Putchar s = s ≡ signature_of_ints (Int ∷ [])
 IsCallee c callees.Getchar s = s ≡ signature_of_ints []
 IsCallee c (callees.Function n) s = slice_get c.functions n ≡ Some s
 
--- Says that none of the regions that instantiate a signature's region variables (numbered from 1) is
--- the unique region.
+-- Says that none of the regions that instantiate a signature's region variables (numbered from 1) is the unique region.
 abbrev pub AreNotUnique : List Region → Type 0
 AreNotUnique [] = Unit {0}
 AreNotUnique (r ∷ rs) = (r ≢ regions.Unique) × AreNotUnique rs
@@ -152,8 +150,7 @@ pub data PointerOperation (c : Context) : PointerOperator → (left right result
   null_is : (k : PointerKind) (t : Ty) (r : Region) → PointerOperation c pointers.NullIs Null (Value (Pointer k t r)) (Value Int)
   null_is_not : (k : PointerKind) (t : Ty) (r : Region) → PointerOperation c pointers.NullIsNot Null (Value (Pointer k t r)) (Value Int)
 
--- the typing of the left operand of a chain; the operand is a peek only if the next operator merely
--- looks at it
+-- the typing of the left operand of a chain; the operand is a peek only if the next operator merely looks at it
 abbrev pub IsLeft : (well : Type 0) → Context → Expression → ValueType → Operations → Type 0
 IsLeft well c a v (ThenTest o b os) = well ⊎ IsPeek c a v
 IsLeft well c a v (ThenPointerPeek n o b os) = IsPeek c a v × IsPeekOf n a
@@ -176,11 +173,9 @@ abbrev mutual
   WellTyped c (Move p n u) t = IsVariable c (Local p n) u × (is_moved u ≡ true) × (t ≡ Value u)
   -- a peek is not well-typed as a used value; it occurs only where a value is only looked at
   WellTyped c (Peek p n u) t = ⊥
-  -- a read of a memory cell is well-typed only if the cell holds neither a whole struct nor a
-  -- unique pointer
+  -- a read of a memory cell is well-typed only if the cell holds neither a whole struct nor a unique pointer
   WellTyped c (Load d) t = (u : Ty) × (r : Region) × IsCell c d u r × (is_struct u ≡ false) × (is_unique u ≡ false) × (t ≡ Value u)
-  -- `&` is well-typed only if the variable or cell holds no unique pointer or key, and is not a
-  -- part of a unique object
+  -- `&` is well-typed only if the variable or cell holds no unique pointer or key, and is not a part of a unique object
   WellTyped c (AddressOf l u) t = (v : Ty) × (r : Region) × IsPlace c l v r × (is_moved v ≡ false) × (u ≡ Pointer marks.NonNull v r) × (t ≡ Value u)
   WellTyped c (AddressOfCell d u) t = (v : Ty) × (r : Region) × IsCell c d v r × (is_moved v ≡ false) × (r ≢ regions.Unique) × (u ≡ Pointer marks.NonNull v r) × (t ≡ Value u)
   WellTyped c (NumberOfElements a) t = (u : Ty) × (r : Region) × (WellTyped c a (Value (Pointer marks.Fat u r)) ⊎ IsPeek c a (Value (Pointer marks.Fat u r))) × (t ≡ Value Int)
@@ -224,8 +219,7 @@ abbrev mutual
   IsPlacement c AsUnique r = r ≡ regions.Unique
   IsPlacement c (ByHandle a) r = WellTyped c a (Value (Handle r)) × IsLive c r
 
-  -- says that a new object's initial contents have type t, and that the pointer to the object has
-  -- mark m
+  -- says that a new object's initial contents have type t, and that the pointer to the object has mark m
   pub IsMade : Context → Initial → PointerKind → Ty → Type 0
   IsMade c (Plain k a) m t = WellTyped c a (Value t) × (is_key t ≡ false) × (k ≡ kind_of t) × (m ≡ marks.NonNull)
   IsMade c (Fields ds) m t =
@@ -248,8 +242,7 @@ IsCondition c a = (v : ValueType) × (WellTyped c a v ⊎ IsPeek c a v) × (is_t
 
 -- ---- the context of later trees
 
--- the context after a statement: the statement's declarations are out of scope, and their numbers
--- are used
+-- the context after a statement: the statement's declarations are out of scope, and their numbers are used
 abbrev pub following : Context → Statement → Context
 following c s = record c { next_local = c.next_local + length (declared_types s); next_region = c.next_region + declared_regions s }
 
@@ -290,8 +283,7 @@ abbrev pub IsSide : Context → Side → Ty → Type 0
 IsSide c (VariableSide l u) t = (r : Region) × IsPlace c l u r × (t ≡ u)
 IsSide c (CellSide d) t = (r : Region) × IsCell c d t r
 
--- says that exception n exists, and that it has an int exactly if `has` is true; built-in
--- exceptions have no int
+-- says that exception n exists, and that it has an int exactly if `has` is true; built-in exceptions have no int
 abbrev pub IsException : Context → ℕ → Bool → Type 0
 IsException c n has = ((1 ≤ n) × (n < 5) × (has ≡ false)) ⊎ ((m : ℕ) × (n ≡ 5 + m) × (slice_get c.exceptions m ≡ Some has))
 
@@ -313,8 +305,7 @@ IsCaught c has v = ⊥
 abbrev pub after_clause : Context → Option ℕ → Items → Context
 after_clause c v js = record c { next_local = c.next_local + (length (caught_types v) + length (item_types js)); next_region = c.next_region + suc (item_regions js) }
 
--- Says that n is the number of the next local, that this local has type t in its function, and that it
--- lies in a live region.
+-- Says that n is the number of the next local, that this local has type t in its function, and that it lies in a live region.
 abbrev pub IsDeclared : Context → ℕ → Ty → Type 0
 IsDeclared c n t = (n ≡ c.next_local) × (slice_get c.variables n ≡ Some t) × IsLive c (regions.Variable c.region)
 
@@ -345,8 +336,7 @@ abbrev mutual
   -- a lexical region stays open to the end of the block
   WellTypedItems c (MoreItems (DeclareRegion r n) js) =
       IsNextRegion c r × IsDeclared c n (Handle (regions.Variable r)) × WellTypedItems (with_local false (Handle (regions.Variable r)) (with_opened scopes.Lexical c)) js
-  -- the region that an item opens by a key stays open to the end of the block; no live region
-  -- outlives it
+  -- the region that an item opens by a key stays open to the end of the block; no live region outlives it
   WellTypedItems c (MoreItems (OpenRegion r n p k) js) =
       IsVariable c (Local p k) (Key (regions.Variable r)) × IsDeclared c n (Handle (regions.Variable r)) × WellTypedItems (with_local false (Handle (regions.Variable r)) (with_key_opened r c)) js
   -- an alias has the type of the unique pointer that it shares, except for the region, which is new
@@ -395,8 +385,7 @@ body_context p h = record {
 
 -- ---- regions in types
 
--- says that a region is the heap, the unique region, or one of the k region variables that the
--- parameters name
+-- says that a region is the heap, the unique region, or one of the k region variables that the parameters name
 abbrev pub IsNamed : (variables : ℕ) → Region → Type 0
 IsNamed k (regions.Variable n) = (1 ≤ n) × (n ≤ k)
 IsNamed k r = Unit {0}
@@ -421,8 +410,7 @@ abbrev pub IsNamedResult : (variables : ℕ) → Option Ty → Type 0
 IsNamedResult k None = Unit {0}
 IsNamedResult k (Some t) = IsNamedIn k t
 
--- says that the written constraints relate only the heap and the regions that the parameters name,
--- never the unique region
+-- says that the written constraints relate only the heap and the regions that the parameters name, never the unique region
 abbrev pub AreConstraints : (variables : ℕ) → List (Region × Region) → Type 0
 AreConstraints k [] = Unit {0}
 AreConstraints k (p ∷ ps) = (IsNamed k p.0 × (p.0 ≢ regions.Unique) × IsNamed k p.1 × (p.1 ≢ regions.Unique)) × AreConstraints k ps
@@ -466,8 +454,7 @@ abbrev pub AreWellTypedGlobals : List GlobalVariable → Type 0
 AreWellTypedGlobals [] = Unit {0}
 AreWellTypedGlobals (g ∷ gs) = IsWellTypedGlobal g × AreWellTypedGlobals gs
 
--- says that all functions and globals are well-typed; `main` is a function without parameters,
--- whose result is an int
+-- says that all functions and globals are well-typed; `main` is a function without parameters, whose result is an int
 pub record IsWellTypedProgram (p : Program) : Type 0 where
   pub functions : AreWellTypedFunctions p p.functions
   pub globals : AreWellTypedGlobals p.globals

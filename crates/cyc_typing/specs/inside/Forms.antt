@@ -1,5 +1,4 @@
--- The arguments and results of the functions for the expression forms, as the typing rules see
--- them.
+-- The arguments and results of the functions for the expression forms, as the typing rules see them.
 use Rattle.std.specs.Prelude.{◌≡◌, List, [], ◌∷◌, ◌++◌, Option, Some, None, Result, Ok, Err}
 use Rattle.std.specs.declared.boxed.Box.{Box}
 use Rattle.std.specs.declared.alloc.Global.{Global}
@@ -62,14 +61,12 @@ created_after p m =
     unless (merged p.value.settled.known m.value.settled.known)
     (typed.New (view.view_placement p.value.placement) (view.view_initial m.value.initial.value) (Pointer m.value.mark (view_ty m.value.target) p.value.region))
 
--- the assignment of a converted value to a variable or memory cell, with the type of the
--- assignment's value
+-- the assignment of a converted value to a variable or memory cell, with the type of the assignment's value
 abbrev pub stored_in : typed.Side → typed.Converted → ValueType → typed.Expression
 stored_in (typed.VariableSide l t) c u = typed.Assign l c u
 stored_in (typed.CellSide d) c u = typed.Store d c u
 
--- Says that one operation was added at the end of the list, and that the function returns the type
--- of the operation's result.
+-- Says that one operation was added at the end of the list, and that the function returns the type of the operation's result.
 abbrev pub Joins : (old new : List Operation) → Result TyCode Stop → Checked Joined → Type 0
 Joins old new (Ok t) checked = (o : Operation) × (new ≡ old ++ o ∷ []) × (checked ≡ Ok (put_operation o, view_ty t))
 Joins old new (Err e) checked = Stops e checked

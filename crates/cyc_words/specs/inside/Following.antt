@@ -12,14 +12,12 @@ use Rattle.cyc_words.specs.Ending.{Ending}
 use Rattle.cyc_words.specs.Seen.{Seen, ComesTo}
 use Rattle.cyc_words.specs.Simulation.{Running, Ended, Failed, Machine, Run}
 
--- Says that the machine may reach state `new` from state `old` by one step from each of these code
--- positions, in order.
+-- Says that the machine may reach state `new` from state `old` by one step from each of these code positions, in order.
 abbrev pub Path : (m : Machine) → List m.Place → m.State → m.State → Type 0
 Path m [] old new = new ≡ old
 Path m (p ∷ places) old new = (mid : m.State) × (m.place old ≡ p) × m.Step old mid × Path m places mid new
 
--- Says that output and consumed input only grow along a step, and that no ended state steps to
--- another state.
+-- Says that output and consumed input only grow along a step, and that no ended state steps to another state.
 pub record IsLawful (m : Machine) : Type 0 where
   pub grows : (old new : m.State) → m.Step old new → ComesTo (m.seen old) (m.seen new)
   pub stays : (old new : m.State) (ending : Ending) → m.status old ≡ Ended ending → m.Step old new → new ≡ old
@@ -107,8 +105,7 @@ pub record IsStepped (above below : Machine) (m : Matching above below) (state :
   pub inside : AllByRecursion (Contains (m.own (above.place state))) places
   pub comes : Comes below (IsOnTheWay above below state) (IsMatchedStep above below m state places) places now
 
--- Says that every step from matched states is matched, provided that no step of the upper machine
--- fails.
+-- Says that every step from matched states is matched, provided that no step of the upper machine fails.
 abbrev pub Steps : (above below : Machine) → Matching above below → Type 0
 Steps above below m = (s : above.State) (t : below.State) → m.Matches s t → above.status s ≡ Running
     → ((next : above.State) → above.Step s next → above.status next ≡ Failed → ⊥)

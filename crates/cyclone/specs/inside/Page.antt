@@ -8,8 +8,7 @@ use Rattle.cyc_host.specs.inside.Console.{EndsAs}
 use Rattle.cyc_host.specs.declared.answer.Answer.{Answer}
 use Rattle.cyc_host.specs.declared.answer.Answer.TheVariants.{Done, WriteFault}
 
--- `AnswersPage` says that the page of the code was written to the device completely, or in part if
--- the device failed.
+-- `AnswersPage` says that the page of the code was written to the device completely, or in part if the device failed.
 abbrev pub AnswersPage : Code → (old new : Option (List ℕ)) → Answer → Type 0
 AnswersPage code old new answer = ((answer ≡ Done) × Appends old new (page_of code)) ⊎ ((answer ≡ WriteFault) × AppendsPrefix old new (page_of code))
 

@@ -1,5 +1,4 @@
--- If the tree of a well-typed program meets the requirements on its nodes, then it also meets the
--- requirements of lowering.
+-- If the tree of a well-typed program meets the requirements on its nodes, then it also meets the requirements of lowering.
 use Rattle.std.proofs.Common.{◌≡◌, ◌⊎◌, ℕ, ◌≤◌, ◌<◌, Bool, true, false, List, [], ◌∷◌, length, map, Option, None, Some, slice_get, refl, sym, ap, subst, ◌∙◌, arith, inl, inr, suc, length-append, zero, ◌++◌}
 use Rattle.std.specs.Prelude.{if◌then◌else◌, ◌||◌}
 use Rattle.std.proofs.lemmas.List.{length-map}
@@ -270,8 +269,7 @@ module _ (b : Numbering) where
         let (count, words, others) = fit_arguments types ds c ts suits all rest in
         (ap suc count, omega (arith, words, passed_is d, ap words_of_kind kind, type_words t), (fitting, others))
 
-    -- The operators after a left operand with at most `words` words meet the requirements of
-    -- lowering.
+    -- The operators after a left operand with at most `words` words meet the requirements of lowering.
     fit_operations : (types : Types) → (os : Operations) (c : Context) (left : ValueType) (u : Ty) (words : ℕ) → Suits b types c → OperationsMeet lowering_demands os → IsChain c left os u → operand_words left ≤ words → FitOperations b types words u os
     fit_operations types NoOperations c left u words suits all is few = tt
     fit_operations types (ThenCompute o x os) c left u words suits (one, all) (is, right, rest) few =

@@ -26,14 +26,12 @@ use Rattle.cyc_lower_proof.proofs.slots.Widths.{given, HasRoom, HasGlobal, HasFi
 -- ---- the demands
 
 module _ (b : Numbering) (types : Types) where
-  -- Says that a variable exists and has room for a value of this kind, which is read from it or
-  -- stored in it.
+  -- Says that a variable exists and has room for a value of this kind, which is read from it or stored in it.
   abbrev pub FitsPlace : Lvalue → Kind → Type 0
   FitsPlace (Local p n) kind = (n < b.locals) × HasRoom types n kind
   FitsPlace (Global n) kind = HasGlobal types n kind
 
-  -- Says that a variable whose address is taken exists. The variable has as many words as the
-  -- target of the pointer.
+  -- Says that a variable whose address is taken exists. The variable has as many words as the target of the pointer.
   abbrev pub FitsAddress : Lvalue → Ty → Type 0
   FitsAddress (Local p n) t = (n < b.locals) × HasVariable types.locals n t
   FitsAddress (Global n) t = HasVariable types.globals n t
@@ -85,8 +83,7 @@ module _ (b : Numbering) where
     FitArguments types NoArguments = Unit {0}
     FitArguments types (MoreArguments c cs) = FitsConverted types c × FitArguments types cs
 
-    -- Says that the operators after a left operand with `left` words meet the requirements of
-    -- lowering in a chain of type t.
+    -- Says that the operators after a left operand with `left` words meet the requirements of lowering in a chain of type t.
     pub FitOperations : (types : Types) → (left : ℕ) → Ty → Operations → Type 0
     FitOperations types left t NoOperations = Unit {0}
     FitOperations types left t (ThenCompute o a os) = Fits types a × FitOperations types (words_of t) t os

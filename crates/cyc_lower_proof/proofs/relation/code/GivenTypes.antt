@@ -68,8 +68,7 @@ pub result_substituted : (m : List Region) (t : Option Ty) (u : ValueType) → u
 result_substituted m None u is = omega arith
 result_substituted m (Some t) u is = omega (arith, words_substituted m t, ap result_words is)
 
--- Holds if values of this type have this kind; the type `void`, which has no values, may have any
--- kind.
+-- Holds if values of this type have this kind; the type `void`, which has no values, may have any kind.
 abbrev pub IsGiven : Kind → ValueType → Type 0
 IsGiven kind Void = Unit {0}
 IsGiven kind type_forms.Null = kind ≡ kinds.Nullable
@@ -182,8 +181,7 @@ chain_given (ThenTest o x os) c left kind u (tested, right, rest) given_left = c
 chain_given (ThenPointer o x os) c left kind u (v, w, right, operation, rest) given_left = chain_given os c w (operator_kind o) u rest (operation_given o c left v w operation)
 chain_given (ThenPointerPeek n o x os) c left kind u (v, w, right, operation, rest) given_left = chain_given os c w (operator_kind o) u rest (operation_given o c left v w operation)
 
--- The left operand of a chain is a well-typed value, or it is a peek, that is, a read of a local
--- that keeps its value.
+-- The left operand of a chain is a well-typed value, or it is a peek, that is, a read of a local that keeps its value.
 pub seen_left : (os : Operations) (a : Expression) (c : Context) (v : ValueType) → IsLeft (WellTyped c a v) c a v os → WellTyped c a v ⊎ IsPeek c a v
 seen_left NoOperations a c v well = inl well
 seen_left (ThenCompute o x os) a c v well = inl well

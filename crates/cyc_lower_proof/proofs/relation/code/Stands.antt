@@ -40,8 +40,7 @@ use Rattle.cyc_lower_proof.proofs.slots.Widths.{given, HasRoom, HasField, HasGlo
 use Rattle.cyc_types.specs.declared.typed.UnaryOperator.TheVariants as unary
 use Rattle.cyc_meaning.specs.FrameCount.{words_of_all}
 
--- Holds if the code at p has one instruction for each of the words, with the word's number in the
--- globals and its slot.
+-- Holds if the code at p has one instruction for each of the words, with the word's number in the globals and its slot.
 abbrev pub EachAt : (code : List Instruction) → (each : (global slot : ℕ) → Instruction) → (words first slot p q : ℕ) → Type 0
 EachAt code each zero first slot p q = p ≡ q
 EachAt code each (suc words) first slot p q = At code p (each first slot) × EachAt code each words (suc first) (suc slot) (p + 1) q
@@ -77,8 +76,7 @@ module _ (code : List Instruction) where
   abbrev pub LoadedAt : Kind → Operand → (bytes d t p q : ℕ) → Type 0
   LoadedAt kind o bytes d t p q = LoadedBy (words_of_kind kind == 1) kind o bytes d t p q
 
-  -- Holds if the code at p turns the address of the first word of a variable into the address of the
-  -- variable.
+  -- Holds if the code at p turns the address of the first word of a variable into the address of the variable.
   abbrev pub LastByteAt : Kind → (d p q : ℕ) → Type 0
   LastByteAt kinds.Char d p q = At code p (instructions.Binary plain_binary.Add d (operands.Slot d) (operands.Word 3)) × (p + 1 ≡ q)
   LastByteAt kind d p q = p ≡ q
@@ -92,8 +90,7 @@ module _ (code : List Instruction) where
   BlankAt kinds.Char slot p q = At code p (instructions.Move slot (operands.Word 0)) × (p + 1 ≡ q)
   BlankAt kind slot p q = p ≡ q
 
--- Says what the code from p to q is, in a function with these bounds and types of locals, whose temporaries
--- begin at slot t.
+-- Says what the code from p to q is, in a function with these bounds and types of locals, whose temporaries begin at slot t.
 module _ (code : List Instruction) (bounds : Numbering) (types : Types) where
   -- The first proposition if the flag is true, otherwise the second proposition.
   abbrev pub EitherBy : Bool → (there otherwise : Type 0) → Type 0
@@ -111,8 +108,7 @@ module _ (code : List Instruction) (bounds : Numbering) (types : Types) where
   BroughtBy masking known computed slot at_once d p q =
       EitherBy masking ((o : Operand) × (r : ℕ) × OperandBy known (computed r) slot o p r × At code r (low_byte o d) × (r + 1 ≡ q)) at_once
 
-  -- Holds if the right operand is simple, that is, needs no code, or if the left operand is in a
-  -- slot.
+  -- Holds if the right operand is simple, that is, needs no code, or if the left operand is in a slot.
   abbrev pub LeftBy : (simple : Bool) → (in_slot : Type 0) → Type 0
   LeftBy true in_slot = Unit {0}
   LeftBy false in_slot = in_slot
@@ -122,8 +118,7 @@ module _ (code : List Instruction) (bounds : Numbering) (types : Types) where
   ReturnedAt (Some (operands.Slot n)) computed slot s p q = (s ≡ n) × (p ≡ q)
   ReturnedAt o computed slot s p q = (s ≡ slot) × computed
 
-  -- Holds if the code at p jumps to the block that raises the exception `tag` if a comparison
-  -- holds.
+  -- Holds if the code at p jumps to the block that raises the exception `tag` if a comparison holds.
   abbrev pub GuardAt : (tag : ℕ) → Comparison → (l r : Operand) → (p q : ℕ) → Type 0
   GuardAt tag failing l r p q = (s : ℕ) × At code p (instructions.Branch failing l r s) × At code s (raising tag) × (p + 1 ≡ q)
 
@@ -147,8 +142,7 @@ module _ (code : List Instruction) (bounds : Numbering) (types : Types) where
       (r : ℕ) × (s : ℕ) × ((x : ℕ) × At code p (instructions.Branch comparisons.Equal (operands.Slot n) (operands.Word 0) x) × null x × (p + 1 ≡ r))
       × BoundsAt (operands.Slot m) (operands.Slot (n + 1)) r s × SteppedAt span n m t s q
 
-  -- Holds if the code at p scales an index to the size of a cell; without a size it contains
-  -- nothing.
+  -- Holds if the code at p scales an index to the size of a cell; without a size it contains nothing.
   abbrev pub ScaledAt : (span : Option ℕ) → (m x p q : ℕ) → Type 0
   ScaledAt None m x p q = p ≡ q
   ScaledAt (Some bytes) m x p q = At code p (scale_of bytes x m) × (p + 1 ≡ q)
@@ -245,15 +239,13 @@ module _ (code : List Instruction) (bounds : Numbering) (types : Types) where
   LoadAt words (Local w n) d p q = At code p (move_of words d (operands.Slot (slot_of (starts_of types) n))) × (p + 1 ≡ q)
   LoadAt words (Global n) d p q = (n < length types.globals) × EachAt code load_word words (global_of (starts_of types) n) d p q
 
-  -- Holds if the code at p stores the words of a value from slots to memory, at an address plus an
-  -- offset.
+  -- Holds if the code at p stores the words of a value from slots to memory, at an address plus an offset.
   abbrev pub StoresAt : Kind → (many address offset slot p q : ℕ) → Type 0
   StoresAt kind zero address offset slot p q = p ≡ q
   StoresAt kind (suc many) address offset slot p q =
       At code p (store_of kind (operands.Slot address) offset (operands.Slot slot)) × StoresAt kind many address (offset + 4) (suc slot) (p + 1) q
 
-  -- Holds if the code at p replaces a number of elements in slot t by the number of words that
-  -- these elements take.
+  -- Holds if the code at p replaces a number of elements in slot t by the number of words that these elements take.
   abbrev pub SizedAt : Kind → (t p q : ℕ) → Type 0
   SizedAt kinds.Char t p q =
       At code p (instructions.Binary plain_binary.Add t (operands.Slot t) (operands.Word 3))
@@ -270,8 +262,7 @@ module _ (code : List Instruction) (bounds : Numbering) (types : Types) where
       × At code (r + 1) (instructions.Binary plain_binary.Add (t + 3) (operands.Slot (t + 3)) (operands.Slot t))
       × At code (r + 1 + 1) (instructions.Ask (requests.Allocate t handle (operands.Slot (t + 3)))) × (r + 3 ≡ q)
 
-  -- Holds if the code at p writes an element of an array and jumps to the code for the next
-  -- element.
+  -- Holds if the code at p writes an element of an array and jumps to the code for the next element.
   abbrev pub FilledAt : Kind → (t head p q : ℕ) → Type 0
   FilledAt kind t head p q =
       (m : ℕ) × At code p (scale_of (bytes_of_kind kind) (t + 3 + words_of_kind kind) (t + 2))
@@ -287,8 +278,7 @@ module _ (code : List Instruction) (bounds : Numbering) (types : Types) where
       At code h (instructions.Branch comparisons.Equal (operands.Slot (t + 2)) (operands.Slot (t + 1)) s) × (h < s) × evaluated × FilledAt kind t h r s
       × At code s (instructions.Move (t + 2) (operands.Word 0)) × CopyAt code 3 (operands.Slot t) d (s + 1) q
 
-  -- Holds if the words of a stored value are in slots after its address or in a local, or if the
-  -- value is one word.
+  -- Holds if the words of a stored value are in slots after its address or in a local, or if the value is one word.
   abbrev pub StandsApart : (words address n : ℕ) → Type 0
   StandsApart words address n =
       (words ≡ 1) ⊎ ((address < n) ⊎ ((number : ℕ) × (number < length types.locals) × (slot_of (starts_of types) number ≡ n) × (words ≤ words_in types.locals number)))
@@ -313,15 +303,13 @@ module _ (code : List Instruction) (bounds : Numbering) (types : Types) where
       × At code p (instructions.Ask (requests.Allocate (t + slots_of_kinds ks) handle (operands.Word (max 1 (words_for (bytes_from 0 ks))))))
       × CellsAt ks (t + slots_of_kinds ks) 0 t (p + 1) m × At code m (instructions.Move d (operands.Slot (t + slots_of_kinds ks))) × (m + 1 ≡ q)
 
-  -- Holds if the code at p frees the block whose address is in an operand, unless this address is
-  -- 0.
+  -- Holds if the code at p frees the block whose address is in an operand, unless this address is 0.
   abbrev pub FreedAt : Operand → (p q : ℕ) → Type 0
   FreedAt o p q = At code p (jump_if_zero o q) × At code (p + 1) (instructions.Ask (requests.Free o)) × (p + 1 + 1 ≡ q)
 
 module _ (code : List Instruction) (bounds : Numbering) where
   abbrev mutual
-    -- Says that the code of an expression is at p; the last instruction of this code moves the
-    -- value to slot d.
+    -- Says that the code of an expression is at p; the last instruction of this code moves the value to slot d.
     pub ExpressionAt : (types : Types) → Expression → (d t p q : ℕ) → Type 0
     ExpressionAt types (Number n) d t p q = At code p (instructions.Move d (operands.Word n)) × (p + 1 ≡ q)
     ExpressionAt types NullPointer d t p q = At code p (instructions.Move d (operands.Word 0)) × (p + 1 ≡ q)
@@ -387,8 +375,7 @@ module _ (code : List Instruction) (bounds : Numbering) where
         × (level ≡ length types.counters)
         × ElementsBy code bounds types (ExpressionAt (counted types (t + 2)) a (t + 3) (t + 3) (h + 1) r) kind t d h r s q
 
-    -- Says that the code moves the address of a memory access to an operand; c is a number of bytes that is yet
-    -- to be added.
+    -- Says that the code moves the address of a memory access to an operand; c is a number of bytes that is yet to be added.
     pub PlaceAt : (types : Types) → Dereference → Operand → (c t p q : ℕ) → Type 0
     PlaceAt types (Target k a ty) o c t p q =
         (x : Operand) × (m : ℕ) × OperandBy code bounds types (operand_of (starts_of types) a) (ExpressionAt types a (value_slot (starts_of types) a t) t p m) (value_slot (starts_of types) a t) x p m
@@ -429,8 +416,7 @@ module _ (code : List Instruction) (bounds : Numbering) where
     ArgumentsAt types NoArguments t p q = p ≡ q
     ArgumentsAt types (MoreArguments c cs) t p q = (m : ℕ) × ConvertedAt types c t p m × ArgumentsAt types cs (t + passed_words c) m q
 
-    -- Says that the code applies operators to the left operand l. If an operator does not accept
-    -- every operand, then l is slot t.
+    -- Says that the code applies operators to the left operand l. If an operator does not accept every operand, then l is slot t.
     pub OperationsAt : (types : Types) → Operations → (l : Operand) → (d t p q : ℕ) → Type 0
     OperationsAt types NoOperations l d t p q = (l ≡ operands.Slot d) × (p ≡ q)
     OperationsAt types (ThenCompute o a os) l d t p q =
@@ -450,19 +436,16 @@ module _ (code : List Instruction) (bounds : Numbering) where
         × PointerAt code bounds types o r t (next_slot os d t) m s × OperationsAt types os (operands.Slot (next_slot os d t)) d t s q
 
 module _ (code : List Instruction) (bounds : Numbering) (types : Types) where
-  -- Says that the code fills the elements of an array, each of which is the value of this
-  -- expression.
+  -- Says that the code fills the elements of an array, each of which is the value of this expression.
   abbrev pub ElementsAt : Expression → Kind → (t d h r s q : ℕ) → Type 0
   ElementsAt a kind t d h r s q = ElementsBy code bounds types (ExpressionAt code bounds (counted types (t + 2)) a (t + 3) (t + 3) (h + 1) r) kind t d h r s q
 
-  -- Says that the code moves a value to slot d before its conversion; for an int that becomes a char, it moves only
-  -- the low byte.
+  -- Says that the code moves a value to slot d before its conversion; for an int that becomes a char, it moves only the low byte.
   abbrev pub BroughtAt : Converted → (d t p q : ℕ) → Type 0
   BroughtAt (Convert from to a) d t p q =
       BroughtBy code bounds types (masks from to) (operand_of (starts_of types) a) (λ r. ExpressionAt code bounds types a (value_slot (starts_of types) a t) t p r) (value_slot (starts_of types) a t) (ExpressionAt code bounds types a d t p q) d p q
 
-  -- Says that the code moves a value to slot d; the flag tells if the value is in slot d before its
-  -- conversion.
+  -- Says that the code moves a value to slot d; the flag tells if the value is in slot d before its conversion.
   abbrev pub InitialBy : Bool → (from to : Kind) → Expression → (d t p q : ℕ) → Type 0
   InitialBy there from to a d t p q =
       EitherBy code bounds types there ((words_of_kind (given bounds.functions a) ≡ words_of_kind to) × BroughtAt (Convert from to a) d t p q)
@@ -487,8 +470,7 @@ module _ (code : List Instruction) (bounds : Numbering) (types : Types) where
   abbrev pub ConditionAt : Expression → (l r : Operand) → (t p q : ℕ) → Type 0
   ConditionAt a l r t p q = PairAt (compared_of a).left (compared_of a).right l r t p q
 
-  -- Says that a jump compares two operands; control goes to f if a condition fails and to h if it
-  -- holds.
+  -- Says that a jump compares two operands; control goes to f if a condition fails and to h if it holds.
   abbrev pub ForkAt : Comparison → (l r : Operand) → (p f h : ℕ) → Type 0
   ForkAt failing l r p f h =
       (At code p (instructions.Branch failing l r f) × (p + 1 ≡ h)) ⊎ (At code p (instructions.Branch (opposite failing) l r h) × (p + 1 ≡ f))
@@ -497,8 +479,7 @@ module _ (code : List Instruction) (bounds : Numbering) (types : Types) where
   abbrev pub Forks : Comparison → (l r : Operand) → (p : ℕ) → (goes : (fails : Bool) → (p : ℕ) → Type 0) → Type 0
   Forks failing l r p goes = (f : ℕ) × (h : ℕ) × ForkAt failing l r p f h × goes true f × goes false h
 
-  -- Says that the code of a condition compares two operands and jumps to f if the condition fails,
-  -- and to h if it holds.
+  -- Says that the code of a condition compares two operands and jumps to f if the condition fails, and to h if it holds.
   abbrev pub ComparedAt : Expression → (f h t p : ℕ) → Type 0
   ComparedAt a f h t p = (l : Operand) × (r : Operand) × (m : ℕ) × ConditionAt a l r t p m × ForkAt (compared_of a).failing l r m f h
 
@@ -536,8 +517,7 @@ module _ (code : List Instruction) (bounds : Numbering) (types : Types) where
       BranchesAt a exits.leaving body t (continue_target exits)
       ⊎ (At code (continue_target exits) (instructions.Jump test) × (continue_target exits < test))
 
-  -- Says that a condition has only one pointer operator, which compares the left operand with null or with the
-  -- right operand.
+  -- Says that a condition has only one pointer operator, which compares the left operand with null or with the right operand.
   abbrev pub PointersAt : PointerOperator → Expression → Comparison → (l r : Operand) → (t p q : ℕ) → Type 0
   PointersAt o b failing l r t p q =
       ((null_compared o b ≡ Some failing) × (r ≡ operands.Word 0) × (p ≡ q)) ⊎ ((pointers_failing o ≡ Some failing) × SecondAt b l r t p q)
@@ -549,15 +529,13 @@ module _ (code : List Instruction) (bounds : Numbering) (types : Types) where
   ComparesAt (ThenPointerPeek n o b NoOperations) failing l r t p q = PointersAt o b failing l r t p q
   ComparesAt os failing l r t p q = ⊥
 
-  -- Says that the code moves the assigned value to its variable, and that the value is an operand
-  -- afterwards.
+  -- Says that the code moves the assigned value to its variable, and that the value is an operand afterwards.
   abbrev pub AssignmentAt : Lvalue → Converted → Operand → (t p q : ℕ) → Type 0
   AssignmentAt (Local w n) c o t p q = (o ≡ operands.Slot (slot_of (starts_of types) n)) × HasRoom types n (kind_passed c) × InitialAt code bounds types c (slot_of (starts_of types) n) t p q
   AssignmentAt (Global n) c o t p q =
       (r : ℕ) × ConvertedOperandAt code bounds types c t o p r × HasGlobal types n (kind_passed c) × GlobalAt code (passed_words c) (global_of (starts_of types) n) o r q
 
-  -- Says that the code stores a value in a cell whose address is in slot t, and that the value is
-  -- an operand afterwards.
+  -- Says that the code stores a value in a cell whose address is in slot t, and that the value is an operand afterwards.
   abbrev pub StoredAt : Dereference → Converted → (t : ℕ) → Operand → (p q : ℕ) → Type 0
   StoredAt x v t o p q =
       (a : Operand) × (c : ℕ) × (r : ℕ) × (s : ℕ) × (u : ℕ) × PlaceAt code bounds types x a c t p r × AddressAt code a c t r s × ConvertedOperandAt code bounds types v (t + 1) o s u

@@ -28,8 +28,7 @@ use Rattle.cyc_lower_proof.specs.inside.Lowering.{results_of}
 use Rattle.cyc_lower_proof.proofs.slots.Widths.{kind_of_result, HasRoom, HasGlobal, HasLocal}
 use Rattle.cyc_lower_proof.proofs.relation.code.Stands.{EachAt, GlobalAt, AddressAt, OverAt, BlankAt, OperandBy, ReturnedAt, ConversionAt, LoadAt, StoresAt, ExpressionAt, PlaceAt, InitialAt, PrintedAt, BroughtAt, ValueAt, BranchesAt, EntryAt, AssignmentAt, StoredAt}
 
--- Says what the code from p to q is, in a function with these bounds and types of locals, whose temporaries
--- begin at slot t.
+-- Says what the code from p to q is, in a function with these bounds and types of locals, whose temporaries begin at slot t.
 module _ (code : List Instruction) (bounds : Numbering) (types : Types) where
   -- ---- swaps
 
@@ -39,8 +38,7 @@ module _ (code : List Instruction) (bounds : Numbering) (types : Types) where
   HasSide (VariableSide (Global n) ty) kind = HasGlobal types n kind
   HasSide (CellSide x) kind = Unit {0}
 
-  -- Holds if the code at p moves the address of one side of a swap to slot t, if this side is a
-  -- cell.
+  -- Holds if the code at p moves the address of one side of a swap to slot t, if this side is a cell.
   abbrev pub SideAt : Side → (t p q : ℕ) → Type 0
   SideAt (VariableSide l ty) t p q = p ≡ q
   SideAt (CellSide x) t p q = (o : Operand) × (c : ℕ) × (m : ℕ) × PlaceAt code bounds types x o c t p m × AddressAt code o c t m q
@@ -56,8 +54,7 @@ module _ (code : List Instruction) (bounds : Numbering) (types : Types) where
   WriteAt (VariableSide (Global n) ty) kind s v p q = GlobalAt code (words_of_kind kind) (global_of (starts_of types) n) (operands.Slot v) p q
   WriteAt (CellSide x) kind s v p q = StoresAt code bounds types kind (words_of_kind kind) s 0 v p q
 
-  -- Holds if the code at p reads both sides of a swap, the left side first, and then writes both
-  -- sides.
+  -- Holds if the code at p reads both sides of a swap, the left side first, and then writes both sides.
   abbrev pub ExchangeAt : Kind → (left right : Side) → (t p q : ℕ) → Type 0
   ExchangeAt kind a b t p q =
       (m : ℕ) × (r : ℕ) × (s : ℕ) × ReadAt a kind t (t + 2) p m × ReadAt b kind (right_slot a t) (t + 2 + words_of_kind kind) m r
@@ -77,8 +74,7 @@ module _ (code : List Instruction) (bounds : Numbering) (types : Types) where
 
   -- ---- statements
 
-  -- Holds if the code at p closes exception handlers from the outermost one on; without open
-  -- handlers it contains nothing.
+  -- Holds if the code at p closes exception handlers from the outermost one on; without open handlers it contains nothing.
   abbrev pub HandlersAt : Option ℕ → (p q : ℕ) → Type 0
   HandlersAt None p q = p ≡ q
   HandlersAt (Some first) p q = At code p (instructions.Leave first) × (p + 1 ≡ q)
@@ -172,8 +168,7 @@ module _ (code : List Instruction) (bounds : Numbering) (types : Types) where
     ItemsAt (MoreItems (DeclareKey r n) js) exits t p q =
         (m : ℕ) × At code p (instructions.Ask (requests.OpenDynamic t)) × NamedAt n kinds.Key (operands.Slot t) (p + 1) m × ItemsAt js exits t m q
 
-    -- Says that the code of the clauses of a `try` is at p; the code of each clause ends in a jump
-    -- to `out`.
+    -- Says that the code of the clauses of a `try` is at p; the code of each clause ends in a jump to `out`.
     pub ClausesAt : Clauses → (out : ℕ) → Exits → (t p q : ℕ) → Type 0
     ClausesAt NoClauses out exits t p q = At code p (goes_on t)
     ClausesAt (Default r js) out exits t p q = ItemsAt js exits t p q

@@ -1,5 +1,4 @@
--- This file is about the counters of arrays that are being filled: each counter is in the slot for the index
--- of the pointer to its array.
+-- This file is about the counters of arrays that are being filled: each counter is in the slot for the index of the pointer to its array.
 use Rattle.std.proofs.Common.{◌≡◌, ◌≢◌, ℕ, ◌+◌, ◌≤◌, Bool, List, [], ◌∷◌, length, Option, Some, slice_get, refl, ap, ◌∙◌, arith, inl, inr, length-append}
 use Rattle.std.specs.Prelude.{◌==◌, if◌then◌else◌}
 use Rattle.std.proofs.lemmas.Bool.{eqb-true, false_from_ne_true}

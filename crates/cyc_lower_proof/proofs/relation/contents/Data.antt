@@ -1,5 +1,4 @@
--- This file is about the data in slots, variables and globals that are preserved while a step
--- changes other data.
+-- This file is about the data in slots, variables and globals that are preserved while a step changes other data.
 use Rattle.std.proofs.Common.{◌≡◌, ◌≢◌, ℕ, ◌+◌, ◌≤◌, ◌<◌, Bool, List, [], ◌∷◌, ◌++◌, length, reverse, Option, None, Some, refl, sym, ap, subst, ◌∙◌, arith, inl, inr, length-append}
 use Rattle.std.specs.Prelude.{◌==◌, if◌then◌else◌}
 use Rattle.std.proofs.lemmas.Bool.{cases_eq, eq-eqb, eqb-true, false_from_ne_true}
@@ -197,8 +196,7 @@ module _ (t : Tables) where
     small = hold.small;
   }
 
-  -- If two slot maps are equal in the slot of a local of type char, then the word of the char is
-  -- below 256 in both.
+  -- If two slot maps are equal in the slot of a local of type char, then the word of the char is below 256 in both.
   small_same : (types : Types) (slots other : Words) (number : ℕ) (kind : Kind) → HasRoom types number kind
       → ((m : ℕ) → slot_of (starts_of types) number ≤ m → m < slot_of (starts_of types) number + words_in types.locals number → other m ≡ slots m)
       → slots (slot_of (starts_of types) number) < 256 → other (slot_of (starts_of types) number) < 256

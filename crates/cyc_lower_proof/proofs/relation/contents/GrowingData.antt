@@ -1,5 +1,4 @@
--- This file is about the data in slots, variables and frames that are preserved while the tables of
--- objects grow.
+-- This file is about the data in slots, variables and frames that are preserved while the tables of objects grow.
 use Rattle.std.proofs.Common.{◌≡◌, ℕ, ◌+◌, List, [], ◌∷◌, length, Option, None, Some, slice_get, sym, ◌∙◌, ◌*◌}
 use Rattle.cyc_types.specs.TypedTrees.{Program}
 use Rattle.cyc_plain.specs.inside.State.{Words, Frame}

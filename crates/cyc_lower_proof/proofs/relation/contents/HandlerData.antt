@@ -1,5 +1,4 @@
--- This file is about the handler records that are preserved while a step changes slots, and about the number
--- of calls in the frames.
+-- This file is about the handler records that are preserved while a step changes slots, and about the number of calls in the frames.
 use Rattle.std.proofs.Common.{◌≡◌, ℕ, suc, ◌+◌, ◌≤◌, ◌<◌, Bool, true, false, List, [], ◌∷◌, length, Option, None, Some, refl, ap, ◌∙◌, arith, inl, inr}
 use Rattle.cyc_types.specs.TypedTrees.{Program}
 use Rattle.cyc_plain.specs.inside.State as plain
@@ -39,8 +38,7 @@ floor-above source g k = following-above k (scopes_of source) (base_of source g)
 pub floor-least : (source : Program) (g : ℕ) (k : List Entry) → base_of source g ≤ floor source g k
 floor-least source g k = following-least k (scopes_of source) (base_of source g)
 
--- A handler record ends before the temporaries, and so does the region count that is saved after
--- it.
+-- A handler record ends before the temporaries, and so does the region count that is saved after it.
 pub record_below : (source : Program) (g : ℕ) (k : List Entry) → floor source g k + RECORD_WORDS ≤ after_record_in (scopes_of source) (floor source g k)
 record_below source g k = record-least (scopes_of source) (floor source g k)
 
@@ -50,8 +48,7 @@ record_kept None slots other slot many same kept = tt
 record_kept (Some place) slots other slot many same kept = same (omega arith) ∙ kept
 
 module _ (source : Program) where
-  -- If two slot maps are equal from the tag slot up to the temporaries, then they contain equal
-  -- handler records.
+  -- If two slot maps are equal from the tag slot up to the temporaries, then they contain equal handler records.
   handlers_above : (g : ℕ) (slots other : Words) (handlers : List plain.Handler) (frames : List Frame) (k : List Entry)
       → ((n : ℕ) → base_of source g < n → n < floor source g k → other n ≡ slots n) → HandlersStand source g slots handlers frames k → HandlersStand source g other handlers frames k
   handlers_above g slots other handlers frames [] same stand = absurd stand

@@ -1,5 +1,4 @@
--- This file says how slots and memory represent the state of a source run: values, objects, locals, globals and
--- stack entries.
+-- This file says how slots and memory represent the state of a source run: values, objects, locals, globals and stack entries.
 use Rattle.std.proofs.Common.{◌≡◌, ℕ, suc, ◌+◌, ◌*◌, ◌≤◌, ◌<◌, true, List, [], ◌∷◌, ◌++◌, length, Option, None, Some, slice_get, false, Bool}
 use Rattle.std.specs.Prelude.{◌==◌, ◌&&◌, nat_le, if◌then◌else◌}
 use Rattle.cyc_types.specs.declared.typed.Kind.{Kind}
@@ -101,8 +100,7 @@ held (NeedsPlace (SwapRight kind peek true left) ∷ k) = record { kind = kinds.
 held (NeedsPlace a ∷ k) = held k
 held (entry ∷ k) = []
 
--- The values that are still held when a value is passed on: all except a region handle that only the new
--- object needed.
+-- The values that are still held when a value is passed on: all except a region handle that only the new object needed.
 abbrev pub kept : List Entry → List Kinded
 kept (Needs (BesideHandle region) ∷ k) = kept k
 kept k = held k
@@ -170,8 +168,7 @@ HasHandle t (InRegion region) word = slice_get t.handles region ≡ Some (Some w
 HasHandle t (Unique true) word = word ≡ UNIQUE
 HasHandle t (Unique false) word = ⊥
 
--- A record of the facts about a new object: its cells have these kinds, and they begin at this
--- address.
+-- A record of the facts about a new object: its cells have these kinds, and they begin at this address.
 pub record IsObject (t : Tables) (object address : ℕ) (kinds : List Kind) : Type 0 where
   pub row : slice_get t.rows object ≡ Some (Placed address kinds)
   pub range : InRange address kinds
@@ -209,8 +206,7 @@ row_of s slot kind = if is_pinned s.code slot && nat_le slots_base s.base then P
 abbrev pub IsCharAt : Tables → (object : ℕ) → Type 0
 IsCharAt t object = (address : ℕ) × (slice_get t.rows object ≡ Some (Placed address (kinds.Char ∷ [])))
 
--- The table row of a local, which has the kind of the local's type and whose words have room in the
--- local's slots.
+-- The table row of a local, which has the kind of the local's type and whose words have room in the local's slots.
 pub record IsLocalRow (t : Tables) (types : Types) (s : CallSlots) (number object : ℕ) : Type 0 where
   pub kind : Kind
   pub room : HasRoom types number kind
@@ -256,8 +252,7 @@ abbrev pub MayBeOpen : (scopes : Option ℕ) → (many : ℕ) → Type 0
 MayBeOpen None many = many ≡ 0
 MayBeOpen (Some place) many = Unit {0}
 
--- A waiting call: its locals, its first temporary as a function of the end of its locals, and the values that it
--- holds.
+-- A waiting call: its locals, its first temporary as a function of the end of its locals, and the values that it holds.
 pub record Waiting : Type 0 where
   pub locals : ℕ → Option ℕ
   pub temporaries : Option ℕ → ℕ → ℕ
@@ -284,8 +279,7 @@ abbrev pub IsKept : (scopes : Option ℕ) → Words → (slot many : ℕ) → Ty
 IsKept None slots slot many = Unit {0}
 IsKept (Some place) slots slot many = slots slot ≡ many
 
--- The stack entries that remain after a loop or the function is left. The handlers of these entries are the ones that
--- stay open.
+-- The stack entries that remain after a loop or the function is left. The handlers of these entries are the ones that stay open.
 abbrev pub left_by : (loop : Bool) → List Entry → List Entry
 left_by loop [] = []
 left_by loop (Loop condition body ∷ k) = if loop then k else left_by loop k

@@ -77,8 +77,7 @@ module _ (source : Program) (pages calls : ℕ) (k : List Entry) (e : Environmen
     counters = s.counters;
   }
 
-  -- The shared state is preserved when a block opens its region and pushes the stack entry that
-  -- closes the region.
+  -- The shared state is preserved when a block opens its region and pushes the stack entry that closes the region.
   abbrev pub shared_opened : SharedAt source pages calls (region_end e w ∷ k) (inside e w) (opened w) c
   shared_opened = record {
     tables = with_handle s.tables None;
@@ -119,8 +118,7 @@ shared_closed source closing pages calls k e w c number home r there s = record 
     same : scopes w.regions ≡ scopes (closed w number r).regions
     same = sym (scopes-same s.related.regions) ∙ scopes-same after.regions
 
--- When lexical regions are about to be left, the source may close them one by one, and the store still has
--- them.
+-- When lexical regions are about to be left, the source may close them one by one, and the store still has them.
 abbrev pub shared_ahead : (source : Program) (closing : Option ℕ) (pages calls : ℕ) (k : List Entry) (e : Environment) (w : World) (c : Configuration)
     → ((mark : ℕ) → closing ≡ Some mark → HasScopes (scopes_of source)) → SharedAt source pages calls k e w c → SharedBy source closing pages calls k e w c
 shared_ahead source closing pages calls k e w c known s = record {

@@ -1,5 +1,4 @@
--- This file is about a local of a waiting call: the frame of its call, and the data that are
--- preserved when the local is assigned.
+-- This file is about a local of a waiting call: the frame of its call, and the data that are preserved when the local is assigned.
 use Rattle.std.proofs.Common.{◌≡◌, ◌≢◌, ℕ, zero, suc, ◌≤◌, ◌<◌, List, [], ◌∷◌, length, set, Option, Some, slice_get, refl, sym, ap, subst, arith, inr}
 use Rattle.std.proofs.lemmas.Option.{same_Some, none-some}
 use Rattle.cyc_types.specs.TypedTrees.{Program}

@@ -1,5 +1,4 @@
--- No memory word belongs to two live variables: globals and the locals of active calls do not
--- overlap.
+-- No memory word belongs to two live variables: globals and the locals of active calls do not overlap.
 use Rattle.std.proofs.Common.{◌≡◌, ◌≢◌, ℕ, zero, suc, ◌+◌, ◌*◌, ◌<◌, ◌≤◌, true, List, [], ◌∷◌, length, Option, None, Some, slice_get, sym, ap, subst, ◌∙◌, arith, inl, inr}
 use Rattle.std.proofs.lemmas.Bool.{cases_eq, cases_lt}
 use Rattle.std.proofs.lemmas.Option.{same_Some, none-some}
@@ -43,8 +42,7 @@ frames_below program function base (x ∷ frames) zero (suc j) f h (first, rest)
 frames_below program function base (x ∷ frames) (suc i) zero f h below at there less = absurd (omega (arith, less))
 frames_below program function base (x ∷ frames) (suc i) (suc j) f h (first, rest) at there less = frames_below program x.caller.function x.caller.base frames i j f h rest at there (omega (arith, less))
 
--- The position of a word of a variable: it is in a global, or in a local of the running call or of a
--- waiting call.
+-- The position of a word of a variable: it is in a global, or in a local of the running call or of a waiting call.
 data Lies (source : Program) (locals : ℕ → Option ℕ) (outer : List Waiting) (g base : ℕ) (frames : List Frame) (object word : ℕ) : Type 0 where
   in_global : object < length (global_types source.globals) → (bytes : ℕ) → bytes ≤ 3 → word ≡ GLOBALS_BASE + 4 * first_word (global_types source.globals) object + bytes → (words : ℕ) → 0 < words → words ≤ words_in (global_types source.globals) object
       → GLOBALS_BASE + 4 * (first_word (global_types source.globals) object + words) ≤ STORE_BASE → Lies source locals outer g base frames object word

@@ -77,8 +77,7 @@ module _ {t : Tables} {w : World} {s : StoreState} (related : Related t w s) (gl
       let short : 268435456 + 4 * (first_word globals number + words_of_kind r.kind) ≤ 536870912 = r.low in
       omega (arith, low, address, short, kind_bytes r.kind, bytes-some r.kind)
 
--- A pointer to a global is the address of the global's first word or, if the global is a char, of
--- the last byte of its word.
+-- A pointer to a global is the address of the global's first word or, if the global is a char, of the last byte of its word.
 pub global-first : {t : Tables} (globals : List Ty) (number offset word : ℕ) (r : IsGlobalRow t globals number) → Points t number offset word
     → (offset ≡ 0) × (word ≡ GLOBALS_BASE + 4 * first_word globals number + variable_bytes r.kind)
 global-first {t} globals number offset word r points =

@@ -1,5 +1,4 @@
--- This file is about the targets of pointers: a cell that exists belongs to the store, to a global, or to a local
--- of an active call.
+-- This file is about the targets of pointers: a cell that exists belongs to the store, to a global, or to a local of an active call.
 use Rattle.std.proofs.Common.{◌≡◌, ℕ, ◌+◌, ◌<◌, true, List, length, Option, Some, slice_get, inl, inr}
 use Rattle.cyc_types.specs.TypedTrees.{Program}
 use Rattle.cyc_store.specs.State.{StoreState}
@@ -18,8 +17,7 @@ use Rattle.cyc_lower_proof.proofs.relation.contents.HeldValues.{Waiting}
 use Rattle.cyc_lower_proof.proofs.relation.simulation.Stacks.{code_of, types_at}
 use Rattle.cyc_lower_proof.proofs.relation.simulation.Shared.{silent}
 
--- Says that an object is a live variable: a global, or a local of the running call or of a waiting
--- call.
+-- Says that an object is a live variable: a global, or a local of the running call or of a waiting call.
 pub data IsNamed (globals : ℕ) (locals : ℕ → Option ℕ) (outer : List Waiting) (object : ℕ) : Type 0 where
   is_global : object < globals → IsNamed globals locals outer object
   is_local : (number : ℕ) → locals number ≡ Some object → IsNamed globals locals outer object

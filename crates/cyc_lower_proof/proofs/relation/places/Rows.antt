@@ -89,8 +89,7 @@ local-row {t} {types} {s} {number} {object} globals r = go (stands_in s slot) re
     go true is = inr (inr (record { address = s.base + 4 * slot + variable_bytes r.kind; kind = r.kind; row = r.row ∙ ap (λ (x : Row). Some x) (row-stands s slot r.kind is); following = omega (arith, following s slot r.kind is) }))
     go false is = inl (r.row ∙ ap (λ (x : Row). Some x) (row-nowhere s slot r.kind is))
 
--- A pointer to a local is the address of the local's first slot or, if the local is a char, of the last
--- byte of this slot.
+-- A pointer to a local is the address of the local's first slot or, if the local is a char, of the last byte of this slot.
 pub record IsLocalPointer (types : Types) (s : CallSlots) (number : ℕ) (kind : Kind) (offset word : ℕ) : Type 0 where
   pub pinned : is_pinned s.code (slot_of (starts_of types) number) ≡ true
   pub first : offset ≡ 0

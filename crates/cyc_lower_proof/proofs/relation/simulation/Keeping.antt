@@ -1,5 +1,4 @@
--- This file proves that an invariant that a machine preserves in every step may be assumed when its
--- states are matched.
+-- This file proves that an invariant that a machine preserves in every step may be assumed when its states are matched.
 use Rattle.std.proofs.Common.{List, [], ◌∷◌}
 use Rattle.cyc_words.specs.Simulation.{Machine}
 use Rattle.cyc_words.specs.inside.Following.{Matching, Comes, IsOnTheWay, IsMatchedStep, IsStepped}

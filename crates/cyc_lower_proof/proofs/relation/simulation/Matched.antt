@@ -58,8 +58,7 @@ module _ (source : Program) where
   by_prints (prints_only stack) first second = first stack
   by_prints (gives_byte d at stack) first second = second d stack
 
-  -- Says that both machines have equal output and input and that the plain machine is within the
-  -- limits of pages and calls.
+  -- Says that both machines have equal output and input and that the plain machine is within the limits of pages and calls.
   abbrev pub Inside : (pages calls : ℕ) → World → Configuration → Type 0
   Inside pages calls w c = (showing c.output c.input ≡ seen_in w) × (demand c.store ≤ pages) × (suc (length c.frames) ≤ calls) × (demand_of (counted w.regions) w.classes ≤ pages)
 
@@ -199,13 +198,11 @@ module _ (source : Program) (pages calls : ℕ) where
 
   -- ---- steps with instructions
 
-  -- Says that the plain machine executes some instructions from state t, after which the step of the
-  -- source is matched.
+  -- Says that the plain machine executes some instructions from state t, after which the step of the source is matched.
   abbrev pub Executes : State → State → List CodePlace → plain.State → Type 0
   Executes s next places t = Comes below (IsOnTheWay above below s) (λ u. Matches source pages calls next u) places t
 
-  -- If there is an instruction at the current position, and every choice reaches a state that
-  -- matches, then the plain machine executes it.
+  -- If there is an instruction at the current position, and every choice reaches a state that matches, then the plain machine executes it.
   pub executes : (s next : State) (c : Configuration) (i : Instruction) (places : List CodePlace)
       → At (code_of source c.active.function) c.active.next i
       → ((choice : Choice) → plain_step.is_within pages calls (performed (lower_program source) choice c i) ≡ true)
@@ -280,8 +277,7 @@ module _ (source : Program) (pages calls : ℕ) where
       → IsMatched (Running focus k e w) (plain.Running c)
   by_one {focus} {k} {e} {w} {c} {next} {i} does shared at goes = by_one_seen does (shared_seen shared) at goes
 
-  -- A source step is matched by two instructions at any code positions; the configuration after the
-  -- first instruction is given.
+  -- A source step is matched by two instructions at any code positions; the configuration after the first instruction is given.
   pub by_two_places : {focus : Focus} {k : List Entry} {e : Environment} {w : World} {c : Configuration} {next : State} {i j : Instruction} (d : Configuration)
       → step source (Running focus k e w) ≡ next → SharedAt source pages calls k e w c
       → plain_step.is_within pages calls (plain.Running d) ≡ true → IsOnTheWay above below (Running focus k e w) (plain.Running d)
@@ -296,8 +292,7 @@ module _ (source : Program) (pages calls : ℕ) where
       (λ choice. subst (Executes (Running focus k e w) next (place_in d ∷ [])) (sym (first choice))
       (executes (Running focus k e w) next d j [] at_d (λ later. matches_within_below next (performed (lower_program source) later d j) (goes later)) way_d goes)))
 
-  -- A source step is matched by two instructions; the configuration after the first instruction is
-  -- given.
+  -- A source step is matched by two instructions; the configuration after the first instruction is given.
   pub by_two_known : {focus : Focus} {k : List Entry} {e : Environment} {w : World} {c : Configuration} {next : State} {i j : Instruction} (d : Configuration)
       → step source (Running focus k e w) ≡ next → SharedAt source pages calls k e w c
       → plain_step.is_within pages calls (plain.Running d) ≡ true → IsOnTheWay above below (Running focus k e w) (plain.Running d)
@@ -318,8 +313,7 @@ module _ (source : Program) (pages calls : ℕ) where
   by_two {focus} {k} {e} {w} {c} {next} {i} {j} d does shared shared_d at first at_d other goes =
       by_two_known d does shared (shared_within k e w d shared_d) (shared_way focus k e w d shared_d) at first at_d other goes
 
-  -- A source step is matched by three instructions; the configurations after the first two are
-  -- given.
+  -- A source step is matched by three instructions; the configurations after the first two are given.
   pub by_three : {focus : Focus} {k : List Entry} {e : Environment} {w : World} {c : Configuration} {next : State} {i j l : Instruction} (d f : Configuration)
       → step source (Running focus k e w) ≡ next → SharedAt source pages calls k e w c
       → plain_step.is_within pages calls (plain.Running d) ≡ true → IsOnTheWay above below (Running focus k e w) (plain.Running d)

@@ -1,5 +1,4 @@
--- This file defines the relation between a source state and a plain state while the plain program
--- matches the source.
+-- This file defines the relation between a source state and a plain state while the plain program matches the source.
 use Rattle.std.proofs.Common.{max, ◌≡◌, ◌⊎◌, ℕ, suc, ◌+◌, ◌*◌, ◌≤◌, ◌<◌, true, List, [], ◌∷◌, ◌++◌, length, Option, None, Some, ◌^◌, false, Bool}
 use Rattle.cyc_words.specs.Word.{add_of, IsWord as IsNumber}
 use Rattle.cyc_words.specs.Seen.{showing}
@@ -83,8 +82,7 @@ module _ (source : Program) where
   abbrev pub ReadyAt : Tables → Kinded → (ℕ → Option ℕ) → (g p : ℕ) → Words → List Frame → List Entry → Type 0
   ReadyAt t v locals g p slots frames k = (r : Operand) × IsIn t v slots r × BesideAt t locals g r p slots frames k
 
-  -- Says that the code at p accesses a fat pointer whose index is in a separate slot from its other
-  -- words.
+  -- Says that the code at p accesses a fat pointer whose index is in a separate slot from its other words.
   abbrev pub PartsAt : Tables → Kinded → (ℕ → Option ℕ) → (g p : ℕ) → Words → List Frame → List Entry → Type 0
   PartsAt t v locals g p slots frames (Needs (Follow pointer target) ∷ k) =
       (n : ℕ) × (m : ℕ) × (q : ℕ) × (pointer ≡ kinds.Fat) × IsParts t v.value slots n m × ((n ≤ top source g k) × (m < top source g k + 3)) × Holds t slots (floor source g k) (held k)
@@ -213,8 +211,7 @@ module _ (source : Program) where
   HandlersStand g slots handlers frames (CloseLexical region ∷ k) = (slots (floor source g k) ≡ scopes_in k) × HandlersStand g slots handlers frames k
   HandlersStand g slots handlers frames (entry ∷ k) = HandlersStand g slots handlers frames k
 
-  -- The data of the running call and of the waiting calls, given the slots of the running call and the stack entries of its
-  -- handlers.
+  -- The data of the running call and of the waiting calls, given the slots of the running call and the stack entries of its handlers.
   abbrev pub DataFor : Tables → (slots : Words) → (handled k : List Entry) → Environment → World → Configuration → Type 0
   DataFor t slots handled k e w c =
       DataAt source t c.active.function c.active.base w.objects e.locals (callers k) slots c.globals c.frames × HandlersStand c.active.function slots c.active.handlers c.frames handled

@@ -50,8 +50,7 @@ abbrev pub store_by : (closing : Option ℕ) → StoreState → (many : ℕ) →
 store_by None store many = store
 store_by (Some mark) store many = closed_to store many
 
--- If the store still has regions that the source has closed, then the program may open lexical
--- regions.
+-- If the store still has regions that the source has closed, then the program may open lexical regions.
 abbrev pub HasScopes : Option ℕ → Type 0
 HasScopes None = ⊥
 HasScopes (Some place) = Unit {0}

@@ -113,8 +113,7 @@ module _ (source : Program) where
   abbrev pub floor : ℕ → List Entry → ℕ
   floor g k = after_records k (scopes_of source) (base_of g)
 
-  -- The handlers and regions that were opened inside the enclosing loop or, without `loop`, inside
-  -- the function.
+  -- The handlers and regions that were opened inside the enclosing loop or, without `loop`, inside the function.
   abbrev pub opened_by : (loop : Bool) → ℕ → List Entry → Opened
   opened_by loop g [] = nothing_opened
   opened_by loop g (Loop condition body ∷ k) = if loop then nothing_opened else opened_by loop g k
@@ -137,8 +136,7 @@ module _ (source : Program) where
   abbrev pub call_slots : (g base : ℕ) → CallSlots
   call_slots g base = record { code = code_of g; base = base }
 
-  -- Says that the data of the waiting calls hold, and that an older call has objects with smaller
-  -- numbers.
+  -- Says that the data of the waiting calls hold, and that an older call has objects with smaller numbers.
   abbrev pub FramesHold : Tables → List Object → (high : ℕ) → List Frame → List Waiting → Type 0
   FramesHold t objects high [] [] = length (global_types source.globals) ≤ high
   FramesHold t objects high (f ∷ frames) (x ∷ outer) =
@@ -171,8 +169,7 @@ module _ (source : Program) where
     in_temporary : free ≤ d → temporary → Lands base free d words temporary ahead
     in_local : d + words ≤ base → ahead → Lands base free d words temporary ahead
 
-  -- Says that the value of an assignment is in an operand: it is dropped, stays in the operand, or is
-  -- moved to another slot.
+  -- Says that the value of an assignment is in an operand: it is dropped, stays in the operand, or is moved to another slot.
   pub data HandsOn (code : List Instruction) (words : ℕ) (o : Operand) (p : ℕ) (dropped stays : Type 0) (comes : (d q : ℕ) → Type 0) : Type 0 where
     drops : dropped → HandsOn code words o p dropped stays comes
     leaves : stays → HandsOn code words o p dropped stays comes
@@ -183,8 +180,7 @@ module _ (source : Program) where
     prints_only : dropped → Prints code o p dropped comes
     gives_byte : (d : ℕ) → At code p (low_byte o d) → comes d → Prints code o p dropped comes
 
-  -- Says that the result of an operator is moved to a slot, or is a condition that the next jump
-  -- tests.
+  -- Says that the result of an operator is moved to a slot, or is a condition that the next jump tests.
   pub data Yields (value tested : Type 0) : Type 0 where
     to_slot : value → Yields value tested
     to_jump : tested → Yields value tested
@@ -196,8 +192,7 @@ module _ (source : Program) where
       × StatementAt (code_of g) (bounds_at g) (types_at g) body exits t b p
       × ((f : ℕ) × BranchesAt (code_of g) (bounds_at g) (types_at g) condition f b t p × ((f ≡ q) ⊎ At (code_of g) f (instructions.Jump q))) × (break_target exits < q)
 
-  -- Says that the code at p is the statement that a condition chooses, followed by the code for the
-  -- stack entries.
+  -- Says that the code at p is the statement that a condition chooses, followed by the code for the stack entries.
   abbrev pub ChosenAt : (g t : ℕ) → (first second : Statement) → (waits : Exits → (q : ℕ) → Type 0) → (fails : Bool) → (p : ℕ) → Type 0
   ChosenAt g t first second waits true p =
       (exits : Exits) × (q : ℕ) × StatementAt (code_of g) (bounds_at g) (types_at g) second exits t p q × waits exits q
@@ -224,8 +219,7 @@ module _ (source : Program) where
   abbrev pub IsPlaceOf : (ℕ → Option ℕ) → Lvalue → Value → Type 0
   IsPlaceOf locals l place = (object : ℕ) × (place ≡ Thin object 0) × (object_of (record { locals = locals; home = 0; counters = λ level. None }) l ≡ Some object)
 
-  -- Says that the code stores an operand in a variable of this kind, and that the value is in
-  -- another operand afterwards.
+  -- Says that the code stores an operand in a variable of this kind, and that the value is in another operand afterwards.
   abbrev pub StoreAt : (g : ℕ) → Kind → Lvalue → (from to : Operand) → (p q : ℕ) → Type 0
   StoreAt g kind (Local w n) from to p q =
       At (code_of g) p (move_of (words_of_kind kind) (slot_of (starts_at g) n) from) × (p + 1 ≡ q) × (to ≡ operands.Slot (slot_of (starts_at g) n))
@@ -235,8 +229,7 @@ module _ (source : Program) where
 
   -- ---- swaps
 
-  -- Says where one side of a swap is: a variable is an object, and a cell has its address in a
-  -- slot.
+  -- Says where one side of a swap is: a variable is an object, and a cell has its address in a slot.
   abbrev pub IsSideAt : Tables → (ℕ → Option ℕ) → Words → Side → (s object offset : ℕ) → Type 0
   IsSideAt t locals slots (VariableSide l ty) s object offset =
       (offset ≡ 0) × (object_of (record { locals = locals; home = 0; counters = λ level. None }) l ≡ Some object)
@@ -249,8 +242,7 @@ module _ (source : Program) where
   IsLeft locals true (CellSide x) (Thin object offset) = Unit {0}
   IsLeft locals is_cell a place = ⊥
 
-  -- Says that words in slots are moved to the sides of a swap, and that the code then continues at
-  -- q.
+  -- Says that words in slots are moved to the sides of a swap, and that the code then continues at q.
   abbrev pub WritesAt : Tables → (ℕ → Option ℕ) → (g : ℕ) → Words → List Write → (p q : ℕ) → Type 0
   WritesAt t locals g slots [] p q = p ≡ q
   WritesAt t locals g slots (x ∷ writes) p q =
@@ -263,8 +255,7 @@ module _ (source : Program) where
   abbrev pub IsReturned : (g : ℕ) → Kind → Type 0
   IsReturned g kind = (results_of (bounds_at g).result ≡ words_of_kind kind) × (kind ≡ returned_at g)
 
-  -- Says that the code calls a function with its arguments in the slots from t on, and moves the
-  -- result to slot d.
+  -- Says that the code calls a function with its arguments in the slots from t on, and moves the result to slot d.
   abbrev pub CallAt : (g : ℕ) → Callee → (arguments t d p q : ℕ) → Type 0
   CallAt g callees.Putchar arguments t d p q = ⊥
   CallAt g callees.Getchar arguments t d p q = At (code_of g) p (instructions.ReadByte d) × (p + 1 ≡ q)
@@ -275,8 +266,7 @@ module _ (source : Program) where
   abbrev mutual
     pub ValueStack : (g : ℕ) → (ℕ → Option ℕ) → Kind → Operand → (p : ℕ) → List Frame → List Entry → Type 0
     ValueStack g locals kind o p frames [] = ⊥
-    -- An int that becomes a char is moved to another slot, and any other value stays in its
-    -- operand.
+    -- An int that becomes a char is moved to another slot, and any other value stays in its operand.
     ValueStack g locals kind o p frames (Needs (ConvertTo from to target) ∷ k) =
         ((d : ℕ) × (to ≡ kinds.Char) × At (code_of g) p (low_byte o d)
         × Lands (base_of g) (top g k) d 1 (ValueStack g locals kinds.Char (operands.Slot d) (p + 1) frames k) (AheadStack g locals kinds.Char d (p + 1) frames k))
@@ -426,8 +416,7 @@ module _ (source : Program) where
         × ExchangeAt (code_of g) (bounds_at g) (types_at g) kind a (CellSide y) (floor g k) m q × StatementStack g exits q frames k
     PlaceStack g locals o c p frames k = ⊥
 
-    -- Says that the code from position p on executes the stack entries after a condition that is known to
-    -- fail or to hold.
+    -- Says that the code from position p on executes the stack entries after a condition that is known to fail or to hold.
     pub DecidedStack : (g : ℕ) → (fails : Bool) → (p : ℕ) → List Frame → List Entry → Type 0
     DecidedStack g fails p frames (Needs (Chain operations) ∷ k) =
         TestsAt (code_of g) (bounds_at g) (types_on g k) operations fails (top g k) p (λ fails q. DecidedStack g fails q frames k)
@@ -437,8 +426,7 @@ module _ (source : Program) where
     DecidedStack g fails p frames (Needs (Test condition body) ∷ k) = RepeatedAt g (floor g k) condition body (λ exits q. StatementStack g exits q frames k) fails p
     DecidedStack g fails p frames k = ⊥
 
-    -- Says that the code from position p on executes the stack entries after a value that is dropped and
-    -- is in no slot.
+    -- Says that the code from position p on executes the stack entries after a value that is dropped and is in no slot.
     pub DroppedStack : (g p : ℕ) → List Frame → List Entry → Type 0
     DroppedStack g p frames (Discard ∷ k) = (exits : Exits) × StatementStack g exits p frames k
     DroppedStack g p frames k = ⊥
@@ -482,8 +470,7 @@ module _ (source : Program) where
     StatementStack g exits p frames (Main ∷ k) = (s : ℕ) × At (code_of g) p (instructions.Finish s) × IsOutside exits × IsLast frames k
     StatementStack g exits p frames k = ⊥
 
-  -- Says that the code from position p on executes the stack entries after a condition, which fails if this
-  -- comparison holds.
+  -- Says that the code from position p on executes the stack entries after a condition, which fails if this comparison holds.
   abbrev pub ConditionStack : (g : ℕ) → Comparison → (l r : Operand) → (p : ℕ) → List Frame → List Entry → Type 0
   ConditionStack g failing l r p frames k = Forks (code_of g) (bounds_at g) (types_on g k) failing l r p (λ fails q. DecidedStack g fails q frames k)
 
@@ -513,8 +500,7 @@ module _ (source : Program) where
       Yields ((d : ℕ) × (q : ℕ) × OperatorAt (code_of g) (bounds_at g) (types_on g k) operator d l r p q × LandsStack g locals kinds.Int d q frames k)
       ((failing : Comparison) × (failing_comparison operator ≡ Some failing) × ConditionStack g failing l r p frames k)
 
-  -- Says that the code adds an index to a fat pointer in slot n and accesses memory through the
-  -- pointer.
+  -- Says that the code adds an index to a fat pointer in slot n and accesses memory through the pointer.
   abbrev pub AdvancesAt : (g : ℕ) → (ℕ → Option ℕ) → Kind → (span : Option ℕ) → (n : ℕ) → Operand → (p q : ℕ) → List Frame → List Entry → Type 0
   AdvancesAt g locals kind span n x p q frames k =
       ((kind ≡ kinds.Fat) × At (code_of g) p (instructions.Binary plain_binary.Add (top g k + 2) (operands.Slot (n + 2)) x))

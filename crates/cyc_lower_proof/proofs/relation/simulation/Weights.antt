@@ -1,5 +1,4 @@
--- This file defines the weight of a source state, which falls with each step that no plain
--- instruction matches.
+-- This file defines the weight of a source state, which falls with each step that no plain instruction matches.
 use Rattle.std.proofs.Common.{ℕ, suc, ◌+◌, List, [], ◌∷◌, Option, None, Some, length}
 use Rattle.cyc_types.specs.TypedTrees.{Array, Load, New, ByHandle, Initial, HeapRegion, FreeKey, Plain, Fields, Dereference, Target, Expression, Number, NullPointer, Copy, Call, Unary, Binary, Assign, Converted, Convert, Arguments}
 use Rattle.cyc_types.specs.TypedTrees.{NoArguments, MoreArguments, Operations, NoOperations, ThenCompute, ThenTest, ThenPointer, Statement, Block, Empty, Evaluate, If, While, Break, Continue, Items, NoItems, MoreItems, Execute, Declare}
@@ -93,8 +92,7 @@ abbrev mutual
   items_weight (MoreItems (DeclareAlias r n t p lent) js) = 2
   items_weight js = 0
 
--- An exception that reaches the `default` clause of a `try` continues with the statements of this
--- clause.
+-- An exception that reaches the `default` clause of a `try` continues with the statements of this clause.
 abbrev pub clauses_weight : Clauses → ℕ
 clauses_weight NoClauses = 1
 clauses_weight (Default r js) = suc (suc (suc (items_weight js)))

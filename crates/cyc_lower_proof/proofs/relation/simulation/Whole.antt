@@ -116,8 +116,7 @@ initial_is t g rest v constant (types.Handle r) (inr (inr (k, u, s, is, non_null
 initial_is t g rest v constant (types.Key r) (inr (inr (k, u, s, is, non_null, null))) e = absurd (let f : types.Key r ≡ types.Pointer k u s = is in cc)
 initial_is t g rest v constant (types.Struct n rs) (inr (inr (k, u, s, is, non_null, null))) e = absurd (let f : types.Struct n rs ≡ types.Pointer k u s = is in cc)
 
--- The words of each global come after those of the earlier globals, and they are the initial words
--- of this global.
+-- The words of each global come after those of the earlier globals, and they are the initial words of this global.
 globals_start : (t : Tables) (gs : List GlobalVariable) (number : ℕ) (v : Kinded) → AreWellTypedGlobals gs → contents (map global_object gs) number ≡ Some v
     → Is t v.kind v.value (slice_index (lower_globals gs)) (slot_in (global_types gs) number) × (words_of_kind v.kind ≤ words_in (global_types gs) number)
 globals_start t [] number v well has = absurd (none-some v has)
@@ -206,16 +205,14 @@ module _ (source : Program) (pages calls : ℕ) (well_typed : AreWellTypedGlobal
       let stepped = of_uniform (lower_program source) (no_enter source typed_words) pages calls old new uniform in
       (words_stay (lower_program source) pages calls 1 old new of_words words (new, stepped, refl), below_step (lower_program source) pages calls old new lie stepped)
 
-  -- Says that regions are nested and that every live variable is named by a global or by an active
-  -- call.
+  -- Says that regions are nested and that every live variable is named by a global or by an active call.
   abbrev Named : State → Type 0
   Named s = NestsAndNames (length source.globals) s
 
   named_kept : (old new : State) → Named old → new ≡ limited_step source pages calls old → Named new
   named_kept old new both is = both_kept (length source.globals) source rise pages calls old new both is
 
-  -- The matching of source states and plain states that also satisfy the invariants of both
-  -- machines.
+  -- The matching of source states and plain states that also satisfy the invariants of both machines.
   abbrev matching_lies : Matching (above source pages calls) (below source pages calls)
   matching_lies = keeping (above source pages calls) (below source pages calls) (matching source pages calls) Lies lies_kept
 
@@ -299,8 +296,7 @@ module _ (source : Program) (pages calls : ℕ) (well_typed : AreWellTypedGlobal
 
   follows_source : (base : ℕ) (store : StoreState) (input : List ℕ) → IsNew pages store → 1 ≤ pages → pages ≤ MOST_PAGES → 1 ≤ calls → AllByRecursion (λ b. b < 256) input
       → IsBelow (lower_program source) (lower_program source).main base slots_end → FollowsSource source (lower_program source) pages calls base store input
-  -- The proof uses the machine with equal limits at each instruction, because the lowered code has no
-  -- `Enter`.
+  -- The proof uses the machine with equal limits at each instruction, because the lowered code has no `Enter`.
   follows_source base store input new some_page few_pages some_call bytes lies never =
       let (h, starts, there) = from_start (slice_get source.functions source.main) input refl some_call (never 0 (start source input) refl) in
       follows_uniform (lower_program source) (no_enter source typed_words) pages calls (above source pages calls) [] (λ state. places_of (lower_program source)) (start source input) (plain_step.start (lower_program source) base store input)
@@ -317,8 +313,7 @@ module _ (source : Program) (pages calls : ℕ) (well_typed : AreWellTypedGlobal
         (nests_start source input, names_start source input rise),
       ))
 
--- The lowered program has the behaviors of the source program, if the source program fits the
--- requirements of lowering.
+-- The lowered program has the behaviors of the source program, if the source program fits the requirements of lowering.
 pub follows : (source : Program) → IsFitting source → IsOfWordsProgram source → FunctionsRise source → words_of_all (global_types source.globals) ≤ MOST_GLOBALS → HasWords (lower_program source) → (pages calls base : ℕ) (store : StoreState) (input : List ℕ)
     → IsNew pages store → 1 ≤ pages → pages ≤ MOST_PAGES → 1 ≤ calls → AllByRecursion (λ b. b < 256) input → IsBelow (lower_program source) (lower_program source).main base slots_end → FollowsSource source (lower_program source) pages calls base store input
 follows source fitting typed_words rise few_globals of_words pages calls base store input new some_page few_pages some_call bytes lies =

@@ -3,7 +3,7 @@ use Rattle.cyc_words.specs.Demand.{class_from, class_of}
 use Rattle.cyc_store.proofs.CountLemmas.{class_from-here, class_from-next}
 use Rattle.cyc_pagestore.proofs.paged.slot_class.Goals as goal
 
--- No class below 9 has room for this many words.
+-- A block of more than 256 words does not fit into a slot of a size class below 9.
 past_eighth : (words : ℕ) → 256 < words → class_of words ≡ class_from 1 9 words
 past_eighth words past =
     class_from-next 10 0 9 1 words refl refl (omega (arith, past))

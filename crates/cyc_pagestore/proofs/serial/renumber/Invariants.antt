@@ -3,7 +3,7 @@ use Rattle.std.specs.Prelude.{slice_index}
 use Rattle.cyc_pagestore.specs.inside.Live.{filled_by, reach}
 use Rattle.cyc_pagestore.proofs.serial.renumber.Given as goal
 
--- The filled words of the pages so far are their live words.
+-- Invariant: for the pages renumbered so far, the filled words are the live words.
 abbrev pub invariant-loop-number : goal.invariant-loop-number
 invariant-loop-number l = record {
   same : l.pool ≡ record l.fn.pool { fills = l.pool.fills };
@@ -12,7 +12,7 @@ invariant-loop-number l = record {
   left : (page : ℕ) → l.number ≤ page → slice_index l.pool.fills page ≡ slice_index l.fn.pool.fills page;
 }
 
--- The filled words of all pages are their live words, and the pages so far have the serials of their owners.
+-- Invariant: the filled words of all pages are their live words, and the pages visited so far have the serials of their owners.
 abbrev pub invariant-loop-number-2 : goal.invariant-loop-number-2
 invariant-loop-number-2 l = record {
   same : l.pool ≡ record l.fn.pool { fills = l.pool.fills; serials = l.pool.serials };

@@ -1,5 +1,4 @@
--- `release` turns the cells into uninitialised space and returns the space to the allocator with
--- the right to free it. Assumes `Logic`.
+-- `release` turns the cells into uninitialised space and returns the space to the allocator with the right to free it. Assumes `Logic`.
 use mathlib.Core.Path.{◌≡◌, refl, ap, subst, ◌∙◌}
 use mathlib.Core.List.{List, [], ◌∷◌, ◌++◌}
 use Prim.Native.Nat.{ℕ, ◌*◌, ◌<◌, ◌^◌}
@@ -69,8 +68,7 @@ release_spec 𝓤 𝓛 𝓜 𝓡 wired A L g d dd met md =
     qed 𝓛 ((raw (alive 𝓛 T.signature z.0.0 z.0.1) ⊛ ‵ (owns (types_at T.signature.params z.0.0) a vss)) ∷ (raw (fact 𝓤 (z.0.0.1.0 ⊑ A.lives)) ⊛ raw (fact 𝓤 Asked)) ∷ []) ∵
     move ! (1 ∷ []) $ split ! $ heard ! (z.0.0.1.0 ⊑ A.lives) (λ le. heard ! Asked (λ asked. split ! $ move ! (1 ∷ []) $
     fsplit ! $ fsplit ! $ drop ! $ move ! (1 ∷ []) $ fsplit ! $ drop ! $ fsplit ! $ drop ! $ fsplit3 ! $ move ! (2 ∷ []) $ drop ! $
-    -- The proof's resources at this point: the cells; the right to free them; a `&` reference to the
-    -- handle; the lifetime tokens.
+    -- The proof's resources at this point: the cells; the right to free them; a `&` reference to the handle; the lifetime tokens.
     fsplit ! $ drop ! $ rewrite ! 0 (λ (r : Ptr). ‵ (places_at r s.slots)) asked.0 refl $ in_a_block ! p (λ r. places_at r s.slots) (id⊢ 𝓤 (never 𝓤)) (λ b o at.
     use1 𝓛 (‵ (froom (ty_array (ty_int w32) (length s.slots)) b o)) (to_room 𝓛 b s.slots o) $ rewrite ! 0 (λ (m : ℕ). ‵ (froom (ty_array (ty_int w32) m) b o)) asked.1 refl $
     move ! (1 ∷ []) $ fsplit ! $ drop ! $ rewrite ! 0 (λ (u : A.Denot × ℕ × Ptr). ‵ (g.dealloc_token u.0 (words_type u.1) u.2)) (λ i. (asked.4 i, asked.3 i, (asked.2 ∙ at) i)) refl $

@@ -6,7 +6,7 @@ use Rattle.cyc_registers.specs.inside.LivenessTable.{is_sound_at}
 use Rattle.cyc_registers.specs.inside.Masks.{uses_of}
 use Rattle.cyc_registers.proofs.liveness.is_sound.Given as goal
 
--- The check of liveness succeeds at the instructions so far.
+-- Invariant: the check of the liveness table succeeds at the instructions examined so far.
 abbrev pub invariant-loop-index : goal.invariant-loop-index
 invariant-loop-index l =
     (k : ℕ) (i : Instruction) → At (routine_of l.function) k i → k < l.index

@@ -27,8 +27,7 @@ parsed : (text : List ℕ) (tokens : List Token) → lexer.IsAccepted text token
 parsed text tokens is (Ok t) (tree, has, view) names = (tokens, is, subst (parser.IsAccepted tokens) (sym view) has, names)
 parsed text tokens is (Err f) has names = tt
 
--- A fault of the lexer is a fault of the text, and so is a fault of the grammar in the text's
--- tokens.
+-- A fault of the lexer is a fault of the text, and so is a fault of the grammar in the text's tokens.
 refused_tokens : (text : List ℕ) (f : Fault) → (f ≡ memory_fault) ⊎ lexer.IsRefused text f → (f ≡ memory_fault) ⊎ IsRefusedText text f
 refused_tokens text f (inl memory) = inl memory
 refused_tokens text f (inr r) = inr (inl r)

@@ -31,11 +31,9 @@ and_held (Some n) f = with_held true f n
 
 -- The guard of a tree, which restricts how the tree may use locals.
 pub record Guard : Type 0 where
-  -- The locals on which an enclosing `catch` relies to hold their values: the code must not empty
-  -- them.
+  -- The locals on which an enclosing `catch` relies to hold their values: the code must not empty them.
   pub relied : ℕ → Bool
-  -- The locals that enclosing items have lent to the end of their blocks: they are neither peeked at, used nor
-  -- assigned.
+  -- The locals that enclosing items have lent to the end of their blocks: they are neither peeked at, used nor assigned.
   pub locked : ℕ → Bool
   -- The locals with a peek whose value is not yet used: they may only be peeked at.
   pub peeked : ℕ → Bool

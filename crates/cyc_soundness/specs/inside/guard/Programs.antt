@@ -1,5 +1,4 @@
--- This file defines the flow rules of functions and of a program, in the form for proofs about
--- runs.
+-- This file defines the flow rules of functions and of a program, in the form for proofs about runs.
 use Rattle.std.specs.Prelude.{◌≡◌, nat_lt, List, [], ◌∷◌, Option, Some, None, length}
 use Rattle.cyc_types.specs.Types.{Ty}
 use Rattle.cyc_types.specs.TypedTrees.{Function, Program}

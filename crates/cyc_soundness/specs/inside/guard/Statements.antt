@@ -1,5 +1,4 @@
--- This file defines the flow rules of statements, of items and of clauses, in the form for proofs
--- about runs.
+-- This file defines the flow rules of statements, of items and of clauses, in the form for proofs about runs.
 use Rattle.std.specs.Prelude.{ℕ, Bool, true, false, Option, Some, None}
 use Rattle.cyc_types.specs.TypedTrees.{Local, Global, Expression, Converted, Side, VariableSide, CellSide, Statement, Block, Empty, Evaluate, Swap, If, While, Return, Break, Continue}
 use Rattle.cyc_types.specs.TypedTrees.{Throw, Try, Items, NoItems, MoreItems, Item, Execute, Declare, DeclareRegion, OpenRegion, DeclareAlias, DeclareKey, Clauses, NoClauses, Default, Case}

@@ -19,8 +19,7 @@ use Rattle.cyc_types.specs.flow.Programs.{in_function, start_of, rule_function}
 -- ---- expressions
 
 module _ (q : List ℕ) where
-  -- a move out of a local requires that the local holds a value that is neither lent out nor peeked
-  -- at; afterwards the local is empty
+  -- a move out of a local requires that the local holds a value that is neither lent out nor peeked at; afterwards the local is empty
   consumed : (p : Place) (n : ℕ) (t : Ty) (f g : State)
       → Derives (rule q (Move p n t) f) g
       ≡ (((not (is_vacant (fullness f n)) ≡ true) × ((not (is_locked (fullness f n)) ≡ true) × ((is_free q n f ≡ true) × Unit {0}))) × (g ≡ with_fullness Vacant f n))
@@ -37,8 +36,7 @@ module _ (q : List ℕ) where
       ≡ ((g : State) × Derives (rule_converted q c f) g × (((not (is_locked (fullness g n)) && is_free q n g ≡ true) × Unit {0}) × (h ≡ with_fullness Full g n)))
   filled p n c t f h = refl
 
-  -- if a cell is reached through a local, a peek of this local is pending until the value to store has been
-  -- evaluated
+  -- if a cell is reached through a local, a peek of this local is pending until the value to store has been evaluated
   put_there : (d : Dereference) (c : Converted) (t : ValueType) (f h : State)
       → Derives (rule q (Store d c t) f) h ≡ ((g : State) × Derives (rule_place q d f) g × Derives (rule_converted (and_peeked (peek_after d) q) c g) h)
   put_there d c t f h = refl
@@ -47,14 +45,12 @@ module _ (q : List ℕ) where
       → Derives (rule_operations q (ThenPointerPeek n o a os) f) h ≡ ((g : State) × Derives (rule (q ++ (n ∷ [])) a f) g × Derives (rule_operations q os g) h)
   compared n o a os f h = refl
 
-  -- the state after an operand that `&&` or `||` may skip is the meet of the states before and
-  -- after the operand
+  -- the state after an operand that `&&` or `||` may skip is the meet of the states before and after the operand
   tested : (o : LogicalOperator) (a : Expression) (os : Operations) (f h : State)
       → Derives (rule_operations q (ThenTest o a os) f) h ≡ ((g : State) × Derives (rule q a f) g × Derives (rule_operations q os (meet f g)) h)
   tested o a os f h = refl
 
-  -- evaluating the elements of an array must leave no local emptier, because the array may have no
-  -- element
+  -- evaluating the elements of an array must leave no local emptier, because the array may have no element
   elements : (p : Place) (l : ℕ) (n : Expression) (k : Kind) (a : Expression) (f g : State)
       → Derives (rule_initial q (Array p l n k a) f) g
       ≡ ((head : State) × Derives (rule q n f) head × ((h : State) × Derives (rule q a head) h × (((is_at_least h head ≡ true) × Unit {0}) × (g ≡ head))))
@@ -93,8 +89,7 @@ module _ (c : Around) where
       ≡ (((is_at_least (with_each Full ks f) l.head ≡ true) × Unit {0}) × (m ≡ record { now = Unreached; breaks = b }))
   continues l ks f b m = refl
 
-  -- a catch clause begins with the state at the `try`, except that the locals touched by the body are
-  -- empty
+  -- a catch clause begins with the state at the `try`, except that the locals touched by the body are empty
   clauses : (s : Statement) (cs : Clauses) (f b : State) (m : Known)
       → Derives (rule_statement c (Try s cs) (record { now = f; breaks = b })) m
       ≡ ((k : Known) × Derives (rule_statement c s (record { now = f; breaks = b })) k × Derives (rule_clauses c (emptied (touched_statement s []) f) cs k) m)

@@ -32,8 +32,7 @@ module _ (g : Scope) where
   unknown_refused : (p : Place) (f : Fault) → Refuses (read Unknown p) f ≡ (f ≡ fault_at codes.UnknownName p)
   unknown_refused p f = refl
 
-  -- reading `*e` requires that the pointer's region is live, and that the target is neither a struct nor a unique
-  -- pointer
+  -- reading `*e` requires that the pointer's region is live, and that the target is neither a struct nor a unique pointer
   loaded_typed : (p : Place) (e : Expression) (a : typed.Expression)
       → Derives (rule g (Prefixed p prefixes.Dereference e)) a
       ≡ ((b : typed.Expression) × Derives (rule_looked g e (rule g e)) b
@@ -69,8 +68,7 @@ module _ (g : Scope) where
 
   -- ---- other expressions
 
-  -- the operator `!` takes an int or a pointer, and only peeks at the pointer; a char operand is
-  -- widened to an int
+  -- the operator `!` takes an int or a pointer, and only peeks at the pointer; a char operand is widened to an int
   negation_typed : (p : Place) (e : Expression) (a : typed.Expression)
       → Derives (rule g (Prefixed p prefixes.Not e)) a
       ≡ ((b : typed.Expression) × Derives (rule_looked g e (rule g e)) b × (((is_tested (type_of (as_int b)) ≡ true) × Unit {0}) × (a ≡ typed.Unary unary.Not (as_int b))))

@@ -8,7 +8,7 @@ use Rattle.cyc_pagestore.specs.inside.Usage.{Counts, IsUsage}
 use Rattle.cyc_pagestore.proofs.Counting.{counted-there, counted-some, usage-closed}
 use Rattle.cyc_pagestore.proofs.paged.PageStore.close_newest.Goals as goal
 
--- Some lexical region is open.
+-- The newest lexical region can be closed because some lexical region is open.
 never : (count some : ℕ) → count ≡ some → 0 < some → count ≡ 0 → ⊥
 never count some is more none = omega (arith, is, more, none)
 

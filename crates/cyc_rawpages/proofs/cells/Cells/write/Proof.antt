@@ -1,5 +1,4 @@
--- `write` turns the cell into uninitialised space, whatever it contained, and stores the word
--- there.
+-- `write` turns the cell into uninitialised space, whatever it contained, and stores the word there.
 use mathlib.Core.Path.{◌≡◌, refl, sym, subst, ◌∙◌}
 use Prim.Native.Nat.{◌+◌, ◌*◌, ◌<◌, ◌^◌}
 use native.Mathlib.Omega.{arith}

@@ -7,8 +7,7 @@ use Rattle.cyc_types.specs.TypeView.{view_ty}
 use Rattle.cyc_types.proofs.RegionLemmas.{derived-Decides}
 use Rattle.cyc_types.proofs.ty.Ty.+equals.Goals as goal
 
--- two struct types with the same struct number are equal exactly if their region arguments are
--- equal
+-- two struct types with the same struct number are equal exactly if their region arguments are equal
 structs_equal : (a b : Ty) (n m : ℕ) (xs ys us vs : List Region) (r : Bool) → a ≡ Struct n xs → b ≡ Struct m ys → us ≡ xs → vs ≡ ys → n ≡ m →
     Decides r (us ≡ vs) → (r ≡ true → a ≡ b) × (a ≡ b → r ≡ true)
 structs_equal a b n m xs ys us vs r p q u v e d = (λ h. let k = d.0 h in cc, λ h. d.1 (cc))

@@ -1,5 +1,4 @@
--- Invariant of the loop: the device has taken the parts before the index completely, and it has not
--- failed.
+-- Invariant of the loop: the device has taken the parts before the index completely, and it has not failed.
 use Rattle.std.proofs.Common.{◌≡◌, take}
 use Rattle.std.specs.Prelude.{flat_map}
 use Rattle.std.specs.Io.KnownBytes.{Appends}
