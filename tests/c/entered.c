@@ -76,6 +76,7 @@ again:
   case 1: n += 2; if (n < 10) goto three; break;
   case 3: n *= 2; three: n += 3; c = 2; if (n < 40) goto again; break;
   case 2: c = 3; n++; goto again;
+  case 4: if (n > 3) goto skip; n = 9; skip: n++; if (n < 12) goto skip; break;
   default: n--; other: n -= 2;
   }
   if (n == 7) goto other;

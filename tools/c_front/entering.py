@@ -7,8 +7,6 @@ from .faults import Refusal
 from .jumps import gotos, resolve_jumps
 from .tree import Node, Stmt, statements
 
-HINT = "jump out of blocks only, or write a loop"
-
 
 class Entering:
     """Resolves the jumps into blocks of one function; `new_flag` makes a variable of it."""
@@ -31,11 +29,13 @@ class Entering:
     def resolve(self, jump):
         way = way_to(self.body, jump.label)
         if way is None:
-            raise Refusal(f"goto {jump.label}: there is no such label", jump.place, HINT)
+            raise Refusal(f"goto {jump.label}: there is no such label", jump.place, "write the label")
         jumps = gotos(self.body, jump.label)
         start = max(at for at, (stmts, _, _) in enumerate(way) if len(gotos(stmts, jump.label)) == len(jumps))
         if start == len(way) - 1:
-            raise Refusal(f"goto {jump.label} into a block", jump.place, HINT)
+            last, at, _ = way[-1]
+            last[:] = resolve_jumps(last[:at] + [Stmt("label", jump.place, label=jump.label)] + last[at + 1:], self.label_class)
+            return
         self.flag = self.new_flag(jump.label, jump.place)
         target = f"into {jump.label}"
         for stmt in jumps:
