@@ -35,14 +35,23 @@ class Translation(tuple):
 def parse(text, clean, name):
     """The parser's tree."""
     prelude = "typedef int __builtin_va_list;\n"
+    parser = c_parser.CParser()
     try:
-        return c_parser.CParser().parse(prelude + clean, name)
+        return parser.parse(prelude + clean, name)
     except RecursionError as error:
         raise Refusal("an expression that nests too deep", Place(name, 1, 1)) from error
     except Exception as error:
         if type(error).__name__ != "ParseError" and not isinstance(error, (AssertionError, AttributeError)):
             raise
-        raise parse_refusal(str(error), text, name) from error
+        raise parse_refusal(with_line(str(error), parser), text, name) from error
+
+
+def with_line(said, parser):
+    """What the parser said, with the line that its lexer has come to where it names none."""
+    file = getattr(parser.clex, "filename", "")
+    line = getattr(parser.clex, "lineno", None) or getattr(parser.clex, "_lineno", None)
+    start = f"{file}: "
+    return f"{file}:{line}: {said[len(start):]}" if line and file and said.startswith(start) else said
 
 
 def parse_refusal(said, text, name):
