@@ -53,6 +53,7 @@ int main(void)
   if (in != stdin || in == stdout) printf("no\n");
   computed(stdout);
   computed(stderr);
+  { int stderr = 4; printf("%d\n", stderr); }
   fclose(in);
   return 0;
 }

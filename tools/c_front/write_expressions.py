@@ -68,7 +68,8 @@ class ExpressionWriter(WideWriter):
     def place(self, node):
         """A variable, an element or a field as it can be assigned; an aggregate as the pointer to it."""
         if node.op == "var":
-            return self.variable(node.v) if node.v.name not in STREAMS or node.v.defined else X(self.program.stream_name(node.v, node.place))
+            is_stream = node.v.name in STREAMS and node.v.scope == "global" and not node.v.defined
+            return X(self.program.stream_name(node.v, node.place)) if is_stream else self.variable(node.v)
         if node.op == "raw":
             return node.v
         if node.op == "deref":
