@@ -491,6 +491,70 @@ def searches(person):
     person.want("what the browser complains of", [], person.window.errors())
 
 
+# Texts with names of the library, the second one with one that it declares itself.
+USES = "int main() {\n  print_int(sum_of(3));\n  return count_ints(NULL);\n}\n"
+OWN = "int main() {\n  return count_ints(3);\n}\nint count_ints(int n) {\n  return n;\n}\n"
+
+
+def completes(person):
+    """Names of the library are completed, and what they are is told at the caret and at the mouse."""
+    person.open()
+    window = person.window
+    person.write("int main() { print_in")
+    window.press("CONTROL", " ")
+    window.wait("the words", lambda: window.run("return document.querySelectorAll('.CodeMirror-hint').length > 1"))
+    shown = window.run("return [...document.querySelectorAll('.CodeMirror-hint')].map(it => it.textContent)")
+    person.want("what is offered", True, "void print_int(int n)  numbers.cyc" in shown)
+    person.want("what is offered that does not fit", [], [it for it in shown if "print_in" not in it])
+    window.size(*SIZES["wide"])
+    for scheme in SCHEMES:
+        window.scheme(scheme)
+        person.want(f"what hardly stands out, {scheme}", [], window.run(FAINT, CONTRAST))
+        if person.pictures:
+            window.picture(os.path.join(person.pictures, f"completed-{scheme}.png"))
+    window.scheme("light")
+    for _ in range(next((at for at, it in enumerate(shown) if it.startswith("void print_int(")), 0)):
+        window.press("ARROW_DOWN")
+    window.press("ENTER")
+    person.want("the text that is completed", "int main() { print_int", person.source())
+    person.write(USES)
+    window.run("editor.select(arguments[0], arguments[0])", USES.index("count_ints") + 3)
+    window.wait_for("#name", "int count_ints(struct Int_list<`r> *`r list)")
+    person.want("its words", True, "In the library's list.cyc. Returns how many ints a list has." in window.text("#name"))
+    person.see("named")
+    window.run("editor.select(arguments[0], arguments[0])", USES.index("sum_of") + 3)
+    person.want("what is told of another name", True, window.run("return document.querySelector('#name').hidden"))
+    for scheme in SCHEMES:
+        window.scheme(scheme)
+        points_at(person, "print_int")
+        window.wait_for("#tip", "void print_int(int n)")
+        person.want("whether the words at the mouse are seen", True, window.run("return document.querySelector('#tip').checkVisibility()"))
+        person.want(f"what hardly stands out at the mouse, {scheme}", [], window.run(FAINT, CONTRAST))
+        if person.pictures:
+            # The picture of the whole page would take the mouse away.
+            window.driver.save_screenshot(os.path.join(person.pictures, f"pointed-at-{scheme}.png"))
+        points_at(person, "sum_of")
+    window.scheme("light")
+    person.want("whether they go with the mouse", True, window.run("return document.querySelector('#tip').hidden"))
+    person.write(OWN)
+    window.run("editor.select(arguments[0], arguments[0])", OWN.index("count_ints") + 3)
+    person.want("what is told of an own name", True, window.run("return document.querySelector('#name').hidden"))
+    window.run("setLanguage('c')")
+    window.press("ARROW_RIGHT")
+    person.want("what is told in C", True, window.run("return document.querySelector('#name').hidden"))
+    person.want("what the browser complains of", [], window.errors())
+
+
+def points_at(person, word):
+    """Moves the mouse onto a word of the text."""
+    place = person.window.run(
+        "const from = editor.text().indexOf(arguments[0]);"
+        "const {left, top, bottom} = editor.cm.charCoords(editor.place(from + 2), 'window'); return [left, (top + bottom) / 2]", word)
+    chain = ActionChains(person.window.driver)
+    chain.w3c_actions.pointer_action.move_to_location(*map(round, place))
+    chain.perform()
+
+
 def keeps(person):
     """Nothing that was typed is lost by an example or a reload, and the last ten texts come back."""
     person.open()
@@ -895,7 +959,7 @@ def colours(person):
 
 
 PEOPLE = (
-    opens, mends, tells_all, uses_keys, indents, searches, keeps, marks_stale, reads, shows_hidden, falls_back, prefers_plain, ends,
+    opens, mends, tells_all, uses_keys, indents, searches, completes, keeps, marks_stale, reads, shows_hidden, falls_back, prefers_plain, ends,
     is_narrow,
     comes_as_it_goes, ends_at_the_clock, lays_out, lists, links, translates, shows_texts, colours,
 )

@@ -11,6 +11,8 @@ const WORDS = {
 };
 const KIND_OF_WORD = new Map(Object.entries(WORDS).flatMap(([kind, words]) => words.split(" ").map((word) => [word, kind])));
 const NAME = /^[A-Za-z_]\w*$/;
+// A longer name is no name of the library.
+const LONGEST_NAME = 100;
 // What is not seen, steers a terminal, or turns the direction of writing: as the program's own messages have it, and the soft hyphen.
 const HIDDEN = "\\u0000-\\u0008\\u000b-\\u001f\\u007f-\\u009f\\u00ad\\u061c\\u200b-\\u200f\\u2028-\\u202e" +
   "\\u2060-\\u206f\\ufeff\\ufff9-\\ufffb";
@@ -28,6 +30,12 @@ function escaped(character) {
 // A text of which a person sees each character.
 function seen(text) {
   return text.replace(HIDDEN_CHARACTER, escaped);
+}
+
+// The name that a place of a text stands in, or at whose end it stands; empty where there is none.
+function nameAt(text, place) {
+  const before = /\w*$/.exec(text.slice(Math.max(0, place - LONGEST_NAME), place))[0];
+  return before + /^\w*/.exec(text.slice(place, place + LONGEST_NAME))[0];
 }
 
 // ---- the language for CodeMirror: the mode for C-like languages with the tokens of this one
@@ -78,15 +86,38 @@ class RichEditor {
       lint: { getAnnotations: () => this.annotations, lintOnChange: false }, styleActiveLine: { nonEmpty: true },
       specialChars: new RegExp(`[${HIDDEN}]`, "u"), specialCharPlaceholder: placeholder,
       extraKeys: { Tab: false, "Shift-Tab": false, "Ctrl-/": "toggleComment", "Cmd-/": "toggleComment",
-        "Ctrl-Q": (cm) => cm.foldCode(cm.getCursor()) },
+        "Ctrl-Q": (cm) => cm.foldCode(cm.getCursor()), "Ctrl-Space": "autocomplete" },
+      hintOptions: { hint: () => this.hints(), completeSingle: false },
     });
     this.annotations = [];
+    this.complete = () => [];
     const field = this.cm.getInputField();
     for (const [name, value] of Object.entries({ id: "source", role: "textbox", "aria-multiline": "true",
       "aria-describedby": describedBy })) field.setAttribute(name, value);
   }
 
   onChange(call) { this.cm.on("changes", call); }
+
+  // Calls with the name at the caret, and with that under the mouse and the place of the mouse in the window.
+  onName(call) {
+    this.cm.on("cursorActivity", () => call(this.nameAt(this.cm.getCursor())));
+    const lines = this.cm.getScrollerElement();
+    lines.addEventListener("mousemove", ({ clientX, clientY }) => {
+      const place = this.cm.coordsChar({ left: clientX, top: clientY }, "window");
+      call(place.outside ? "" : this.nameAt(place), [clientX, clientY]);
+    });
+    for (const event of ["mouseleave", "mousedown", "scroll", "keydown"]) lines.addEventListener(event, () => call("", [0, 0]));
+  }
+
+  nameAt({ line, ch }) { return nameAt(this.cm.getLine(line), ch); }
+
+  // The words that may stand in place of the one before the caret, by the page.
+  hints() {
+    const to = this.cm.getCursor();
+    const before = /[A-Za-z_]\w*$/.exec(this.cm.getLine(to.line).slice(0, to.ch))?.[0] ?? "";
+    return { list: this.complete(before), from: { line: to.line, ch: to.ch - before.length }, to };
+  }
+
   setLanguage(name) { this.cm.setOption("mode", name === "c" ? "text/x-csrc" : tokens()); }
   text() { return this.cm.getValue(); }
   focus() { this.cm.focus(); }
@@ -143,6 +174,13 @@ class PlainEditor {
   }
 
   onChange(call) { this.area.addEventListener("input", call); }
+
+  onName(call) {
+    for (const event of ["input", "keyup", "click"]) {
+      this.area.addEventListener(event, () => call(nameAt(this.area.value, this.area.selectionStart)));
+    }
+  }
+
   setLanguage() {}
   text() { return this.area.value; }
   focus() { this.area.focus(); }

@@ -29,6 +29,8 @@ let language = LANGUAGES[0];
 let translatedText = null;
 // The earlier texts that may be chosen.
 let keptShown = [];
+// The names of the library, each with what is told of it.
+let library = new Map();
 
 // ---- elements
 
@@ -189,6 +191,67 @@ function replaceAll(text) {
 function goTo(start, end = start) {
   if (NARROW.matches) show("program");
   editor.select(start, end);
+}
+
+// ---- names of the library
+
+const GIVEN = ["putchar", "getchar"];
+// How far the words about the name under the mouse are from it, in pixels.
+const AWAY = 14;
+
+// What is told of a name: that of the library, unless the program declares it itself or is a C program.
+function meaningOf(name) {
+  const it = language === "c" ? undefined : library.get(name);
+  return it && !declares(editor.text(), it) ? it : undefined;
+}
+
+function declares(text, { name, kind }) {
+  // No part of a long text is read again and again.
+  const ways = {
+    function: `[\\w*@?>]\\s+[*@?]*${name}\\s*\\([^;{]{0,2000}\\)\\s*\\{`,
+    struct: `\\bstruct\\s+${name}\\s*(?:<[^>]{0,200}>\\s*)?\\{`,
+    exception: `\\bdatatype\\s+exn\\s*\\{[^}]{0,5000}\\b${name}\\b`,
+  };
+  return new RegExp(ways[kind]).test(text);
+}
+
+// Tells of the name at the caret below the editor, and of that under the mouse beside it.
+function tellName(name, mouse = null) {
+  const it = meaningOf(name);
+  const words = it ? [make("code", {}, it.text), `\nIn the library's ${it.file}. ${it.words}`] : [];
+  const place = mouse ? tip() : at("name");
+  place.hidden = !it;
+  place.replaceChildren(...words);
+  if (!it || !mouse) return;
+  const { width, height } = place.getBoundingClientRect();
+  place.style.left = `${Math.max(0, Math.min(mouse[0], innerWidth - width - AWAY))}px`;
+  place.style.top = `${mouse[1] + AWAY + height > innerHeight ? mouse[1] - AWAY - height : mouse[1] + AWAY}px`;
+}
+
+function tip() {
+  if (!at("tip")) document.body.append(make("div", { id: "tip", class: "tip", "aria-hidden": "true" }));
+  return at("tip");
+}
+
+// What a word may become: names of the program, words of the language, and names of the library, which have their declaration beside them.
+function complete(before) {
+  const own = [...new Set(editor.text().match(/[A-Za-z_]\w*/g))].sort();
+  const of = language === "c" ? [] : [...GIVEN, ...KIND_OF_WORD.keys()].filter((it) => !own.includes(it));
+  const fits = (name) => name.startsWith(before) && name !== before;
+  const names = [...own, ...of].filter((name) => fits(name) && !meaningOf(name));
+  const theirs = language === "c" ? [] : [...library.values()].filter((it) => fits(it.name) && meaningOf(it.name));
+  return [...names, ...theirs.map((it) => ({ text: it.name, render: (item) => item.append(...hintOf(it)) }))];
+}
+
+function hintOf({ text, file, kind }) {
+  return [kind === "struct" ? text.slice(0, text.indexOf("{")).trim() : text, make("span", { class: "file" }, `  ${file}`)];
+}
+
+async function readLibrary() {
+  const names = await (await fetch("names")).json();
+  library = new Map(names.map((it) => [it.name, it]));
+  editor.complete = complete;
+  editor.onName(tellName);
 }
 
 // ---- the parts of the page, of which a narrow window shows one
@@ -713,6 +776,7 @@ async function begin() {
   try {
     const answer = await fetch("about");
     about = await answer.json();
+    await readLibrary();
   } catch (error) {
     notice(`The server does not answer: ${error.message}.`);
     return;
