@@ -558,9 +558,12 @@ def points_at(person, word):
 def keeps(person):
     """Nothing that was typed is lost by an example or a reload, and the last ten texts come back."""
     person.open()
+    place = "const {left, top} = document.querySelector('#run').getBoundingClientRect(); return [left, top]"
+    before = person.window.run(place)
     person.write(TWO, "an input")
     person.choose("#example", "count")
     person.want("what is kept", [TWO], person.kept())
+    person.want("where the buttons are", before, person.window.run(place))
     person.choose("#kept", "0")
     person.want("the text that came back", (TWO, "an input"),
         (person.source(), person.window.run("return document.querySelector('#input').value")))
