@@ -27,7 +27,7 @@ PROGRAM = "cyclone"
 # For each public call: its result when memory runs out, and the case files that are likely to
 # exercise the call.
 TEXTS = {
-    "run_phases": ("Fault::memory()", ["texts"]),
+    "run_phases": ("Fault::memory()", ["checking"]),
     "accept": ("Fault::memory()", ["bounds"]),
     "bounds": ("Fault::memory()", ["bounds"]),
     "bounds_with_tokens": ("Fault::memory()", ["bounds"]),
