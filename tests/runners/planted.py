@@ -38,7 +38,7 @@ TEXTS = {
 }
 IMAGES = {
     "note_of": ("ElfFault::Memory", ["notes", "reports"]),
-    "run": ("RunFault::Memory", ["images", "running"]),
+    "run": ("RunFault::Memory", ["running"]),
     "run_with": ("RunFault::Memory", ["running"]),
     "run_plain": ("RunFault::Memory", ["running"]),
     "run_counting": ("RunFault::Memory", ["reports"]),
