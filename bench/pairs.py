@@ -7,16 +7,22 @@ outputs of a pair differ.
 Each pair of bench/pairs/ is NAME.cyc and NAME.c, with the input NAME.in if they read one. `cyclone compile` makes an image of the one, and
 mips-linux-gnu-gcc two of the other, without optimisation (-O0) and with its first level (-O1), for the same machine: its services are in
 start.s, and machine.h declares them. The fourth image is made by mips-linux-gnu-g++ -O1 from the C program with the pointers of checked.h,
-which checks each access as this language does: the same work with a good optimiser. All four images must have the same output and result.
-The machine counts the instructions, and `run --report` reports them. The pairs are grouped by style, each group with its geometric means.
+which checks each access as this language does: the same work with a good optimiser. The fifth is made as the fourth, with the whole program
+known (-fwhole-program), as it is known here: no other file calls a function, so each may be inlined and left out. All five images must have
+the same output and result. The machine counts the instructions, and `run --report` reports them. The pairs are grouped by style, each group
+with its geometric means.
 
-With --sizes the table has the sizes of the images, in words of text, compared with those of both compilers with -Os; nothing is run.
+With --sizes the table has the sizes of the images, in words of text, compared with those of both compilers with -Os; nothing is run. What
+an image has before the program, to start it and for its services, is not counted: for C that is start.s, and here what --places calls
+`start`.
 """
 import argparse
 import concurrent.futures
+import functools
 import json
 import math
 import os
+import re
 import shutil
 import struct
 import subprocess
@@ -28,7 +34,8 @@ PROGRAM = os.path.join(HERE, "..", "crates", "cyclone", "out", "cyclone")
 PAIRS = os.path.join(HERE, "pairs")
 GCC, GXX = "mips-linux-gnu-gcc", "mips-linux-gnu-g++"
 LEVELS = ("-O0", "-O1")
-CHECKED = "checked -O1"
+CHECKED, STATIC = "checked -O1", "checked static"
+WHOLE = "-fwhole-program"
 SMALL = "-Os"
 GROUPS = {
     "ints, calls, exceptions": "arithmetic collatz divisors errors fibonacci loop throws",
@@ -94,9 +101,25 @@ def in_c(options, source, level, image):
     compiled([options.gcc, level, "-I", PAIRS] + FLAGS + [source + ".c", "-o", image] + LINKED)
 
 
-def in_checked_c(options, source, level, image):
+def in_checked_c(options, source, level, image, *more):
     """Compiles the program in C to an image, with all checks."""
-    compiled([options.gxx, level] + FLAGS + AS_CHECKED + [source + ".c", "-o", image] + LINKED)
+    compiled([options.gxx, level, *more] + FLAGS + AS_CHECKED + [source + ".c", "-o", image] + LINKED)
+
+
+@functools.cache
+def start_in_c(gcc):
+    """Returns the number of words of text that each image in C has before the program."""
+    with tempfile.TemporaryDirectory() as folder:
+        image = os.path.join(folder, "start.elf")
+        compiled([gcc] + FLAGS + LINKED + ["-Wl,--defsym,main=0x400000", "-o", image])
+        return text_words(image)
+
+
+def start_here(places):
+    """Returns the number of words of text before the program's functions, by the table of places of an image."""
+    with open(places, encoding="utf-8") as file:
+        start, end = re.search("^([0-9a-f]{8}) start\n([0-9a-f]{8}) ", file.read(), re.M).groups()
+    return (int(end, 16) - int(start, 16)) // 4
 
 
 def sizes_of(name, options):
@@ -104,27 +127,30 @@ def sizes_of(name, options):
     source = os.path.join(options.pairs, name)
     with tempfile.TemporaryDirectory() as folder:
         images = [os.path.join(folder, which + ".elf") for which in ("ours", "small", "checked")]
-        compiled([options.program, "compile", source + ".cyc", "-o", images[0]])
+        places = os.path.join(folder, "places")
+        compiled([options.program, "compile", source + ".cyc", "-o", images[0], "--places", places])
         in_c(options, source, SMALL, images[1])
         in_checked_c(options, source, SMALL, images[2])
-        return [text_words(image) for image in images]
+        starts = [start_here(places)] + 2 * [start_in_c(options.gcc)]
+        return [text_words(image) - start for image, start in zip(images, starts)]
 
 
 def counts_of(name, options):
-    """Returns the instruction counts of a pair: the program in this language, and the one in C, level by level, and with all checks."""
+    """Returns the instruction counts of a pair: the program in this language, and the one in C, by level, and twice with all checks."""
     source, given = os.path.join(options.pairs, name), b""
     if os.path.exists(source + ".in"):
         with open(source + ".in", "rb") as file:
             given = file.read()
     with tempfile.TemporaryDirectory() as folder:
-        images = [os.path.join(folder, which + ".elf") for which in ("ours", *LEVELS, "checked")]
+        images = [os.path.join(folder, which + ".elf") for which in ("ours", *LEVELS, "checked", "static")]
         compiled([options.program, "compile", source + ".cyc", "-o", images[0]])
         for level, image in zip(LEVELS, images[1:]):
             in_c(options, source, level, image)
-        in_checked_c(options, source, LEVELS[-1], images[-1])
+        in_checked_c(options, source, LEVELS[-1], images[-2])
+        in_checked_c(options, source, LEVELS[-1], images[-1], WHOLE)
         runs = [run(options.program, image, given) for image in images]
         ends = [end for end, _ in runs]
-        for level, end in zip((*LEVELS, CHECKED), ends[1:]):
+        for level, end in zip((*LEVELS, CHECKED, STATIC), ends[1:]):
             if not end[1].startswith("returned "):
                 raise Fault(f"with {level} it ends with: {end[1]}")
             if end != ends[0]:
@@ -140,14 +166,16 @@ def mean(ratios):
 def row_of_means(what, ratios):
     """Returns the line of some programs' geometric means."""
     means = " | ".join(f"{mean(column):.3f}" for column in zip(*ratios))
-    return f"| {what}: geometric mean | | | | | {means} |"
+    return f"| {what}: geometric mean | | | | | | {means} |"
 
 
 def table(counts):
     """Returns the lines of the table, for the counts by name, group by group."""
     ratios = {name: [ours / theirs for theirs in others] for name, (ours, *others) in counts.items()}
-    yield f"| Program | `cyclone compile` | `gcc -O0` | `gcc -O1` | {CHECKED} | To `-O0` | To `-O1` | To {CHECKED} |"
-    yield "|---|---|---|---|---|---|---|---|"
+    others = ("`-O0`", "`-O1`", CHECKED, STATIC)
+    counted = ("`cyclone compile`", "`gcc -O0`", "`gcc -O1`", CHECKED, STATIC)
+    yield f"| Program | {' | '.join(counted)} | {' | '.join('To ' + other for other in others)} |"
+    yield "|" + 10 * "---|"
     for group, names in grouped(counts):
         for name in names:
             numbers = [f"{count:,}" for count in counts[name]] + [f"{ratio:.2f}" for ratio in ratios[name]]

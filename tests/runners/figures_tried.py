@@ -130,12 +130,16 @@ PAIRS_GCC = """#!/bin/sh
 for word; do case "$word" in *.c) source=$word;; *.elf) image=$word;; esac; done
 sed -n "s/^$1 //p" "$source" > "$image"
 """
-PAIRS_GXX = PAIRS_GCC.replace("$1", "checked")
+PAIRS_GXX = """#!/bin/sh
+level=checked
+for word; do case "$word" in *.c) source=$word;; *.elf) image=$word;; -fwhole-program) level=static;; esac; done
+sed -n "s/^$level //p" "$source" > "$image"
+"""
 
-# Stand-in programs, for equal and unequal pairs: the image in Cyclone, with -O0, with -O1, and with all checks if that differs. Each line
-# of an image ends at a `|`.
+# Stand-in programs, for equal and unequal pairs: the image in Cyclone, with -O0, with -O1, with all checks if that differs, and with all
+# checks and the whole program known if that differs too. Each line of an image ends at a `|`.
 EQUAL_PAIRS = {
-    "one": ("9|returned 7|a|b|", "3|returned 7|a|b|", "1|returned 7|a|b|"),
+    "one": ("9|returned 7|a|b|", "3|returned 7|a|b|", "1|returned 7|a|b|", "1|returned 7|a|b|", "9|returned 7|a|b|"),
     "two": ("1001|returned 0|c|", "3003|returned 0|c|", "1001|returned 0|c|"),
 }
 UNEQUAL_PAIRS = {
@@ -145,6 +149,7 @@ UNEQUAL_PAIRS = {
     "no_output_here": ("8|returned 7|", "4|returned 7|a|", "2|returned 7|a|"),
     "uncaught_here": ("8|uncaught 1 0|a|", "4|returned 7|a|", "2|returned 7|a|"),
     "other_value_when_checked": ("8|returned 7|a|", "4|returned 7|a|", "2|returned 7|a|", "2|returned 8|a|"),
+    "other_value_when_static": ("8|returned 7|a|", "4|returned 7|a|", "2|returned 7|a|", "2|returned 7|a|", "2|returned 8|a|"),
     "traps": ("8|trap break|a|", "4|trap break|a|", "2|trap break|a|"),
     "has_no_end": ("2000000000|returned 7|", "2000000000|returned 7|", "2000000000|returned 7|"),
 }
@@ -153,12 +158,12 @@ UNEQUAL_PAIRS = {
 # 1,001 / 1,001 is the square root of 9.
 PAIRS_TABLE = """\
 instructions that equal programs execute, compiled here and by gcc
-| Program | `cyclone compile` | `gcc -O0` | `gcc -O1` | checked -O1 | To `-O0` | To `-O1` | To checked -O1 |
-|---|---|---|---|---|---|---|---|
-| `one` | 9 | 3 | 1 | 1 | 3.00 | 9.00 | 9.00 |
-| `two` | 1,001 | 3,003 | 1,001 | 1,001 | 0.33 | 1.00 | 1.00 |
-| others: geometric mean | | | | | 1.000 | 3.000 | 3.000 |
-| all: geometric mean | | | | | 1.000 | 3.000 | 3.000 |
+| Program | `cyclone compile` | `gcc -O0` | `gcc -O1` | checked -O1 | checked static | To `-O0` | To `-O1` | To checked -O1 | To checked static |
+|---|---|---|---|---|---|---|---|---|---|
+| `one` | 9 | 3 | 1 | 1 | 9 | 3.00 | 9.00 | 9.00 | 1.00 |
+| `two` | 1,001 | 3,003 | 1,001 | 1,001 | 1,001 | 0.33 | 1.00 | 1.00 | 1.00 |
+| others: geometric mean | | | | | | 1.000 | 3.000 | 3.000 | 1.000 |
+| all: geometric mean | | | | | | 1.000 | 3.000 | 3.000 | 1.000 |
 """
 
 
@@ -168,12 +173,12 @@ def write_pair(folder, name, images):
     with open(os.path.join(folder, name + ".cyc"), "w", encoding="ascii") as file:
         file.write(here)
     with open(os.path.join(folder, name + ".c"), "w", encoding="ascii") as file:
-        for level, image in zip(("-O0", "-O1", "checked"), [*in_c, in_c[1]]):
+        for level, image in zip(("-O0", "-O1", "checked", "static"), in_c + 2 * in_c[-1:]):
             file.writelines(f"{level} {line}" for line in image.splitlines(keepends=True))
 
 
 def are_words_counted(folder):
-    """Returns true if exactly the words of an image's loaded code are counted."""
+    """Returns true if exactly the words of an image's loaded code are counted, and those before its functions by its table of places."""
     header = b"\0" * 28 + struct.pack(">I", 52) + b"\0" * 10 + struct.pack(">HH", 32, 4) + b"\0" * 6
     # The segments of a test image: notes, code, data, and code again. Each has a kind, an offset, two addresses, lengths in
     # the file and in memory, flags and alignment.
@@ -184,7 +189,13 @@ def are_words_counted(folder):
     words = bench_pairs.text_words(image)
     if words != 12:
         print(f"an image of 12 words of code is said to have {words}")
-    return words == 12
+    places = os.path.join(folder, "words.places")
+    with open(places, "w", encoding="ascii") as file:
+        file.write("cyclone places 2\nsource start\nfunction main 1 5\n00400000 start\n00400018 0 1 14\n00400040 end\n")
+    start = bench_pairs.start_here(places)
+    if start != 6:
+        print(f"6 words before the functions are said to be {start}")
+    return words == 12 and start == 6
 
 
 def are_pairs_right(folder):
