@@ -10,7 +10,8 @@ start.s, and machine.h declares them. The fourth image is made by mips-linux-gnu
 which checks each access as this language does: the same work with a good optimiser. The fifth is made as the fourth, with the whole program
 known (-fwhole-program), as it is known here: no other file calls a function, so each may be inlined and left out. All five images must have
 the same output and result. The machine counts the instructions, and `run --report` reports them. The pairs are grouped by style, each group
-with its geometric means.
+with its geometric means. Those of the group APART are of many styles: who works on a pass reads their figures alone, and neither their
+texts nor their images, so that they say what a pass does to programs that it was not made for.
 
 With --sizes the table has the sizes of the images, in words of text, compared with those of both compilers with -Os; nothing is run. What
 an image has before the program, to start it and for its services, is not counted: for C that is start.s, and here what --places calls
@@ -37,13 +38,16 @@ LEVELS = ("-O0", "-O1")
 CHECKED, STATIC = "checked -O1", "checked static"
 WHOLE = "-fwhole-program"
 SMALL = "-Os"
+APART = "kept from tuning"
 GROUPS = {
-    "ints, calls, exceptions": "arithmetic collatz divisors errors fibonacci loop throws",
-    "arrays of ints": "bytecode factorials heapsort matrices queens quicksort sieve",
-    "chars": "checks echo fields letters numerals search strings tokens words",
-    "structs behind pointers": "events hashes inserted list merged search_tree tree unique vectors",
+    "ints, calls, exceptions": "arithmetic collatz dispatch divisors errors fibonacci loop throws",
+    "arrays of ints": "bytecode factorials fourier heapsort knapsack matrices queens quicksort sieve",
+    "chars": "checks echo fields letters numerals runs search strings tokens words",
+    "structs behind pointers": "events formulas hashes inserted list merged search_tree tree unique vectors",
     "small functions in loops": "edits fractions grids rotations stacks",
     "tables of tables": "boards roads",
+    "lengths by `numelts` or constant in `main`": "scanning tallies",
+    APART: "calendar replaced unions",
 }
 # Restricts gcc to the machine's instructions: no traps on division by 0, no branch-likely instructions (which may skip their
 # delay slot), no further registers.
