@@ -40,14 +40,14 @@ WHOLE = "-fwhole-program"
 SMALL = "-Os"
 APART = "kept from tuning"
 GROUPS = {
-    "ints, calls, exceptions": "arithmetic collatz dispatch divisors errors fibonacci loop throws",
-    "arrays of ints": "bytecode factorials fourier heapsort knapsack matrices queens quicksort sieve",
-    "chars": "checks echo fields letters numerals runs search strings tokens words",
+    "ints, calls, exceptions": "arithmetic collatz dispatch divisors errors fibonacci loop mandelbrot throws",
+    "arrays of ints": "bytecode factorials fourier heapsort knapsack matrices mazes queens quicksort sieve sudoku",
+    "chars": "base64 checks echo fields letters numerals runs search strings tokens wildcards words",
     "structs behind pointers": "events formulas hashes inserted list merged search_tree tree unique vectors",
     "small functions in loops": "edits fractions grids rotations stacks",
     "tables of tables": "boards roads",
-    "lengths by `numelts` or constant in `main`": "scanning tallies",
-    APART: "calendar replaced unions",
+    "lengths by `numelts` or constant in `main`": "checksums scanning tallies",
+    APART: "accounts cache calendar huffman replaced slices unions",
 }
 # Restricts gcc to the machine's instructions: no traps on division by 0, no branch-likely instructions (which may skip their
 # delay slot), no further registers.
