@@ -157,6 +157,7 @@ NUMBERS = [
     Number(GUARANTEES, r"random programs of them: ([\w,]+) results", results_of_instructions),
     Number(SOUNDNESS, r"has (\w+) programs that the rules accept", lambda: programs_of_sound("accepted")),
     Number(SOUNDNESS, r"has (\w+) that the rules refuse", lambda: programs_of_sound("refused")),
+    Number(FIGURES, r"executed instructions of (\w+) pairs of equal programs", lambda: files_in("bench/pairs", ".cyc")),
     Number(FIGURES, r"runs the (\w+) programs of `bench/unseen`", lambda: files_in("bench/unseen", "")),
     Number(FIGURES, r"for the (\w+) that are programs of this language too", lambda: files_in("bench/unseen", ".cyc")),
 ]
