@@ -129,7 +129,8 @@ RANGES = [
     ("a block of the heap", allocate(1, 4)),
     ("a unique block", allocate(2, 4)),
 ]
-# service 3 of this project's machine returns register 4; in Linux, system call 4001 is `exit`
+# system call 3 of this project's machine ends a run with the value of register 4; in Linux, system
+# call 4001 is `exit`
 OURS = [addiu(4, 0, 7), addiu(2, 0, 3), SYSCALL]
 LINUX = [addiu(4, 0, 7), addiu(2, 0, 4001), SYSCALL]
 

@@ -63,7 +63,7 @@ EXPRESSIONS = {
     "a cast to char": ("char(", ")", 1),
     "an assignment in an index": ("p[a=", "]", 2),
 }
-# The positions in which an expression can stand outside any other expression.
+# The syntactic positions in which an expression can stand outside any other expression.
 PLACES = {
     "what is returned": ("return ", ";"),
     "a statement": ("", ";"),

@@ -25,7 +25,8 @@ DEFAULT = 1_000_000_000
 TIMES = 5
 COPIES = 32
 SPENT = 7
-# The factor that reduces budgets when instructions are counted. Counting takes longer and need not be repeated.
+# The factor by which step budgets are divided when the instructions are counted. Counting takes longer and need
+# not be repeated.
 SMALLER = 100
 COUNTER = ["valgrind", "--tool=cachegrind", "--cache-sim=no", f"--cachegrind-out-file={os.devnull}"]
 COUNTED = re.compile(rb"I +refs: +([\d,]+)")

@@ -77,7 +77,7 @@ def started(pages):
     return [*filled(pages), *constant(10, 12_345), *constant(11, pages), *constant(13, 69_069), *constant(14, ADDRESSES)]
 
 
-# For each kind of loop: the loop's body, the number of service calls in it, and the code before the loop. The
+# For each kind of loop: the loop's body, the number of system calls in it, and the code before the loop. The
 # last field is the mode in which store.c makes the same calls, if it does.
 KINDS = {
     "blocks made and freed": (FREE, 1, filled, "free"),

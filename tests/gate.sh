@@ -1,8 +1,9 @@
 #!/usr/bin/env bash
-# The gate runs every proof and test of the crates (rt ci), the suites of tests/suites.txt on the program just proved and built, and the
-# wrong bodies. First, the gate installs the commands that it needs, and ends if one cannot be installed. Before the last line, the gate
-# prints the cost of each crate and part; out/gate.md records these costs too, even if the gate is stopped. After the costs, the gate lists
-# the failures in short, for a reader who sees only the end of a long log. The last line is `N passed, M failed` over all parts of the gate.
+# The gate runs every proof and test of the crates (rt ci), and the suites of tests/suites.txt on the program just proved and built. The
+# gate also tests that the prover refuses wrong function bodies. First, the gate installs the commands that it needs, and ends if one cannot
+# be installed. Before the last line, the gate prints the cost of each crate and part; out/gate.md records these costs too, even if the gate
+# is stopped. After the costs, the gate lists the failures in short, for a reader who sees only the end of a long log. The last line is `N
+# passed, M failed` over all parts of the gate.
 set -u
 cd "$(dirname "$0")/.." || exit
 # shellcheck disable=SC1091
@@ -57,8 +58,8 @@ sources=$(python3 tools/sources.py look)
 # The number of crates proved in parallel is limited by memory, from the measured peaks, unless the caller sets
 # RT_JOBS.
 add "proofs" env "RT_JOBS=${RT_JOBS:-$(python3 tools/jobs.py)}" rt ci
-# `make build` and `make demo` use the program built by the gate as long as the sources are unchanged. The wrong-body tests also reuse the
-# gate's proofs.
+# `make build` and `make demo` use the program built by the gate as long as the sources are unchanged. The tests of wrong function bodies
+# also reuse the gate's proofs.
 proved=
 if [ "$failed" -eq 0 ] && python3 tools/sources.py note "$sources"; then
   proved=$sources

@@ -7,7 +7,8 @@ then empty; and the prover, which `rt try` only asks for names that a later chec
 import os
 import shutil
 
-# clang is told to build two programs; this script runs the one built with checks.
+# clang is told to build two programs. This stand-in for clang removes the checks from the program
+# that was to be built with checks, and optimises it, because that program is run.
 CLANG = """#!/bin/bash
 words=()
 for word; do [[ $word == -fsanitize=* ]] && is_run=1; done

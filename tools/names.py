@@ -32,7 +32,8 @@ UNKNOWN, HEAP = "`0", "`H"
 DEEPEST = 210
 
 Token = collections.namedtuple("Token", "kind text start end")
-# Where a declaration of the library stands: the path and the text of its file, and its place there.
+# The source position of a declaration of the library: the path and the text of its file, and where
+# the declaration starts and ends there.
 Home = collections.namedtuple("Home", "path text start end")
 
 
@@ -57,7 +58,8 @@ class Declared:
         self.full, self.parameters, self.written, self.regions = type_text, [], [], []
         # The range of the text in which a name declared in a block is visible.
         self.since, self.until = -1, -1
-        # For a name of the library, where it is declared, and the text of its declaration.
+        # For a name of the library: the source position of its declaration, and the text of the
+        # declaration.
         self.home, self.shown = None, ""
 
 
@@ -224,7 +226,7 @@ class Names(Reading):
         # position after the `->`.
         self.left_out, self.arrows = [], {}
         self.structs, self.globals, self.exceptions = {}, {}, {}
-        # The declarations in `top`, indexed by the positions of their names.
+        # The declarations in `top`, indexed by the source positions of their names.
         self.heads = {}
         self.each(self.find_head)
         for own, name in ((self.structs, "structs"), (self.globals, "globals"), (self.exceptions, "exceptions")):
@@ -431,7 +433,7 @@ class Inside:
         self.names, self.owner = names, owner
         self.variables, self.regions, self.depth = [{}], [{}], 0
         self.blocks = ["`" + owner.name]
-        # The region that contains the object read last.
+        # The region that contains the object to which the last parsed expression refers.
         self.lies = UNKNOWN
 
     # ---- visible names

@@ -40,8 +40,8 @@ def clustered(count):
 # ---- names with one key: the bytes of a name are the digits of a number to a base, truncated to so many bits
 
 BASE, BITS = 257, 64
-# Each list contains exponents n. The product of the differences x^n - 1 is 0 at the hash base, since
-# each difference is a multiple of a power of 2.
+# Each list contains exponents n. The product of the differences x^n - 1 is 0 modulo 2^64 for the
+# hash base x. Each difference x^n - 1 is a multiple of a power of 2.
 POWERS = (
     (1, 1, 1, 1, 2, 3, 4, 5), (1, 1, 1, 2, 2, 3, 3, 5), (1, 1, 1, 2, 2, 3, 4, 5), (1, 1, 1, 2, 3, 3, 4, 5), (1, 1, 2, 2, 2, 3, 4, 5),
     (1, 2, 2, 2, 4, 4, 6), (1, 1, 1, 2, 3, 4, 5, 5), (1, 1, 1, 2, 2, 3, 5, 7), (1, 1, 2, 2, 3, 3, 4, 5), (1, 1, 1, 2, 3, 4, 4, 5),

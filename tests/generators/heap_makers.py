@@ -90,7 +90,8 @@ class HeapMaker(Maker):
     def pointer(self, type, depth):
         """Returns an expression that converts to a type of pointer into the heap."""
         mark, target = type[1], type[2]
-        # converting a pointer to a pointer with a different mark may raise an exception
+        # converting a pointer to a pointer of a different kind (`*`, `@` or `?`) may raise an
+        # exception
         marks = "*@?" if self.chance(15) else {"*": "*@", "@": "@", "?": "?@"}[mark]
         found = [name for name, _ in self.to(target, marks)]
         if found and self.chance(50):

@@ -8,6 +8,6 @@ READS = (
     (b'#import "/etc/passwd"\n', 1), (b'#pragma GCC dependency "/etc/passwd"\n', 1),
     (b"int a; // \\\n\n#include_next <../../../../etc/passwd>\n", 3),
 )
-# The macro of this hostile program expands to 10^10 words.
+# The macro of this hostile program expands to 10^10 tokens.
 BOMB = b"#define A x x x x x x x x x x\n" + b"".join(
     b"#define %c %s\n" % (letter, b" ".join([b"%c" % (letter - 1)] * 10)) for letter in b"BCDEFGHIJ") + b"int main(void) { J; return 0; }\n"

@@ -12,8 +12,8 @@ STEPS = 1000
 # The step budgets for images written by the compiler and for changed images, and the number of changed images derived
 # from each image.
 STEPS_OF_COMPILED, STEPS_OF_CHANGED, CHANGED = 30_000, 3_000, 5
-# An image with one segment, which ends with result 3 after five instructions; and the same image with a
-# note of 8 pages and 32 calls.
+# An image with one segment, which ends with result 3 after five instructions; and the same image with
+# an ELF note that states 8 heap pages and 32 calls.
 PLAIN = bytes.fromhex("""
 7f454c46010201000000000000000000 0002000800000001 00400000 00000034 0000000000000000 0034002000010000 00000000
 00000001 00000054 00400000 00400000 00000018 00000018 00000005 00000004

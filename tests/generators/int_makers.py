@@ -24,7 +24,7 @@ def filling(name):
 class Maker:
     """Makes the text of one program."""
 
-    # The names of numbers, which tell the types of the variables.
+    # The names of variables that hold numbers; a name tells the type of its variable.
     NAMES = NAMES
     # The functions that print a number, which every generated program contains.
     SHOW = SHOW

@@ -51,11 +51,13 @@ SIGNALS = (signal.SIGKILL, signal.SIGKILL, signal.SIGSTOP, signal.SIGTERM, signa
 GROWN = 64_000
 # The minimum number of honest answers in a minute; with fewer answers the test proves nothing.
 LEAST = 4
-# Where minutes do not count, the attack takes so many times as long at most.
+# A minute in which a run lacked processor time does not count. So the attack may take up to this
+# many times as long as planned.
 MOST = 2
-# The pause between two looks at who has the processors, in seconds; and the part of the clock of a place that a run must have had.
+# The seconds between two measurements of who used the processors; and the share of a run's time limit for which the server must
+# have had a processor.
 LOOK, PART = 0.1, 1 / 3
-# What is said of a run that the clock of a place ended.
+# The words in the message about a run that the server's time limit ended.
 STOPPED = "it took more than"
 TICKS = os.sysconf("SC_CLK_TCK")
 
@@ -90,7 +92,7 @@ class Meter:
         while not self.ended.wait(LOOK):
             now, new, spent_now = time.monotonic(), self.delays(), self.spent_by_others()
             waited_for = {it: delay - delays.get(it, 0) for it, delay in new.items()}
-            # A request waits for the server and for one process of its own at most.
+            # A request waits for the server process and for at most one process that runs it.
             children = max((it for number, it in waited_for.items() if number != self.process), default=0)
             others = max(0.0, spent_now - spent)
             lost = min(now - self.lost[-1][0], waited_for.get(self.process, 0) + children, others)
@@ -110,7 +112,8 @@ class Meter:
     def spent_by_others(self):
         """The seconds of all processors that neither this process, the server nor its processes had, and that were not idle."""
         with open("/proc/stat", encoding="ascii") as file:
-            # user, nice, system, idle, waiting, interrupts of two kinds, stolen
+            # the fields are times: user, nice, system, idle, waiting, interrupts of two kinds,
+            # stolen
             times = [int(it) / TICKS for it in file.readline().split()[1:9]]
         own = sum(spent_by(it) for it in (os.getpid(), self.process, *self.children()))
         return sum(times) - times[3] - times[4] - own
@@ -150,10 +153,11 @@ class Attacked:
     def answered(self, what, start, faults):
         """Notes the answer to an honest client, with what is wrong with it."""
         took = time.monotonic() - start
-        # The meter looks once more.
+        # The thread that measures processor time takes one more measurement during this pause.
         time.sleep(2 * LOOK)
         lost = self.meter.between(start, start + took)
-        # Where the clock of a place ended a run, the run had no more than a part of it.
+        # If the server's time limit ended a run that had the processor for only a part of this
+        # limit, then the run was starved.
         starved = [it for it in faults if STOPPED in it and lost > (1 - PART) * self.clock]
         late = [f"{what} took {took:.1f} s, and twice the clock is {2 * self.clock} s"] * (took > 2 * self.clock)
         with self.lock:

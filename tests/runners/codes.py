@@ -26,8 +26,8 @@ FAULTS = os.path.join(suite.ROOT, "crates", "cyc_words", "src", "fault.rt")
 ADVICE = os.path.join(suite.ROOT, "crates", "cyc_cli", "src", "advice.rt")
 NAMED = os.path.join(suite.ROOT, "crates", "cyc_rendering", "src", "named.rt")
 PAGES = os.path.join(suite.ROOT, "crates", "cyc_cli", "src", "pages.rt")
-# The parts of the documentation pages. Each part has the first code number after its codes, and a
-# description of the codes.
+# The parts of the documentation pages about the codes of refusals. Each part has the first code
+# number after its codes, and a description of the codes.
 PARTS = {
     "syntax": (20, "the codes of tokens and of the grammar"),
     "types": (40, "the codes of the typing rules"),
@@ -39,13 +39,14 @@ FIELDS = {"meaning", "place", "message", "line", "hint", "text", "at", "by", "ru
 HABITS = os.path.join(suite.ROOT, "docs", "habits.txt")
 HABITS_CODE = os.path.join(suite.ROOT, "crates", "cyc_cli", "src", "habits.rt")
 HABIT_FIELDS = {"code", "before", "at", "expected", "hint", "text", "place"}
-# The kinds of words that may stand for a list of words in a description of a habit.
+# The names of classes of words that may replace a list of words in the table of programmers'
+# habits.
 KINDS = ("any", "number", "marked", "name", "call", "method", "wide")
 # The table of codes in docs/LANGUAGE.md, from its header to the empty line after it.
 HEAD = "| Code | What it means | Its place | Smallest text |\n|---|---|---|---|\n"
 PART = re.compile(r'"([^"]*)"(?: \* (\d+))?')
-# The prefix of a source line on a page, which belongs to `breaks` or `mended`; and the pattern of a line
-# that is repeated several times.
+# The prefix of a source line on a page, in the field `breaks` (the rejected text) or `mended` (the
+# corrected text); and the pattern of a line that is repeated several times.
 LINE = "  | "
 REPEATED = re.compile(r"(.*\S) +\((\d+) times\)")
 MANY = "A line below that ends with (N times) stands N times, with the number of the copy in place of #."

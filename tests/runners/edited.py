@@ -226,7 +226,8 @@ int main() {
   return sum(one, *v) + pair->left + total + (none == NULL);
 }
 """
-# A text that declares one name of the library itself, and uses others.
+# A program text that declares one function of the library itself, and uses other names of the
+# library.
 USES = """int is_digit(int c) { return c; }
 int main() {
   struct Int_list *list = push_int(heap_region, 3, NULL);
@@ -612,7 +613,8 @@ def has(wanted, got):
     return wanted == got
 
 
-# The file that writes the last line, and in it the first words of each.
+# The source file that writes the last line of a command's output, and the pattern of the first
+# words of each such line.
 ANSWERS = os.path.join(suite.ROOT, "crates", "cyc_host", "src", "answer.rt")
 LAST_WORDS = re.compile(r'Answer::\w+(?:\(\w+(?:, \w+)*\))? => (?:\{\s*let [^;]*;\s*)?(?:f\.write_str\(|write!\(f, )"([a-z]+(?: [a-z]+)*)')
 

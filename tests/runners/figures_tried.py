@@ -16,7 +16,8 @@ sys.path.insert(0, BENCH)
 import pairs as bench_pairs
 
 # Three samples of the processes during a gate, one second apart. The samples contain two checks of one crate in parallel, one of them with
-# a helper process, and a wrong body. The samples also contain a proof that ends, a proof whose parent has ended, and an unrelated check.
+# a helper process, and the check of a wrong function body. The samples also contain a proof that ends, a proof whose parent has ended, and
+# an unrelated check.
 LOOKS = """\
 100 1 5 0.2 python3 /usr/local/bin/rt ci
 101 100 10 3.0 /opt/bin/rattle build --crate-name low src/lib.rt -o /x/low.rlib

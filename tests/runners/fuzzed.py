@@ -31,7 +31,8 @@ import image_makers
 import in_trees
 
 MINUTES = 1
-# The maximum size of a text or an image in bytes; the next limit is the number of copies of a part.
+# The maximum size of a text or an image in bytes. The next limit is the number of copies of a part
+# of an input.
 MOST_BYTES = 200_000
 MOST_COPIES = 3_000
 MOST_CHANGES = 6

@@ -36,7 +36,7 @@ EVERY = 1.0
 # every LOOKS_A_SIZE samples.
 LOOKS_A_TABLE, LOOKS_A_SIZE = 20, 4
 PARTS = ("proof", "tests", "wrong bodies")
-# The parts that `rt ci` runs in parallel; their memory use is recorded.
+# The kinds of work (proofs and tests) that `rt ci` runs in parallel; their memory use is recorded.
 MEASURED = PARTS[:2]
 TICK = os.sysconf("SC_CLK_TCK")
 
@@ -87,8 +87,8 @@ def part_of(words):
     crate = words[words.index("--crate-name") + 1]
     if "--test" in words:
         return crate, PARTS[1]
-    # A proof writes a library or a checked program, whereas the check of a wrong body writes no
-    # file.
+    # A proof writes a library or a checked program, whereas the check of a wrong function body
+    # writes no file.
     return crate, PARTS[0] if "-o" in words else PARTS[2]
 
 
@@ -97,10 +97,11 @@ class Account:
 
     def __init__(self, root):
         self.root = root
-        # the processes below the first one at the last sample; a process number may be reused, but not with the same start
-        # time
+        # the descendants of the first process at the last sample; a process number may be reused, but not with the same
+        # start time
         self.known = set()
-        # for each crate and part: the processor seconds of each process, and the elapsed seconds
+        # for each crate and kind of work (proof, tests or wrong bodies): the processor seconds of
+        # each process, and the elapsed seconds
         self.spent = {}
         self.lasted = {}
         # for each check: the largest total memory, in bytes, that its processes took in any sample

@@ -45,8 +45,9 @@ LISTED_AT_MOST = 5_000
 # The number of images that one test process tries, one after another.
 SHARE = 25
 EXAMPLES = os.path.join(suite.ROOT, "examples")
-# The tools whose results for instructions are compared with the program's, in addition to the
-# reference interpreter.
+# The external tools, an emulator and a disassembler, whose results for machine instructions are
+# compared with the results of the program under test. The reference interpreter's results are
+# compared too.
 QEMU = "qemu-mips"
 BESIDE = (QEMU, objdump.OBJDUMP)
 INSTRUCTIONS_AT_MOST = 10_000_000

@@ -66,8 +66,8 @@ def plant(tree):
         with open(path, encoding="utf-8") as file:
             text = file.read()
         for name, (answer, _) in {} if f"/{PROGRAM}/" in path else dict(left).items():
-            # The body of a function begins after its clauses, at the first line that is only an opening brace or that ends
-            # the signature.
+            # The body of a function begins after its contract clauses, at the first line that is only an opening brace or
+            # that ends the signature.
             given = "text" if name in TEXTS else "image"
             head = re.search(rf"^pub fn {name}\b[^{{]*?\b{given}: &\[u8\](?:.*\n)+?(?:\{{|\) -> .* \{{)$", text, re.M)
             if head and left.pop(name):

@@ -340,7 +340,8 @@ def like_gcc(server, example):
     return [] if got == wanted else [suite.difference(example["name"], wanted, got)]
 
 
-# The most lines of a listing. A stand-in for the program notes its words.
+# The maximum number of lines of a listing. The stand-in for the program that is defined here
+# records the arguments of its command line.
 LISTED = 4_000
 NOTING = """#!/bin/sh
 echo "$*" >> "{folder}/words"
@@ -401,8 +402,8 @@ def does_not_read(program, page):
             it.sendall(post("/run", {"source": PRINTING}))
         time.sleep(1)
         faults += served(server, SHORT, "among clients that do not read")
-        # The test waits for four addresses with four runs each on two places, plus some seconds for the
-        # output that nobody reads.
+        # The test waits for four runs of each of four client addresses, of which the server executes
+        # two at once. The test adds some seconds for the output that nobody reads.
         faults += waited("the end of all that nobody reads", lambda: not server.children(), (len(held) / RUNS + 2) * SHORT + SPARE)
         for it in held:
             it.close()

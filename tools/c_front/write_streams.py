@@ -5,7 +5,8 @@ from .text import POSTFIX, X, join
 from .tree import Node, has_effect
 from .write_statements import StatementWriter
 
-# Where a call has its stream, and the standard one that it does something with.
+# For each C library function on streams: the index of its stream argument, and the standard stream
+# on which the function has an effect.
 STREAM_AT = {"putc": 1, "fputc": 1, "getc": 0, "fgetc": 0, "ungetc": 1, "fputs": 1, "fgets": 2, "fprintf": 0, "fflush": 0, "setbuf": 0,
              "setvbuf": 0, "feof": 0, "ferror": 0, "fclose": 0}
 STANDARD = {"putc": "stdout", "fputc": "stdout", "getc": "stdin", "fgetc": "stdin", "ungetc": "stdin", "fputs": "stdout",

@@ -1,4 +1,4 @@
--- The order of lines that the assembler chooses contains each line once, and the labelled machine behaves as with the original order.
+-- The order of code lines that the assembler chooses contains each line once, and the labelled machine behaves as with the original order.
 use Rattle.std.proofs.Common.{◌≡◌, ℕ, zero, suc, ◌+◌, ◌-◌, ◌<◌, List, [], length, nat_le, Bool, true, false, cond, not, Option, None, Some, refl, sym, ap, subst, ◌∙◌, arith, inl, inr}
 use Rattle.std.specs.Prelude.{◌&&◌, All, slice_get, flat_map}
 use Rattle.std.specs.List.{swap, range_with_len}
@@ -200,7 +200,7 @@ permutes_before code count = (keeps_before [] code count).permutes
 pub permutes : (code : List Line) → IsPermutation code (arranged code)
 permutes code = permutes_before code (length code)
 
--- A reordering of lines leaves the set of used labels unchanged.
+-- A reordering of lines leaves the set of labels to which lines jump unchanged.
 pub still_named : (code order : List Line) (named : List Bool) → IsPermutation code order → AreNamed code (length code) named → AreNamed order (length order) named
 still_named code order named permutes are = record {
   long = are.long ∙ sym (length_permutation code order permutes);
@@ -231,7 +231,8 @@ same_addresses code other addresses long points places = record {
   below = λ line inside. places.below line (omega (arith, inside, long));
 }
 
--- Words that represent some code also represent any code with equal size, equal return points and an equal order of lines.
+-- Words that represent some code also represent any code with as many lines, equal return points and an equal greatest
+-- total number of words.
 text_as : (code other order : Labelled) (addresses : ℕ → ℕ) (words : List ℕ) → length other.lines ≡ length code.lines → Points code other → all_words other.lines ≡ all_words code.lines
     → IsTextInOrder code order addresses words → IsTextInOrder other order addresses words
 text_as code other order addresses words long points most text = record {

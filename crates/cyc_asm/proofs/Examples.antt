@@ -30,8 +30,8 @@ use Rattle.cyc_asm.specs.inside.Layout.{is_near, position}
 use Rattle.cyc_asm.specs.inside.Words.{jump_words, head_of_branch, head_in, round_words, words_filled, words_ordinary, words_in, assembled}
 use Rattle.cyc_asm.specs.inside.Machine.{start_in}
 
--- The words of these examples are worked out by hand from the architecture's manual. Each line is preceded by its number and followed by
--- the instruction in its delay slot.
+-- The words of these examples are worked out by hand from the architecture's manual. In the examples, each line is preceded by its line
+-- number and followed by the instruction in its delay slot.
 
 -- Example: register 8 counts down from 3. No delay slot is filled: a label stands at the first branch, and a call precedes the jump. A
 -- branch precedes each call and return, and the second branch tests the register set just before it.
@@ -62,8 +62,8 @@ counting_words : assembled counting ≡
     ∷ []
 counting_words = refl
 
--- Example: an instruction that writes register 8 moves into the slot of a branch on register 9 and of a jump, but not of a branch on
--- register 8. An instruction that reads the return address does not move into the slot of a call.
+-- Example: an instruction that writes register 8 fills the delay slot of a jump or a branch on register 9, but not on register 8. An
+-- instruction that reads the return address does not move into the delay slot of a call.
 abbrev moving : Labelled
 moving = record {
   lines =
@@ -120,8 +120,8 @@ calling_words : assembled calling ≡
     ∷ []
 calling_words = refl
 
--- Example: HI and LO are no registers that a branch tests, so `mult` and `mflo` move into its slot, unless `mflo` writes a tested
--- register. A branch after a branch, and a jump after a `syscall`, have empty slots.
+-- Example: branches do not test HI and LO, so `mult` and `mflo` move into a branch's delay slot, unless `mflo` writes a tested
+-- register. A branch after a branch, and a jump after a `syscall`, have empty delay slots.
 abbrev multiplying : Labelled
 multiplying = record {
   lines =
@@ -151,8 +151,9 @@ multiplying_words : assembled multiplying ≡
     ∷ []
 multiplying_words = refl
 
--- Example: two jumps to one label, each with its own instruction in its delay slot. The branch at the label has an empty slot. A jump
--- to an instruction that moved goes to the branch or jump after it. The three lines before the branch are unreachable.
+-- Example: two jumps to one label, each with its own instruction in its delay slot. The branch at the label has an empty delay slot.
+-- A jump to an instruction that moved into a delay slot goes to the branch or jump of this delay slot. The three lines before the
+-- branch are unreachable.
 abbrev meeting : Labelled
 meeting = record {
   lines =

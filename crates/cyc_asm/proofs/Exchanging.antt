@@ -1,5 +1,5 @@
 -- If two adjacent instructions are exchanged, the first of which may be moved past the second, labelled code behaves as before. The
--- machines run in lockstep; between the two lines, each has executed one of the instructions.
+-- machines of the original and the exchanged code run in lockstep; between the exchanged lines, each has executed one of the instructions.
 use Rattle.std.proofs.Common.{◌≡◌, ◌≢◌, ℕ, suc, ◌+◌, List, [], ◌∷◌, length, Bool, true, false, cond, Option, None, Some, refl, sym, ap, subst, ◌∙◌, arith, inl, inr, append-nil}
 use Rattle.std.specs.Prelude.{◌⊎◌, slice_get, sum_by, flat_map}
 use Rattle.std.proofs.lemmas.Bool.{cases_eq}
@@ -87,7 +87,8 @@ module _ (code : Labelled) (exchanged : List Line) (number : ℕ) (first second 
   abbrev below : Machine
   below = labelled.machine new_code addresses
 
-  -- `Between` relates the states of the two machines between the two exchanged lines.
+  -- `Between` relates the states of the machines for the original and the exchanged code, when each
+  -- has executed one of the two exchanged lines.
   record Between (c d : Configuration) : Type 0 where
     pub before : Configuration
     pub at : before.line ≡ number
@@ -273,7 +274,7 @@ module _ (code : Labelled) (exchanged : List Line) (number : ℕ) (first second 
   follows store calls input never =
       simulates above below matching matched (code_is_lawful new_code addresses) [] (labelled.start code store calls input) never (labelled.start new_code store calls input) refl (inl (refl, (λ same. omega (arith, same))))
 
-  -- If two ways to assign places to lines have equal costs for each line, they have equal costs for each run.
+  -- If two ways to assign code positions to lines have equal costs for each line, they have equal costs for each run.
   module _ (one other : ℕ → List ℕ) (same : (price : ℕ → ℕ) (line : ℕ) → sum_by price (one line) ≡ sum_by price (other line)) (from : labelled.State) (w : World) where
     sums : (price : ℕ → ℕ) (places : List ℕ) → sum_by (λ (p : ℕ). sum_by price (one p)) places ≡ sum_by (λ (p : ℕ). sum_by price (other p)) places
     sums price [] = refl

@@ -16,8 +16,8 @@ use Rattle.cyc_select.specs.inside.Machine.{Configuration}
 use Rattle.cyc_asm.specs.inside.Text.{text_of, IsAt, nothing}
 use Rattle.cyc_machine_model.specs.WorldMachine.{world_machine}
 
--- Returns the MIPS machine with a configuration's registers and memory and with this text, at address `counter`; `next` is
--- the address after it.
+-- Returns the MIPS machine with a configuration's registers and memory and with this text, at address `counter`; it
+-- continues at address `next`.
 abbrev pub world_at : List ℕ → Configuration → (counter next : ℕ) → (in_slot : Bool) → World
 world_at words c counter next in_slot = record {
   machine = record {
@@ -41,7 +41,7 @@ pub fetches : (words : List ℕ) (c : Configuration) (at next : ℕ) (in_slot : 
 fetches words c at next in_slot i here multiple =
     action_of-instruction (world_at words c at next in_slot).machine (word_of i) i (aligned_address at multiple) here.word (decodes_to i here.encodable)
 
--- An instruction whose effect involves no choice leads to exactly one next world.
+-- An instruction whose effect involves no choice leads to exactly one next state of the processor, memory and devices.
 pub goes_to : (words : List ℕ) (c c' : Configuration) (at next next' : ℕ) (in_slot in_slot' : Bool) (i : Instr) → IsAt words at i → at % 4 ≡ 0 → c'.output ≡ c.output → c'.input ≡ c.input
     → executes (world_at words c at next in_slot).machine i ≡ Does Ran (world_at words c' next next' in_slot').machine
     → (u : World) → Goes (world_at words c at next in_slot) u → u ≡ world_at words c' next next' in_slot'
@@ -53,7 +53,7 @@ goes_to words c c' at next next' in_slot in_slot' i here multiple output input d
     ∙ ap (λ (out : List ℕ). record v { output = out; input = c.input }) (sym output)
     ∙ ap (λ (from : List ℕ). record v { input = from }) (sym input)
 
--- A jump or branch with an empty delay slot takes two steps of the MIPS machine.
+-- A jump or branch with an empty delay slot takes two steps of the MIPS machine: its own and that of the delay slot.
 pub through : (words : List ℕ) (c c' : Configuration) (at target : ℕ) (i : Instr) → IsAt words at i → IsAt words (at + 4) nothing → at % 4 ≡ 0 → c'.output ≡ c.output → c'.input ≡ c.input
     → executes (world_at words c at (at + 4) false).machine i ≡ Does Ran (world_at words c' (at + 4) target true).machine
     → (Way Goal : World → Type 0) (places : List ℕ)

@@ -68,14 +68,14 @@ filled_moves i lines.Return may = (and_left (is_movable i) _ may, refl)
 
 -- ---- empty delay slots
 
--- If a line jumps to a label, the label is used.
+-- If a line jumps to a label, the label counts as one to which some line jumps.
 pub label_named : (code : List Line) (number label : ℕ) (line : Line) → slice_get code number ≡ Some line → label_of line ≡ Some label → is_named code label ≡ true
 label_named code number label line at goes =
     list_any_at (λ (l : Line). is_label label (label_of l)) code number line (slice_get_within code number line at)
     (ap (λ (l : Line). is_label label (label_of l)) (get_or_from_slice_get code number line line at)
     ∙ ap (is_label label) goes ∙ eq-eqb label label refl)
 
--- If a label is used, the delay slot of the line with this label is empty.
+-- If some line jumps to a label, the delay slot of the line with this label is not filled.
 pub named_empty : (code : List Line) (number label : ℕ) (line : Line) → slice_get code number ≡ Some line → label_of line ≡ Some label → filling code label ≡ None
 named_empty code number zero line at goes = refl
 named_empty code number (suc before) line at goes =
@@ -122,7 +122,7 @@ reached_after code number line at on reached =
     ap (λ b. is_unreached_after b code (suc number)) reached
     ∙ ap (λ b. not b && (not (is_named code (suc number)) && may_lack (fills_after code (suc number)) (slice_get code (suc number)))) (ap goes_on at ∙ on)
 
--- A line whose label is used is reachable.
+-- A line to which some line jumps is reachable.
 named_reached : (code : List Line) (number : ℕ) → is_named code number ≡ true → is_unreached code number ≡ false
 named_reached code zero named = refl
 named_reached code (suc before) named =
@@ -175,7 +175,7 @@ pub record IsMet (code : List Line) (number : ℕ) : Type 0 where
   pub empty : filling code number ≡ None
   pub reached : is_unreached code number ≡ false
 
--- A line whose label is used is reachable, and its delay slot is not filled.
+-- A line to which some line jumps is reachable, and its delay slot is not filled.
 pub named_met : (code : List Line) (number label : ℕ) (line : Line) → slice_get code number ≡ Some line → label_of line ≡ Some label → IsMet code label
 named_met code number label line at goes =
     record { empty = named_empty code number label line at goes; reached = named_reached code label (label_named code number label line at goes) }

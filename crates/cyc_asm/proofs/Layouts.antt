@@ -23,7 +23,7 @@ use Rattle.cyc_asm.specs.inside.Text.{stretch, own}
 use Rattle.cyc_asm.proofs.Fillings.{call_reached}
 use Rattle.cyc_asm.proofs.Stretches.{own-stretch, stretch-append}
 
--- If a number is below the number of lines, a line with this number exists.
+-- If an index is below the number of lines, a line with this index exists.
 pub line_there : (code : List Line) (number : ℕ) → number < length code → (line : Line) × (slice_get code number ≡ Some line)
 line_there code number below = (_, slice_get-get_or code number lines.Return below)
 
@@ -123,7 +123,7 @@ position-most code number within =
     let whole = between_lines code 0 (length code) (omega arith) (omega arith) in
     omega (arith, front.up, front.most, back.up, back.most, whole.most, all)
 
--- A line is at a lower position than a later return point, since the call before the return point takes words.
+-- A line is at a lower position than a later return point (a line directly after a call), since the call takes words.
 point_less : (code : Labelled) (a b : ℕ) → a < b → IsReturnPoint code b → position code.lines a < position code.lines b
 point_less code a b less point =
     let call : Line = lines.Call point.label in
@@ -144,7 +144,7 @@ position-below code number within =
     let back = between_lines code (suc number) (length code) (omega (arith, within)) (omega arith) in
     omega (arith, front, more, words_of-some line, back.up, back.most, most_before-all code)
 
--- The addresses of return points differ, and the addresses of all lines are in the text range.
+-- The addresses of return points (lines directly after calls) differ, and the addresses of all lines are in the text range.
 pub addresses_fit : (code : Labelled) → Fits code.lines → AreAddresses code (addresses_in code.lines)
 addresses_fit code fits = record {
   apart = λ a b point_a point_b same. elim (cases_lt a b) [
@@ -160,7 +160,7 @@ addresses_fit code fits = record {
 }
 
 -- A label that is near a branch is within the reach of its offset. (Of the four words that a branch may
--- take, a near one takes at most two.)
+-- take, a near branch takes at most two.)
 pub near_below : (code : List Line) (from to : ℕ) (condition : Condition) → is_near code from to ≡ true → slice_get code from ≡ Some (lines.Branch condition to) → to < length code → from < to → position code to ≤ position code from + 32765
 near_below code from to condition near found in_to up =
     let line : Line = lines.Branch condition to in

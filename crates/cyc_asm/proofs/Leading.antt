@@ -1,5 +1,5 @@
--- The targets of returns, branches and jumps, and the worlds that match a configuration of labelled code. A branch or jump whose delay
--- slot is filled is executed before the instruction that fills it.
+-- The targets of returns, branches and jumps, and the states of the MIPS machine that match a configuration of labelled code. In the
+-- text, a branch or jump whose delay slot is filled is executed before the instruction that fills it.
 use Rattle.std.proofs.Common.{◌≡◌, ◌≢◌, ℕ, zero, suc, pos, ◌+◌, ◌%◌, ◌≤◌, ◌<◌, List, length, Bool, true, false, cond, not, nat_eq, Option, None, Some, refl, sym, ap, subst, ◌∙◌, arith, inl, inr}
 use Rattle.std.specs.Prelude.{◌⊎◌, ◌&&◌, slice_get}
 use Rattle.std.proofs.lemmas.Bool.{cases_eq, cases_lt, not-true}
@@ -46,7 +46,7 @@ use Rattle.cyc_asm.proofs.Fillings.{is_jump}
 
 -- ---- the target of a return
 
--- `Found` says that one of the first `count` return points is at this address, or that none is.
+-- `Found` says that one of the first `count` return points (lines directly after calls) is at this address, or that none is.
 abbrev Found : Labelled → (ℕ → ℕ) → (address count : ℕ) → Type 0
 Found code addresses address count =
     ((line : ℕ) × IsReturnPoint code line × (addresses line ≡ address)) ⊎ ((line : ℕ) → line < count → IsReturnPoint code line → addresses line ≢ address)
@@ -166,12 +166,12 @@ module _ (code : Labelled) (addresses : ℕ → ℕ) where
       sym (unwritten_stays c i RETURN_ADDRESS (and_left (is_movable i) (not (writes i RETURN_ADDRESS)) may) (not-true (writes i RETURN_ADDRESS) (and_right (is_movable i) (not (writes i RETURN_ADDRESS)) may)))
 
   module _ (words : List ℕ) where
-    -- Returns the MIPS machine's world that matches a configuration of labelled code.
+    -- Returns the state of the MIPS machine, its memory and its devices that matches a configuration of labelled code.
     abbrev pub placed : Configuration → World
     placed c = world_at words c (addresses c.line) (add_of (addresses c.line) 4) false
 
     -- `Between` relates states in the middle of a filled delay slot. The labelled machine has executed the instruction before the branch or
-    -- jump. The MIPS machine has executed the branch or jump and has this instruction in its delay slot.
+    -- jump. The MIPS machine has executed the branch or jump, and executes the instruction in the delay slot next.
     pub record Between (c : Configuration) (i : Instr) (line : Line) (w : World) : Type 0 where
       pub before : Configuration
       pub found : slice_get code.lines c.line ≡ Some line
@@ -193,7 +193,7 @@ module _ (code : Labelled) (addresses : ℕ → ℕ) where
     matched_seen None c w is = ap seen_of is
     matched_seen (Some i) c w (line, mid) = ap seen_of mid.is ∙ ap (λ (c : Configuration). labelled.seen_of (labelled.Running c)) (sym mid.did)
 
-    -- At a line whose delay slot is not filled, the matching world is at the address of the line.
+    -- At a line whose delay slot is not filled, the matching state of the MIPS machine is at the address of the line.
     pub at_empty : (c : Configuration) (w : World) → filling code.lines c.line ≡ None → w ≡ placed c → MatchesAs (filling code.lines c.line) c w
     at_empty c w empty is = subst (λ (o : Option Instr). MatchesAs o c w) (sym empty) is
 

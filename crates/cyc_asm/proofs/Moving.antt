@@ -35,7 +35,7 @@ use Rattle.cyc_asm.specs.inside.Slots.{is_movable, leaves}
 
 -- ---- the effect of the instruction
 
--- Returns the configuration after an instruction that calls no service.
+-- Returns the configuration after an instruction that makes no system call.
 abbrev pub did : Configuration → Instr → Configuration
 did c i = from_world (reported (world_of c) Ran (after (machine_of c) i)) (c.line + 1)
 
@@ -95,7 +95,7 @@ after_runs c (MoveFrom Low d) movable = refl
 after_runs c (MultiplyDivide op l r) movable = refl
 after_runs c (Arithmetic op d l r) movable = refl
 
--- The labelled machine performs a movable instruction if the machine has no reason to refuse it.
+-- The labelled machine performs a movable instruction if the machine has no reason to refuse it, such as a misaligned address.
 pub performs_did : (c : Configuration) (i : Instr) → is_movable i ≡ true → cause_of (machine_of c) i ≡ None → Performs c i (Running (did c i))
 performs_did c i movable allowed = (
   Ran,

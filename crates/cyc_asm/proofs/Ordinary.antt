@@ -1,4 +1,5 @@
--- An ordinary instruction has the same effect in the labelled machine and in the MIPS machine with text.
+-- An ordinary instruction has the same effect in the labelled machine and in the MIPS machine whose
+-- memory also contains the assembled text.
 use Rattle.std.proofs.Common.{◌≡◌, ℕ, ◌+◌, ◌*◌, ◌%◌, ◌≤◌, List, [], ◌∷◌, length, Bool, true, false, ◌||◌, cond, nat_le, Option, None, Some, refl, sym, ap, ◌∙◌, arith, inl, inr}
 use Rattle.std.specs.Prelude.{◌⊎◌, not, is_some, slice_index_or, if◌then◌else◌}
 use Rattle.std.proofs.lemmas.Bool.{or_cases}
@@ -38,13 +39,14 @@ module _ (words : List ℕ) (inside : text_base + 4 * length words ≤ text_end)
   abbrev memory_with : machines.Memory
   memory_with = record { text = text_of words; globals = c.globals; stack = c.stack; store = c.store }
 
-  -- `Known` says that an address that the labelled machine maps is mapped to the same place in the machine with text.
+  -- `Known` says that an address that the labelled machine maps is mapped to the same memory location if memory also
+  -- contains the assembled text.
   data Known (address : ℕ) : Type 0 where
     globals : (n : ℕ) → place_of (memory_of c) address ≡ InGlobals n → place_of memory_with address ≡ InGlobals n → Known address
     stack : (n : ℕ) → place_of (memory_of c) address ≡ InStack n → place_of memory_with address ≡ InStack n → Known address
     cells : (n : ℕ) → place_of (memory_of c) address ≡ InStore n → place_of memory_with address ≡ InStore n → Known address
 
-  -- Returns the place to which an address is mapped, by the word of text at the address and the range of the address.
+  -- Returns the memory location to which an address is mapped, from the word of text at the address and the range of the address.
   abbrev place_by : Option ℕ → (in_globals in_stack in_store : Bool) → (address : ℕ) → Place
   place_by found in_globals in_stack in_store address =
       cond (is_some found) (InText (word_number text_base address))
@@ -57,7 +59,7 @@ module _ (words : List ℕ) (inside : text_base + 4 * length words ≤ text_end)
   following : (base count address : ℕ) → text_end ≤ base → is_within base count address ≡ true → text_end ≤ address
   following base count address above within = grind (arith, above, within)
 
-  -- An address in a range above the text is mapped to the same place with the text and without it.
+  -- An address in a range above the text is mapped to the same memory location with the assembled text in memory and without it.
   range_known : (found : Option ℕ) (in_globals in_stack in_store : Bool) (address : ℕ)
       → place_of (memory_of c) address ≡ place_by None in_globals in_stack in_store address → place_of memory_with address ≡ place_by found in_globals in_stack in_store address
       → ((in_globals || (in_stack || in_store)) ≡ true → found ≡ None) → is_nowhere (place_of (memory_of c) address) ≡ false → Known address
@@ -96,7 +98,7 @@ module _ (words : List ℕ) (inside : text_base + 4 * length words ≤ text_end)
 
   -- ---- forbidden instructions
 
-  -- Returns the reason to refuse a load or a store at a place, if there is one.
+  -- Returns the reason to refuse a load or a store at a memory location, if there is one.
   abbrev cause_for : machines.Memory → (misaligned stores : Bool) → Place → Option Cause
   cause_for memory misaligned stores place = first_of (
       (false, causes.Unpredictable)
@@ -143,7 +145,7 @@ module _ (words : List ℕ) (inside : text_base + 4 * length words ≤ text_end)
   memory_cause at next in_slot LoadByte target base offset none known_there = cause_there (misaligned LoadByte base offset) false (place_address LoadByte (address base offset)) none known_there
   memory_cause at next in_slot StoreByte target base offset none known_there = cause_there (misaligned StoreByte base offset) true (place_address StoreByte (address base offset)) none known_there
 
-  -- If the machine without text does not refuse an instruction, the machine with text does not refuse it.
+  -- If the machine without the assembled text in memory does not refuse an instruction, the machine with the text does not refuse it.
   pub same_cause : (at next : ℕ) (in_slot : Bool) (i : Instr) → is_ordinary i ≡ true → cause_of (machine_of c) i ≡ None → cause_of (world_at words c at next in_slot).machine i ≡ None
   same_cause at next in_slot (Memory op t b h) ordinary none = memory_cause at next in_slot op t b h none (there op t b h none)
   same_cause at next in_slot (Immediate op t b h) ordinary none = none
@@ -164,13 +166,14 @@ module _ (words : List ℕ) (inside : text_base + 4 * length words ≤ text_end)
 
   -- ---- effects
 
-  -- `Shown` relates two worlds after an instruction: both are running, the lower one at this next address, or both runs are over.
+  -- `Shown` relates the states of the labelled machine and the MIPS machine after an instruction: both run on, the latter at
+  -- `next`, or both ended.
   abbrev pub Shown : (next : ℕ) → World → World → Type 0
   Shown next above below =
       ((above.machine.phase ≡ phases.Running) × (below ≡ world_at words (from_world above 0) next (add_of next 4) false))
       ⊎ ((end : End) × (above.machine.phase ≡ phases.Over end) × (below.machine.phase ≡ phases.Over end) × (seen_of below ≡ seen_of above))
 
-  -- `Matched` says that the labelled machine's action may emit an event that leads to a matching world.
+  -- `Matched` says that the labelled machine's action may emit an event after which the states of both machines match.
   abbrev pub Matched : (at next : ℕ) (in_slot : Bool) → Action → (event : Event) → machines.State → Type 0
   Matched at next in_slot above event s =
       (e : Event) × (t : machines.State) × Acts above (machine_of c) e t
@@ -235,7 +238,7 @@ module _ (words : List ℕ) (inside : text_base + 4 * length words ≤ text_end)
       let same = reported_same at next in_slot event (Ended end) s (machines.over (world_here at next in_slot).machine end) acts.0 acts.1 in
       inr (end, refl, ap (λ (w : World). w.machine.phase) same, ap seen_of same)
 
-  -- After the store has served a call, the worlds of the two machines match.
+  -- After the store (the heap of regions) has served a system call, the states of the labelled machine and the MIPS machine match.
   gone_on : (at next : ℕ) (in_slot : Bool) (answer : Answer) (store : StoreState) (event : Event) (s : machines.State) → event ≡ reported_by answer → s ≡ answered (with_store (world_here at next in_slot).machine store) answer
       → Shown next (reported (world_of c) (reported_by answer) (answered (with_store (machine_of c) store) answer)) (reported (world_here at next in_slot) event s)
   gone_on at next in_slot (Refused why) store event s same_event same_state =

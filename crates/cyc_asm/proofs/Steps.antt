@@ -55,7 +55,7 @@ module _ (code : Labelled) (addresses : ℕ → ℕ) (words : List ℕ) (text : 
     abbrev Goal : List ℕ → World → Type 0
     Goal places w = IsMatchedStep (above code addresses) world_machine (matching code addresses words) (labelled.Running c) places w
 
-    -- `May` says that the labelled machine may reach this state by executing the line.
+    -- `May` says that the labelled machine may reach this state by executing the given line.
     abbrev May : Line → labelled.State → Type 0
     May line next = labelled.Executes code addresses c line next
 
@@ -75,7 +75,7 @@ module _ (code : Labelled) (addresses : ℕ → ℕ) (words : List ℕ) (text : 
       on_the_way : (w : World) → seen_of w ≡ labelled.seen_of (labelled.Running c) → status_in w.machine.phase ≡ Running → Way w
       on_the_way w seen running = way_before (above code addresses) world_machine (matching code addresses words) (labelled.Running c) w running seen
 
-      -- If the MIPS world has reached the target, the step of the labelled machine is matched.
+      -- If the MIPS machine has reached the target, the step of the labelled machine is matched.
       arrived : (places : List ℕ) (c' : Configuration) (target : ℕ) → May line (labelled.Running c') → length c'.stack ≤ 1048576 → IsMet code.lines c'.line → target ≡ addresses c'.line
           → 0 < length places → Goal places (world_at words c' target (add_of target 4) false)
       arrived places c' target may few met is some = record {
@@ -85,7 +85,7 @@ module _ (code : Labelled) (addresses : ℕ → ℕ) (words : List ℕ) (text : 
         lighter = λ none. absurd (omega (arith, some, none));
       }
 
-      -- A step is matched by the execution of a jump and its empty delay slot.
+      -- A step of the labelled machine is matched if the MIPS machine executes a jump and its empty delay slot.
       by_jump : (count : ℕ) (c' : Configuration) (target : ℕ) (i : Instr) → IsAt words here i → IsAt words (here + 4) nothing
           → addresses (suc c.line) ≡ here + 4 * count → 2 ≤ count → c'.output ≡ c.output → c'.input ≡ c.input → length c'.stack ≤ 1048576
           → executes (world_at words c here (here + 4) false).machine i ≡ Does events.Ran (world_at words c' (here + 4) target true).machine
@@ -131,7 +131,7 @@ module _ (code : Labelled) (addresses : ℕ → ℕ) (words : List ℕ) (text : 
         let mine : filling code.lines (suc c.line) ≡ Some i = some ∙ ap (λ (x : Instr). Some x) one in
         (mine, filled code.lines (suc c.line) i mine)
 
-    -- The line after a branch is reachable, and its delay slot is not filled; so is the branch's target.
+    -- The line after a branch and the branch's target are reachable, and their delay slots are not filled.
     next_met : (condition : Condition) (label : ℕ) → slice_get code.lines c.line ≡ Some (lines.Branch condition label) → IsMet code.lines (c.line + 1)
     next_met condition label found =
         subst (IsMet code.lines) (let e : suc c.line ≡ c.line + 1 = omega arith in e) (after_met code.lines c.line (lines.Branch condition label) found refl refl reached)

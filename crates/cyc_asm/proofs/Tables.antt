@@ -59,7 +59,7 @@ pub position_low : (code : List Line) (positions : List ℕ) (number : ℕ) → 
 position_low code positions number fits is below =
     let at = position_at code positions number is below in omega (arith, at, position-low code number fits (omega (arith, below)))
 
--- A lookup with a default value finds the line at an existing number.
+-- Looking up a line by its index, with a default value, finds the line if the index is below the number of lines.
 pub line_here : (code : List Line) (number : ℕ) (d line : Line) → number < length code → get_or code number d ≡ line → slice_get code number ≡ Some line
 line_here code number d line below here = slice_get-get_or code number d below ∙ ap Some here
 
@@ -141,7 +141,7 @@ position_left_out code positions number is below = go (is_unreached code number)
         (λ same. omega (arith, same, here, next, position_by code number false reached, some))
         ∙ sym reached
 
--- The comparison of table entries says correctly if a branch is near its label.
+-- Comparing the greatest positions in the table says correctly if a branch is near its label.
 pub near_here : (code : List Line) (most : List ℕ) (number label : ℕ) (near b : Bool) → most ≡ most_of_each code → number < length code → label < length code
     → near ≡ (nat_le (get_or most label 0) (get_or most number 0 + MAX_REACH) && nat_le (get_or most number 0) (get_or most label 0 + MAX_REACH)) → near ≡ b
     → is_near code number label ≡ b
@@ -157,7 +157,7 @@ pub width_of_branch : (code : List Line) (number : ℕ) (d : Line) (condition : 
 width_of_branch code number d condition label b below here near =
     width_here code number d (lines.Branch condition label) below here ∙ ap (λ b. head_width (filling code number) + tail_width b) near
 
--- The branch or jump of a line found in a list is that of the line with this number.
+-- The machine instruction computed for a branch or jump that is looked up in the code is that of the line with this index.
 
 pub head_here : (code : List Line) (from number : ℕ) (d line : Line) → number < length code → get_or code number d ≡ line → head_in code from number (slice_get code number) ≡ head_of code from number line
 head_here code from number d line below here = ap (head_in code from number) (line_here code number d line below here)

@@ -41,8 +41,9 @@ fn words_of(alloc: Global, lines: &[Line]) -> Result<Vec<u32>, AllocError>
 ///
 /// The only error that `assemble` returns is lack of memory.
 pub fn assemble(alloc: Global, code: &Code) -> Result<Vec<u32>, Fault>
-    // The words represent the code. The instruction of each reachable line occurs once, and each label is its line's address. Each delay
-    // slot contains one of the three instructions before its branch or jump, or is empty. The text contains nothing else.
+    // The returned words represent the labelled code. The instruction of each reachable line occurs once, and each label is its line's
+    // address. Each delay slot contains one of the three instructions before its branch or jump, or is empty. The text contains nothing
+    // but the words of the code's lines.
     ensures means { IfOk result (λ words. IsTextOf code.now (addresses_of code.now) words.items) }
     // The MIPS machine that runs these words behaves as the labelled machine does.
     ensures runs { IfOk result (λ words. Runs code.now (addresses_of code.now) words.items) }

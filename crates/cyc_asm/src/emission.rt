@@ -118,8 +118,7 @@ fn head(lines: &[Line], most: &[u32], positions: &[u32], from: u32, number: usiz
     }
 }
 
-/// Appends the words after the branch or jump of line `number`: its delay slot, and for a far branch the jump that it skips, with the
-/// jump's slot.
+/// Appends the words after line `number`'s branch or jump: its delay slot, and for a far branch also the skipped jump with its delay slot.
 fn push_tail(
     words: &mut Vec<u32>,
     lines: &[Line],

@@ -140,8 +140,7 @@ fn is_filled(lines: &[Line], named: &[bool], number: usize) -> bool
     filling(lines, named, number).is_some()
 }
 
-/// Moves the instruction `count` lines further up down to the branch or jump at `number`, if it then fills the delay slot, which is empty
-/// otherwise.
+/// Moves the instruction `count` lines before `number` down to the branch or jump at `number`, if it then fills the empty delay slot there.
 fn try_past(lines: &mut [Line], named: &[bool], number: usize, count: usize)
     requires within { number < length lines.old }
     requires named { AreNamed lines.old (length lines.old) named.now }
@@ -166,8 +165,8 @@ pub(crate) fn is_ordinary(line: &Line) -> bool
     }
 }
 
-/// Moves an instruction past one or two lines down to the branch or jump at `number`, if it then fills the delay slot, which is empty
-/// otherwise. Most lines have no slot or a filled one and are skipped at once.
+/// Moves an instruction past one or two lines to the branch or jump at `number`, if it then fills the empty delay slot there. Most
+/// lines have no delay slot or a filled one and are skipped at once.
 pub(crate) fn settle(lines: &mut [Line], named: &[bool], number: usize)
     requires within { number < length lines.old }
     requires named { AreNamed lines.old (length lines.old) named.now }

@@ -29,7 +29,7 @@ fn passed(lines: &[Line], named: &[bool], number: usize) -> usize
     0
 }
 
-/// Moves an instruction's number past the next `count` numbers in the list, to just before line `number`.
+/// Moves an instruction's line index past the next `count` indices in the list, to just before line `number`.
 fn sink_number(numbers: &mut [usize], number: usize, count: usize) {
     for left in 0..count {
         let following = number.saturating_sub(count - left);
@@ -39,7 +39,7 @@ fn sink_number(numbers: &mut [usize], number: usize, count: usize) {
     }
 }
 
-/// Returns, for each line in the order of the text, its number in the labelled code.
+/// Returns, for each line in the order of the text, its index in the labelled code.
 fn numbers_in_order(alloc: Global, lines: &[Line], named: &[bool]) -> Result<Vec<usize>, AllocError>
     requires { AreNamed lines.now (length lines.now) named.now }
 {
@@ -56,12 +56,12 @@ fn numbers_in_order(alloc: Global, lines: &[Line], named: &[bool]) -> Result<Vec
     Ok(numbers)
 }
 
-/// Returns the number in the labelled code of a line in the new order.
+/// Returns the index that a line in the new order has in the labelled code.
 fn number_at(numbers: &[usize], number: usize) -> usize {
     numbers.get(number).copied().unwrap_or(0)
 }
 
-/// Appends, for each word of line `number` in the new order, which is reachable, the number of its source line.
+/// Appends, for each word of line `number` in the new order, which is reachable, the index of its source line.
 fn push_sources(
     sources: &mut Vec<usize>,
     numbers: &[usize],
@@ -130,7 +130,7 @@ fn sources_of(alloc: Global, lines: &[Line]) -> Result<Vec<usize>, AllocError>
     sources_in_order(alloc, &numbers, &arranged, &named)
 }
 
-/// Returns, for each word that `assemble` makes, the number of the line from which it comes. An empty delay slot, and the jump skipped
+/// Returns, for each word that `assemble` makes, the index of the line from which it comes. An empty delay slot, and the jump skipped
 /// by a far branch, come from the line of the branch or jump.
 ///
 /// The only error that `sources` returns is lack of memory.

@@ -1,5 +1,5 @@
 -- The search for the outermost region with the greatest cost. The results for the first elements of a list and for its remaining elements
--- give the result for the list. The same facts about costs are proved for tree nodes with lists as for lists, and for functions.
+-- give the result for the list. The facts about the costs of lists are also proved for typed tree nodes that hold lists, and for functions.
 use Rattle.std.proofs.Common.{◌≡◌, ℕ, ◌+◌, ◌<◌, ◌≤◌, ◌⊎◌, min, max, List, [], ◌∷◌, length, get_or, drop, Option, sym, ap, subst, ◌∙◌, inl, inr, arith}
 use Rattle.std.specs.Prelude.{slice_get, Contains}
 use Rattle.std.proofs.lemmas.Bool.{cases_lt}
@@ -25,7 +25,7 @@ use Rattle.cyc_bound.specs.inside.Reached.{AreReached}
 
 -- ---- lists
 
--- says that the greater of the cost found so far and the cost of the items from index i on is the cost of all items
+-- says that the greater of the cost found so far and that of a block's elements from index i on is the cost of the block
 abbrev pub ItemsLeft : Measure → (costs : List ℕ) → List ItemCode → (i most : ℕ) → Type 0
 ItemsLeft m costs js i most = (min too_many (max most (items_at_once m costs (items_of (drop i js)))) ≡ min too_many (items_at_once m costs (items_of js))) × (most ≤ too_many)
 
@@ -42,7 +42,7 @@ module _ (m : Measure) (costs : List ℕ) where
       ap (λ (x : Stmt). statement_at_once m costs (view_statement x)) is ∙ ap (λ (s : Statement). statement_at_once m costs s) (view_block r v)
       ∙ ap (λ (js : List ItemCode). items_at_once m costs (items_of js)) (sym same)
 
-  -- the cost of clauses with a default clause is the greater of the cost of the other clauses and the cost of the default clause
+  -- the cost of catch clauses with a default clause is the greater of the cost of the other clauses and the cost of the default clause
   clauses_with : (cs : List Clause) (default : Clauses) → clauses_at_once m costs (clauses_of cs default) ≡ max (clauses_at_once m costs (clauses_of cs NoClauses)) (clauses_at_once m costs default)
   clauses_with [] default = omega arith
   clauses_with (c ∷ cs) default = omega (arith, clauses_with cs default)

@@ -64,7 +64,7 @@ pub block_calls : (value : Stmt) (r : ℕ) (v : Vec ItemCode Heap) → value ≡
 block_calls value r v is items same =
     ap (λ (x : Stmt). statement_callees (view_statement x)) is ∙ ap statement_callees (view_block r v) ∙ ap (λ (js : List ItemCode). items_callees (items_of js)) (sym same)
 
--- the callees of the default clause come after those of the other clauses
+-- the functions called in the default clause come after those called in the other catch clauses
 clauses_with : (cs : List Clause) (default : Clauses) → clauses_callees (clauses_of cs default) ≡ clauses_callees (clauses_of cs NoClauses) ++ clauses_callees default
 clauses_with [] default = refl
 clauses_with (c ∷ cs) default =

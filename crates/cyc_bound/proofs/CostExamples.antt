@@ -21,8 +21,8 @@ cost_by program rounds m = run_cost program m (costs_after program m rounds)
 
 -- ---- `return 7;`
 
--- In this example the call costs 4 steps and the rest of its body 1, the statement 2, and its value 3. The last stack entry is the
--- end of `main`, which only an exception pops by a step of its own.
+-- In this example the call of `main` costs 4 steps, the rest of its body 1, the `return` statement 2, and the returned value 3.
+-- The last stack entry is the end of `main`, which only an exception pops by a step of its own.
 abbrev seven : Program
 seven = program (return (Number 7) ∷ [])
 
@@ -64,13 +64,13 @@ again_settles = refl
 abbrev loop : Program
 loop = program (while (Number 1) (Evaluate (Number 2)) ∷ return (Number 0) ∷ [])
 
--- example: the loop allocates nothing, so the pages of the program have a bound
+-- example: the loop of this program allocates nothing, so the pages of the program have a bound
 loop_pages : most_pages false (cost_by loop 1) ≡ 1
 loop_pages = refl
 
 -- ---- blocks
 
--- example: two arrays of 600 words each. By the rule, the program needs two pages plus one for the heap; the run needs two pages
+-- example: two arrays of 600 words each. By the rule for costs, the program needs two pages plus one for the heap; the run needs two pages
 abbrev arrays : Program
 arrays = program (execute (array OnHeap fat (Number 600) (Number 0)) ∷ execute (array OnHeap fat (Number 600) (Number 0)) ∷ return (Number 0) ∷ [])
 
@@ -116,7 +116,7 @@ in_a_region = block (DeclareRegion 2 0 ∷ made_by 0 ∷ made_by 0 ∷ [])
 abbrev region_each_turn : Program
 region_each_turn = program (while (Number 1) in_a_region ∷ return (Number 0) ∷ [])
 
--- example: no allocation outlasts the regions, and each iteration needs one page besides the heap's page
+-- example: no allocation outlasts the region that a loop opens and closes, and each iteration needs one page besides the heap's page
 each_turn_gives_back : cost_by region_each_turn 1 measures.Lasting ≡ 0
 each_turn_gives_back = refl
 
@@ -130,7 +130,7 @@ each_turn_blocks = refl
 each_turn_asks : demand (run region_each_turn [] 20) ≡ 2
 each_turn_asks = refl
 
--- example: the value `heap_region`, followed by the loop of the example above; the heap's handle may reach any `rnew`
+-- example: the value `heap_region`, followed by a loop that opens a region and allocates in it; the heap's handle may reach any `rnew`
 abbrev heap_handle : Program
 heap_handle = program (execute HeapRegion ∷ while (Number 1) in_a_region ∷ return (Number 0) ∷ [])
 

@@ -112,7 +112,7 @@ module _ (program : Program) (m : Measure) (costs : List ℕ) (counted : World �
   stores_at (Handle region) v focus stack e w h = tt
   stores_at (Key region) v focus stack e w h = tt
 
-  -- the cost bound holds after a value is stored and passed on
+  -- the cost bound holds after a value is stored and passed to the newest continuation
   stores_given : (place : Value) (v : Operand) (stack : List Entry) (e : Environment) (w : World) → t + A stack w ≤ k → B (stored_at place v (Given v) stack e w)
   stores_given place v stack e w h = stores_at place v (Given v) stack e w (gives_value v stack e w h)
 
@@ -467,7 +467,7 @@ module _ (program : Program) (m : Measure) (costs : List ℕ) (counted : World �
   choosing (Some false) first second stack e w one other = omega (arith, one)
   choosing None first second stack e w one other = tt
 
-  -- the cost of a loop; the cost has a bound only if all parts of the loop cost nothing
+  -- the cost of a loop; the cost has a bound only if the condition and the body of the loop cost nothing
   abbrev pub L : Expression → Statement → ℕ
   L condition body = loop_cost (t + (expression_cost m costs condition + statement_cost m costs body))
 

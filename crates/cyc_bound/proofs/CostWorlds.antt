@@ -1,4 +1,5 @@
--- Lemmas about the resources used by a world: allocating an object and opening a region add their costs, and no other change adds a cost.
+-- Lemmas about the resources used in a heap state: allocating an object and opening a region add their costs, and no other change adds a
+-- cost.
 use Rattle.std.proofs.Common.{◌≡◌, ℕ, zero, suc, ◌+◌, ◌≤◌, true, false, List, [], ◌∷◌, ◌++◌, set, reverse, Option, Some, None, refl, sym, ap, ◌∙◌, arith}
 use Rattle.std.specs.Prelude.{slice_get, ◌*◌}
 use Rattle.std.proofs.lemmas.Grind.{reverse_onto}
@@ -75,7 +76,7 @@ elements_size count kind = ap (λ (bytes : ℕ). size_of_bytes bytes) (bytes_of_
 
 -- ---- spent costs
 
--- the allocation site of region n, if the first region has the given site
+-- the allocation site (heap or region of a handle) of the blocks in region n, if the first region has the given site
 abbrev pub site_at : Site → ℕ → Site
 site_at site zero = site
 site_at site (suc n) = sites.Region
@@ -176,7 +177,7 @@ module _ (m : Measure) where
 
 -- ---- counting functions
 
--- Says that a function counts the resources used by a world: each change adds at most its cost.
+-- Says that a function counts the resources used in a heap state: each change of the heap state adds at most its cost.
 pub record Counts (m : Measure) (counted : World → ℕ) : Type 0 where
   pub opened : (sort : Sort) (w : World) → counted (opened_as sort w) ≤ counted w + sort_spent m sort
   pub closed : (w : World) (n : ℕ) (r : Region) → region_at w n ≡ Found r → counted (closed w n r) ≤ counted w

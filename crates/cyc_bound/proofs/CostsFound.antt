@@ -48,7 +48,7 @@ abbrev pub OperationsLeft : Measure → (costs : List ℕ) → List Operation �
 OperationsLeft m costs os i total =
     (min too_many (total + operations_cost m costs (operations_of (drop i os))) ≡ min too_many (operations_cost m costs (operations_of os))) × (total ≤ too_many)
 
--- says that the sum so far plus the cost of the fields from index i on is the cost of all fields; the number of bytes stays small
+-- says that the sum so far plus the cost of the fields from index i on is the cost of all fields; the bytes of the fields have a bound
 abbrev pub FieldsLeft : Measure → (costs : List ℕ) → Site → List ConvertedCode → (i total bytes : ℕ) → Type 0
 FieldsLeft m costs site cs i total bytes =
     (min too_many (total + fields_cost m costs site i bytes (arguments_of (drop i cs))) ≡ min too_many (fields_cost m costs site 0 0 (arguments_of cs))) × (bytes ≤ 16 * i)
@@ -56,8 +56,8 @@ FieldsLeft m costs site cs i total bytes =
 abbrev pub ItemsLeft : Measure → (costs : List ℕ) → List ItemCode → (i total : ℕ) → Type 0
 ItemsLeft m costs js i total = min too_many (total + items_cost m costs (items_of (drop i js))) ≡ min too_many (items_cost m costs (items_of js))
 
--- says that the greatest clause cost so far and the costs of the clauses from index i on give the
--- cost of all clauses; each tried clause costs a step
+-- says that the greatest catch clause cost so far and the costs of the clauses from index i on give
+-- the cost of all clauses; each tried clause costs a step
 abbrev pub ClausesLeft : Measure → (costs : List ℕ) → List Clause → (last i tried most : ℕ) → Type 0
 ClausesLeft m costs cs last i tried most = (min too_many (max most (tried + clauses_then m costs (drop i cs) last)) ≡ min too_many (clauses_then m costs cs last)) × (most ≤ too_many)
 
@@ -174,7 +174,7 @@ module _ (m : Measure) (costs : List ℕ) where
       turned : (step total result : ℕ) → result ≡ min too_many (1 * step + total) → result ≡ min too_many (total + step)
       turned step total result is = omega (arith, is)
 
-  -- the invariant of the clauses holds after the next clause, which is tried and possibly executed
+  -- the invariant on the costs of catch clauses holds after the next clause, which is tried and possibly executed
   pub clauses_next : (cs : List Clause) (last i tried most : ℕ) (c : Clause) (items caught next both more : ℕ) → i < length cs → c ≡ get_or cs i c → ClausesLeft m costs cs last i tried most
       → items ≡ min too_many (items_cost m costs (items_of c.items.items)) → next ≡ min too_many (1 * step_cost m + tried) → caught ≡ min too_many (caught_cost m c.number items)
       → both ≡ min too_many (next + caught) → more ≡ max most both → ClausesLeft m costs cs last (i + 1) next more
@@ -213,7 +213,7 @@ module _ (m : Measure) (costs : List ℕ) where
   then_capped [] last = omega arith
   then_capped (c ∷ cs) last = omega (arith, then_capped cs last)
 
-  -- the cost of clauses with a default clause, which comes after the other clauses
+  -- the cost of catch clauses with a default clause, which comes after the other clauses
   pub clauses_capped : (cs : List Clause) (default : Option Body) (last result : ℕ) → last ≡ min too_many (clauses_cost m costs (default_of default)) → result ≡ min too_many (clauses_then m costs cs last)
       → result ≡ min too_many (clauses_cost m costs (clauses_of cs (default_of default)))
   clauses_capped cs default last result one two =

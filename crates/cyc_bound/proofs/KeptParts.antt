@@ -1,4 +1,5 @@
--- The parts of a step create no handle of the heap and no key, and open no outermost region with a cost above the bound.
+-- The reads, writes and allocations of a step create no handle of the heap and no key. They also open no outermost
+-- region with a cost above the bound.
 use Rattle.std.proofs.Common.{◌≡◌, ℕ, suc, Bool, true, false, List, [], ◌∷◌, ◌++◌, length, reverse, Option, Some, None, refl, zero, ◌+◌, ◌<◌, ◌≤◌, set, sym, ap, subst, ◌∙◌, arith}
 use Rattle.std.specs.Prelude.{if◌then◌else◌, slice_get, nat_lt}
 use Rattle.std.specs.List.{AllByRecursion}
@@ -197,7 +198,7 @@ pointer_own operator first second = tt
 
 -- ---- costs
 
--- the total cost of regions open at the same time is at most their cost in sequence
+-- the cost of a statement's regions that are open at the same time is at most the cost of executing the whole statement
 module _ (m : Measure) (costs : List ℕ) where
   mutual
     statement_within : (s : Statement) → statement_cost m costs s < too_many → statement_at_once m costs s ≤ statement_cost m costs s

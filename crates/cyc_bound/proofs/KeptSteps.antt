@@ -41,7 +41,7 @@ use Rattle.cyc_bound.specs.inside.Remaining.{Anything, focus_delivers, stack_cos
 use Rattle.cyc_bound.specs.inside.Outermost.{IsOwn, IsOwnContent, IsOwnOperand, AreOwn, focus_own, IsOwnWorld, IsKeptFocus, IsKeptEntry, AreKept, IsKept}
 use Rattle.cyc_bound.proofs.KeptParts.{reverse_own, writes_own, blanks_own, all_blank, own_made, own_opened, own_closed, handle_own, own_created, own_freed, content_own, own_written, OwnResult, conversion_own, truth_own, unary_own, binary_own, count_own, pointer_own, items_within}
 
--- says that the items of a block begin with a lexical region
+-- says that the rest of a block begins with the declaration of a lexical region
 abbrev pub OpensIn : Items → Type 0
 OpensIn (MoreItems (DeclareRegion region number) items) = Unit {0}
 OpensIn items = ⊥

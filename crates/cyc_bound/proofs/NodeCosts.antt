@@ -1,4 +1,4 @@
--- The costs of tree nodes without lists, computed from the costs of their parts.
+-- The costs of typed tree nodes without lists, computed from the costs of their subtrees.
 use Rattle.std.proofs.Common.{◌≡◌, ℕ, ◌+◌, ◌*◌, max, List, Option, sym, ap, ◌∙◌}
 use Rattle.std.specs.Prelude.{option_map}
 use Rattle.std.specs.declared.boxed.Box.{Box}

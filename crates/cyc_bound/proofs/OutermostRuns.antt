@@ -73,7 +73,7 @@ module _ (m : Measure) where
   made_since (suc from) zero (x ∷ regions) r size there = omega arith
   made_since (suc from) (suc n) (x ∷ regions) r size there = made_since from n regions r size there
 
-  -- the cost since a region does not count allocations in the heap
+  -- the cost counted since a region was opened does not include allocations in the heap
   heap_since : (from : ℕ) (regions : List Region) (r : Region) → S (suc from) (set regions 0 r) ≡ S (suc from) regions
   heap_since from [] r = refl
   heap_since from (x ∷ regions) r = refl

@@ -36,7 +36,7 @@ use Rattle.cyc_bound.proofs.OutermostRuns.{since, IsRegional, Facts, Split, Outs
 
 -- ---- regions
 
--- says that the measure `ones` counts the blocks at a site, and that `sums` counts the words of these blocks
+-- says that the measure `ones` counts the blocks at an allocation site, and that `sums` counts the words of these blocks
 pub record AreBlocks (ones sums : Measure) (site : Site) : Type 0 where
   pub one : (size : ℕ) → block_cost ones site size ≡ 1
   pub all : (size : ℕ) → block_cost sums site size ≡ size
@@ -108,7 +108,7 @@ demand_split (sizes ∷ regions) classes = omega (arith, demand_split regions cl
 
 -- ---- runs that are over
 
--- a run that ended because the heap was full stays ended, whatever its limits
+-- a run that ended because the pages or calls exceeded a limit stays ended, whatever its limits
 over : (program : Program) (pages more limit count : ℕ) (output input : List ℕ)
     → limited_steps program pages limit count (Ended Full output input) ≡ limited_steps program more limit count (Ended Full output input)
 over program pages more limit count output input =
@@ -408,7 +408,7 @@ module _ (program : Program) (cost : Measure → ℕ) (input : List ℕ) where
     kept : (n : ℕ) → IsKept true measures.Openings (tables measures.Openings) (cost measures.Openings) (run program input n)
     kept n = run_kept program lasting tables cost facts input free measures.Openings (facts measures.Openings tt) n
 
-    -- no step of the run passes on a handle of the heap
+    -- no step of the run passes a handle of the heap to a continuation
     own_fits : (m : Measure) (s : State) → IsKept true measures.Openings (tables measures.Openings) (cost measures.Openings) s → FitsIn m s
     own_fits m (Running focus stack e w) h = go focus h.0.0
       where

@@ -1,4 +1,4 @@
--- Lemmas: the pages of regions by either rule, and all pages together.
+-- Lemmas: the number of pages of all regions, whether or not lexical regions free their blocks, and the number of all pages together.
 use Rattle.std.proofs.Common.{◌≡◌, ℕ, zero, suc, ◌+◌, ◌-◌, ◌<◌, ◌≤◌, ◌⊎◌, Bool, true, false, Option, Some, None, refl, sym, subst, inl, inr, arith}
 use Rattle.std.specs.Prelude.{◌==◌}
 use Rattle.std.proofs.lemmas.Bool.{cases_eq, eq-eqb, ne_eqb}
@@ -27,7 +27,7 @@ module _ (program : Program) where
   not_found_at_once m None other h = h
   not_found_at_once m (Some cost) other h = absurd (other cost refl)
 
-  -- the cost of things that may outlast regions decides if lexical regions free their contents
+  -- the cost of things that may outlast regions decides if lexical regions free everything that is allocated by a handle
   pub gives_by : (cost : ℕ) (o : Option ℕ) → o ≡ Some cost → IsFound program measures.Lasting o → GivesBack program (cost == 0)
   gives_by cost o is h = go (cases_eq cost 0)
     where

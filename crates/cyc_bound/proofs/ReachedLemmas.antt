@@ -12,7 +12,7 @@ use Rattle.cyc_bound.proofs.CallLemmas.{following}
 use Rattle.cyc_bound.proofs.WalkLemmas.{calls_at}
 
 module _ (program : Program) where
-  -- says that the search has visited the functions found before position `place`, with their callees found
+  -- says that the search has visited the functions found before index `place`, and has found the callees of these functions
   pub record IsWalked (marks : List Bool) (found : List ℕ) (place : ℕ) : Type 0 where
     pub marked : AreMarked marks found
     pub first : Contains found program.main
@@ -31,7 +31,7 @@ module _ (program : Program) where
     | inr more ↦ ap (λ (l : List ℕ). get_or l k 0) more ∙ get_or_before before f k less
   ]
 
-  -- noting a function adds no other function to those found
+  -- adding a function to the functions found adds no other function to them
   new_one : (before : List ℕ) (f : ℕ) (marks : List Bool) (after : List ℕ) → IsNoted before f marks after → (g : ℕ) → Contains after g → Contains before g ⊎ (f ≡ g)
   new_one before f marks after h g is = elim h.alike [
     | inl same ↦ inl (subst (λ (l : List ℕ). Contains l g) same is)
@@ -63,7 +63,7 @@ module _ (program : Program) where
         kept found f marked after h callee (w.closed k below callee before);
   }
 
-  -- says that the search is visiting a function and has noted its callees before index i
+  -- says that the search is visiting a function and has added its callees before index i to the functions found
   pub record IsAtPlace (function : ℕ) (callees : List ℕ) (i : ℕ) (marks : List Bool) (found : List ℕ) (place : ℕ) : Type 0 where
     pub walked : IsWalked marks found place
     pub less : place < length found

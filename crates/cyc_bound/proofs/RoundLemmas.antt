@@ -1,4 +1,5 @@
--- Rounds raise the costs of functions. The costs stay below all sufficient costs, and after n rounds they cover at least n nested calls.
+-- Each round of the computation raises costs of functions. The costs after a round stay below all sufficient costs, and after n rounds
+-- they cover at least n nested calls.
 use Rattle.std.proofs.Common.{◌≡◌, ℕ, suc, ◌+◌, ◌<◌, ◌≤◌, max, List, length, get_or, sym, ap, subst, ◌∙◌, inl, inr, arith}
 use Rattle.std.proofs.lemmas.Bool.{cases_eq, cases_lt}
 use Rattle.std.proofs.lemmas.List.{length-set, get_or-set_same, get_or-set_other, set_past}
@@ -49,14 +50,14 @@ module _ (program : Program) (m : Measure) where
 
   -- ---- one round
 
-  -- says that `AreRaised` holds for the functions before function i
+  -- says that a round of the computation has raised the costs of the functions before function i, as `AreRaised` requires
   pub record AreRaisedTo (before : List ℕ) (i : ℕ) (after : List ℕ) : Type 0 where
     pub all : length after ≡ length before
     pub more : Below before after
     pub next : (f : ℕ) → f < i → N before f ≤ get_or after f 0
     pub least : (others : List ℕ) → IsClosed program m others → Below before others → Below after others
 
-  -- raising the cost of any function keeps the invariant of a round
+  -- raising the cost of any function to the cost of its body keeps the invariant of a round of the computation
   pub to_same : (before : List ℕ) (i : ℕ) (after : List ℕ) (f : ℕ) → AreRaisedTo before i after → AreRaisedTo before i (raised program m after f)
   to_same before i after f h = record {
     all = length-set after f (max (get_or after f 0) (N after f)) ∙ h.all;

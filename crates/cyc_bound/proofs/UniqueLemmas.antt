@@ -25,7 +25,7 @@ blocks_some (suc (suc (suc (suc (suc (suc (suc (suc (suc zero))))))))) below = o
 blocks_some (suc (suc (suc (suc (suc (suc (suc (suc (suc (suc zero)))))))))) below = omega arith
 blocks_some (suc (suc (suc (suc (suc (suc (suc (suc (suc (suc (suc class))))))))))) below = absurd (omega (arith, below))
 
--- the number of pages of a size class is small, if its number of blocks is below the greatest counted value
+-- the number of pages of a size class is at most 2 ^ 51, if its number of blocks is below the greatest counted value
 few_pages : (class blocks : ℕ) → class ≤ greatest_class → blocks < too_many → pages_for class blocks ≤ 2 ^ 51
 few_pages class blocks below few =
     let in_page : blocks_in_page class ≤ 1024 = div-le_self 1024 (2 ^ class) in

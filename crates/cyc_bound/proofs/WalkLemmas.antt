@@ -41,7 +41,7 @@ module _ (program : Program) where
 
   -- ---- heights of functions
 
-  -- says that `height` is the height of a function computed from its first i callees
+  -- says that `height` is the height of a function (the length of its longest chain of calls) computed from its first i callees
   pub record IsSoFar (f : ℕ) (callees : List ℕ) (i height : ℕ) : Type 0 where
     pub some : 1 ≤ height
     pub few : height ≤ most_calls

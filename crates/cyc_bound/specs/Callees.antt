@@ -57,7 +57,7 @@ abbrev mutual
   operations_callees (ThenPointer o a os) = expression_callees a ++ operations_callees os
   operations_callees (ThenPointerPeek n o a os) = expression_callees a ++ operations_callees os
 
--- the functions that an optional value calls
+-- the functions that an optional expression calls, such as an initial value or a returned value
 abbrev pub value_callees : Option Converted → List ℕ
 value_callees None = []
 value_callees (Some c) = converted_callees c

@@ -1,7 +1,7 @@
 -- Upper bounds on the costs of a run, computed from a typed tree. A cost is the number of steps, or of regions or blocks of one kind. The
--- costs of consecutive parts are added. Of two alternatives the greater cost counts, and an array's element counts once for each possible
--- evaluation. A loop that costs anything has no bound; its cost is the greatest counted value. The definition of these costs is this
--- project's own choice.
+-- costs of subtrees that are executed one after another are added. Of two alternatives the greater cost counts, and an array's element
+-- counts once for each possible evaluation. A loop that costs anything has no bound; its cost is the greatest counted value. The
+-- definition of these costs is this project's own choice.
 use Rattle.std.specs.Prelude.{◌≡◌, ◌<◌, ◌≤◌, ℕ, zero, suc, ◌+◌, ◌*◌, ◌^◌, ◌==◌, if◌then◌else◌, min, max, List, [], map, length, Option, None, Some, get_or}
 use Rattle.cyc_words.specs.Demand.{class_of}
 use Rattle.cyc_types.specs.declared.typed.Kind.{Kind}
@@ -171,7 +171,7 @@ abbrev mutual
 
 -- ---- statements
 
--- the cost of an optional value
+-- the cost of an optional expression, such as an initial value; a missing expression costs nothing
 abbrev pub value_cost : Measure → (costs : List ℕ) → Option Converted → ℕ
 value_cost m costs None = 0
 value_cost m costs (Some c) = converted_cost m costs c
@@ -189,7 +189,7 @@ abbrev pub loop_cost : ℕ → ℕ
 loop_cost zero = 0
 loop_cost (suc turn) = too_many
 
--- the cost of the items of a catch clause, with the local that receives the exception's int
+-- the cost of the body of a catch clause, with the declaration of the local that receives the exception's int
 abbrev pub caught_cost : Measure → Option ℕ → (items : ℕ) → ℕ
 caught_cost m None items = 2 * step_cost m + items
 caught_cost m (Some number) items = 3 * step_cost m + items
@@ -206,7 +206,7 @@ abbrev mutual
   statement_cost m costs (Try s cs) = step_cost m + (statement_cost m costs s + clauses_cost m costs cs)
   statement_cost m costs s = 2 * step_cost m
 
-  -- the cost of one item of a block
+  -- the cost of one declaration or statement of a block
   pub item_cost : Measure → (costs : List ℕ) → Item → ℕ
   item_cost m costs (Execute s) = statement_cost m costs s
   item_cost m costs (Declare n t v) = step_cost m + value_cost m costs v

@@ -35,8 +35,7 @@ IsForPages false measures.Blocks = Unit {0}
 IsForPages false measures.Words = Unit {0}
 IsForPages gives_back m = ⊥
 
--- says that `cost` is the cost for a measure: the cost of regions open at the same time if regions free their
--- contents, otherwise the cost of a run
+-- says that `cost` is the cost for a measure: that of regions open at the same time if regions free their blocks, otherwise that of a run
 abbrev pub IsCost : Program → (gives_back : Bool) → Measure → ℕ → Type 0
 IsCost program true measures.Openings cost = IsAtOnce program measures.Openings cost
 IsCost program true measures.RegionBlocks cost = IsAtOnce program measures.RegionBlocks cost
@@ -55,12 +54,12 @@ AreCounted program gives_back cost =
 abbrev pub further_pages : (blocks words : ℕ) → ℕ
 further_pages blocks words = min blocks (2 * words / suc page_words)
 
--- the number of pages for the unique blocks of the first size classes
+-- the number of pages for the unique blocks of the first `classes` size classes
 abbrev pub unique_pages : (cost : Measure → ℕ) → (classes : ℕ) → ℕ
 unique_pages cost zero = 0
 unique_pages cost (suc class) = unique_pages cost class + pages_for class (cost (measures.Uniques class))
 
--- The number of pages of all regions: one first page for each region, and the further pages. If lexical regions free their contents, the
+-- The number of pages of all regions: one first page for each region, and the further pages. If lexical regions free their blocks, the
 -- pages of the heap and those of the regions open at the same time are added.
 abbrev pub most_region_pages : (gives_back : Bool) → (cost : Measure → ℕ) → ℕ
 most_region_pages true cost =

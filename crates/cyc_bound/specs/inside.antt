@@ -1,13 +1,13 @@
 -- an invariant about the active calls of a state
 pub mod UnderWay
--- the callees of parts of lists, and the contract of the search over calls
+-- the functions called in single elements of lists, and the contract of the search over chains of calls
 pub mod Parts
 pub mod Walk
 -- the remaining cost of a run in each of its states
 pub mod Remaining
--- the costs of parts of lists
+-- the costs of single elements of lists in typed trees
 pub mod ItemCosts
--- an invariant of programs whose lexical regions free their contents
+-- an invariant of programs whose lexical regions free all blocks allocated in them
 pub mod Outermost
 -- the rounds that compute the costs of functions
 pub mod Rounds

@@ -13,7 +13,7 @@ use crate::tree_costs::items_cost;
 use cyc_types::typed::{Body, Clause, Item, Stmt, TypedTree};
 use std::alloc::{AllocError, Global};
 
-/// Returns true if an item declares a lexical region.
+/// Returns true if an element of a block declares a lexical region.
 pub(crate) fn opens(item: &Item) -> bool
     ensures { result ≡ opens (view_item item.now) }
 {
@@ -56,7 +56,7 @@ fn statement_at_once(measure: Measure, costs: &[u64], statement: &Stmt) -> u64
     }
 }
 
-/// Returns the cost of the costliest outermost region inside an item that declares no region.
+/// Returns the cost of the costliest outermost region inside an element of a block that declares no region itself.
 #[cycle(at_once)]
 fn item_at_once(measure: Measure, costs: &[u64], item: &Item) -> u64
     ensures { result ≡ min too_many (item_at_once measure costs.now (view_item item.now)) }
@@ -71,7 +71,8 @@ fn item_at_once(measure: Measure, costs: &[u64], item: &Item) -> u64
     }
 }
 
-/// Returns the cost of the costliest outermost region of a block's items; a region is open to the end of its block.
+/// Returns the cost of the costliest outermost region among a block's declarations and statements; a region is open
+/// to the end of its block.
 #[cycle(at_once)]
 fn items_at_once(measure: Measure, costs: &[u64], items: &[Item]) -> u64
     ensures { result ≡ min too_many (items_at_once measure costs.now (items_of items.now)) }

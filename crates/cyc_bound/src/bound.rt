@@ -43,7 +43,7 @@ fn note_height(heights: &mut Vec<usize>, function: usize, height: usize)
     }
 }
 
-/// Returns the position of a function on a path, if the path contains it.
+/// Returns the index of a function on a path of calls, if the path contains it.
 fn place_on(path: &[usize], function: usize) -> Option<usize>
     ensures { IfSome result (λ place. (place < length path.now) × (get_or path.now place 0 ≡ function)) }
 {

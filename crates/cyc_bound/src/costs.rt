@@ -120,7 +120,7 @@ pub(crate) fn known_cost(costs: &[u64], function: usize) -> u64
     }
 }
 
-/// Returns the cost of the items of a catch clause, with the local that receives the exception's int.
+/// Returns the cost of the body of a catch clause, with the declaration of the local that receives the exception's int.
 pub(crate) fn caught_cost(measure: Measure, number: Option<usize>, items: u64) -> u64
     ensures { result ≡ min too_many (caught_cost measure number items) }
 {

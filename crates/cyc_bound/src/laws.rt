@@ -12,7 +12,7 @@ ghost use Rattle.cyc_bound.specs.Pages.{most_pages, AreCounted};
 ghost use Rattle.cyc_bound.specs.Steps.{IsOver};
 
 /// In no state of any run are more calls active than the longest chain of calls from `main` has functions. If the call limit is at least
-/// the length of the longest chain of calls from `main`, it is never exceeded. No run under such a limit ends as full because of calls.
+/// the length of the longest chain of calls from `main`, it is never exceeded. No run under such a limit ends with `Full` because of calls.
 pub fn calls_stay_within()
     ensures depth { (program : Program) (bound : ℕ) (input : List ℕ) (count : ℕ) → IsAtMost program program.main bound
         → depth (run program input count) ≤ bound }
@@ -36,7 +36,7 @@ pub fn steps_end()
 {}
 
 /// No state of any run requests more pages than the program's costs state. If the page limit is at least the number that the costs state,
-/// it is never exceeded. No run under such a limit ends as full because of pages.
+/// it is never exceeded. No run under such a limit ends with `Full` because of pages.
 pub fn pages_stay_within()
     ensures demand { (program : Program) (gives_back : Bool) (cost : Measure → ℕ) (input : List ℕ) (count : ℕ) → AreCounted program gives_back cost
         → demand (run program input count) ≤ most_pages gives_back cost }

@@ -1,5 +1,5 @@
 //! Finds a loop that prevents a bound, for the diagnostic: a loop whose iterations cost something. If lexical regions free their
-//! contents, the loop is one inside a region, or one that allocates on the heap or allocates a unique object. The search for the loop
+//! blocks, the loop is one inside a region, or one that allocates on the heap or allocates a unique object. The search for the loop
 //! is not verified.
 use crate::at_once::opens;
 use crate::callees::add_items;
@@ -75,7 +75,7 @@ fn default_loop(measure: Measure, costs: &[u64], default: &Option<Body>) -> Opti
     }
 }
 
-/// Returns the first function called by the items whose cost reaches the greatest counted value.
+/// Returns the first function, called in the given declarations and statements, whose cost reaches the greatest counted value.
 fn costly_callee(
     alloc: Global,
     costs: &[u64],
@@ -166,7 +166,7 @@ fn statement_inside(
     }
 }
 
-/// Returns the first loop that costs something among the items of a block; a region is open to the end of its block.
+/// Returns the first loop that costs something among the declarations and statements of a block; a region is open to the end of its block.
 fn loop_to_end(
     alloc: Global,
     tree: &TypedTree,

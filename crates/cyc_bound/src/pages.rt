@@ -162,7 +162,7 @@ fn region_pages(
 
 /// Returns a bound on the heap pages that any run of a program requests, for all inputs.
 ///
-/// A loop or cycle of calls in which nothing is opened or allocated does not prevent a bound. If lexical regions free their contents, a
+/// A loop or cycle of calls in which nothing is opened or allocated does not prevent a bound. If lexical regions free their blocks, a
 /// loop that opens and closes a region does not prevent a bound either. If memory runs out, `pages_of` returns an error.
 pub fn pages_of(alloc: Global, tree: &TypedTree) -> Result<PageBound, AllocError>
     ensures { IfOk result (λ bound. IsPageAnswer (view_program tree.now) bound) }

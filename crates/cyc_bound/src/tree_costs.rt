@@ -1,4 +1,4 @@
-//! Computes the cost of a typed tree: a traversal adds up the costs of its parts, from the costs of functions.
+//! Computes the cost of a typed tree: a traversal adds up the costs of its subtrees, from the costs of functions.
 ghost use Rattle.std.specs.Prelude.{◌≡◌, ◌≤◌, min, option_map};
 ghost use Rattle.cyc_types.specs.TypedTreeView.{view_expression, view_dereference, view_placement, view_initial, view_converted, view_side};
 ghost use Rattle.cyc_types.specs.TypedTreeView.{view_statement, view_item, view_function, arguments_of, operations_of, items_of, default_of};
@@ -332,8 +332,8 @@ pub(crate) fn items_cost(measure: Measure, costs: &[u64], items: &[Item]) -> u64
     with_steps(measure, 1, total)
 }
 
-/// Returns the cost of the clauses of a catch. Clauses are tried in order; then one clause is executed, or the part after all clauses.
-/// The cost is that of the costliest of these executions.
+/// Returns the cost of the clauses of a catch. Catch clauses are tried in order; then one clause is executed, or whatever follows the
+/// last clause. The cost of the clauses is that of the costliest of these executions.
 #[cycle(statements)]
 fn clauses_cost(measure: Measure, costs: &[u64], clauses: &[Clause], last: u64) -> u64
     ensures { result ≡ min too_many (clauses_then measure costs.now clauses.now last) }

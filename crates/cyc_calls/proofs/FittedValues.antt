@@ -75,7 +75,7 @@ found_later table n s h later = instance_at (noted_places table later) n (Some s
 usual_variable : (n : ℕ) (s : Region) → region_eq s Unique ≡ false → is_unique_for_variable (Variable n, s) ≡ false
 usual_variable n s h = h
 
--- Says how a region occurs at a variable whose region is already known: the known region stays in the table.
+-- If a region occurs at a region variable whose region is already recorded, the recorded region stays in the table.
 pub stands_known : (table : Table) (n : ℕ) (s known : Region) → slice_get table n ≡ Some (Some known) → region_eq s Unique ≡ false → Stands table table (Variable n) s known
 stands_known table n s known h other = record {
   noted = sym (ap (λ o. noted_at o n s table) h);

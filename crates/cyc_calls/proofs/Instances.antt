@@ -1,4 +1,5 @@
--- The table of first occurrences yields the regions that the rules define for the region variables of a signature.
+-- The table of the regions at the first occurrences of region variables yields the regions that the typing rules
+-- define for these variables.
 use Rattle.std.proofs.Common.{◌≡◌, ℕ, zero, suc, ◌+◌, ◌-◌, ◌<◌, ◌≤◌, Bool, true, false, cond, if◌then◌else◌, List, [], ◌∷◌, ◌++◌, map, replicate, drop, take, length, append-nil, get_or, slice_get, slice_index_or, unwrap_or, Option, Some, None, refl, sym, ap, ◌∙◌, arith}
 use Rattle.std.specs.List.{list_any, refill}
 use Rattle.std.proofs.lemmas.Bool.{eq-eqb}
@@ -44,7 +45,7 @@ noted_whole table ps =
     ∙ ap (take (length table)) (append-nil (noted_places table ps))
     ∙ take_all (length table) (noted_places table ps) (omega (arith, long))
 
--- The region that a table gives for a variable is the table's entry at the variable's number, or the heap.
+-- The region that a table gives for a region variable is the table's element at the variable's index, or the heap if none is recorded.
 pub instance_at : (table : List (Option Region)) (n : ℕ) (o : Option Region) (d : Region) → slice_get table n ≡ Some o → slice_index_or (instance_in table) n d ≡ unwrap_or o Heap
 instance_at [] n o d h = absurd (cc)
 instance_at (x ∷ xs) zero o d h = ap (λ y. unwrap_or y Heap) (same_Some x o h)

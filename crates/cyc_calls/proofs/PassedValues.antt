@@ -1,4 +1,4 @@
--- Facts about passed values, in loops over expressions, values and types.
+-- Lemmas about values passed to parameters or fields, for loops over expressions, values and types.
 use Rattle.std.proofs.Common.{◌≡◌, ℕ, zero, suc, not, ◌+◌, ◌≤◌, List, [], ◌∷◌, ◌++◌, length, map, take, drop, slice_get, option_map, Option, Some, None, Ok, refl, sym, ap, ◌∙◌, arith}
 use Rattle.std.specs.List.{list_any}
 use Rattle.std.proofs.lemmas.Bool.{eqb-true}
@@ -43,7 +43,7 @@ module _ (m : List Region) where
 
 -- ---- the demands on each value with an expression and a type
 
--- Says that `many` collects, for lists, the requirements that `one` states for each triple of elements.
+-- Says that `many` collects, for lists, the requirements that `one` states for each expression with its value and type.
 pub record Asks (one : Expression → typed.Expression → Ty → List Demand) (many : Expressions → List typed.Expression → List Ty → List Demand) : Type 0 where
   pub no_expressions : (as' : List typed.Expression) (ts : List Ty) → many NoExpressions as' ts ≡ []
   pub no_values : (es : Expressions) (ts : List Ty) → many es [] ts ≡ []

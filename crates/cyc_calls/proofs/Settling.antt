@@ -29,7 +29,7 @@ covered_settled known g p (r ∷ rs) h =
     let u = and_parts (is_live g r) (list_all (λ s. is_live g s) rs) h in
     rw u.0 (covered_settled known g p rs u.1)
 
--- If a fault is already known, then the function stops with that fault.
+-- If a fault is already known, then the checking function stops with that fault.
 pub stops_unless : {Y : Type 0} (e : Stop) (known : Option Fault) (y : Y) → Ends (Err e) known → Stops e (unless known y)
 stops_unless Memory known y h = absurd h
 stops_unless (Refused f) known y h = ap (λ o. unless o y) h

@@ -1,4 +1,4 @@
-//! A signature at a call: each region variable is replaced by the table's region with the variable's number.
+//! A signature at a call: each region variable is replaced by the region that the table has for this variable.
 ghost use Rattle.std.specs.Prelude.{◌≡◌, option_map, IfOk};
 ghost use Rattle.cyc_types.specs.Types.{substituted_region, substituted_ty};
 ghost use Rattle.cyc_types.specs.TypeView.{view_ty};

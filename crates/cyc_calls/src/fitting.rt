@@ -129,7 +129,7 @@ fn fits_type(table: &mut [Option<Region>], wanted: &Ty, of_type: &Ty) -> bool
     }
 }
 
-/// Returns true if the region of a value's outermost pointer outlives that of the parameter's type.
+/// Returns true if the region of a value's outermost pointer outlives that of the outermost pointer of the parameter's type.
 fn fits_outermost(
     scope: &Scope<'_>,
     table: &mut [Option<Region>],

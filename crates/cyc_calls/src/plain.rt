@@ -1,5 +1,6 @@
-//! Calls of plain signatures: each region of a parameter is a variable that occurs once. The regions of the values only have to be live,
-//! and no region is recorded. If the traversal finds anything else, the call is checked like a call of any other signature.
+//! Calls of plain signatures: each region of a parameter is a variable that occurs once. The regions of the values of such a call only
+//! have to be live, and no region is recorded. If the traversal finds a value that does not fit its parameter, the call is checked like
+//! a call of any other signature.
 ghost use Rattle.std.specs.Prelude.{◌≡◌, length, map, option_map, IsTrue, IfOk};
 ghost use Rattle.cyc_syntax.specs.inside.TreeView.{place_of_span, view_name, expressions_of};
 ghost use Rattle.cyc_types.specs.declared.region.Region.TheVariants.{Heap};
@@ -32,7 +33,7 @@ fn is_usual(scope: &Scope<'_>, region: Region) -> bool
     !same_region(region, Region::Unique) && scope.is_live(region)
 }
 
-/// Returns true if there are as many regions as wanted, and region variables may have all of them.
+/// Returns true if the two lists have equally many regions, and region variables may have all regions of the second.
 fn are_usual(scope: &Scope<'_>, wanted: &[Region], regions: &[Region]) -> bool
     ensures { IsTrue result → (length regions.now ≡ length wanted.now) × AreUsual scope.now regions.now }
 {
@@ -155,7 +156,7 @@ fn takes_all(scope: &Scope<'_>, parameters: &[Ty], values: &[Converted]) -> bool
     true
 }
 
-/// Returns true if a call of a function whose signature is plain has no fault.
+/// Returns true if a call of a function with a plain signature (each region of its parameters occurs only once) has no fault.
 pub(crate) fn is_taken(
     scope: &Scope<'_>,
     function: Ident,
@@ -180,7 +181,7 @@ fn shared(of_type: &Option<Ty>) -> Result<Option<Ty>, AllocError>
     }
 }
 
-/// Returns the node of a call without a fault, of a function whose signature is plain.
+/// Returns the node of a call without a fault, of a function with a plain signature (each region of its parameters occurs only once).
 #[inline(never)]
 pub(crate) fn taken(
     scope: &Scope<'_>,

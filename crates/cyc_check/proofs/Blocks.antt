@@ -1,4 +1,4 @@
--- How the code checks the items of a block, and the scope after them.
+-- How the code checks the declarations and statements of a block, and the scope after them.
 use Rattle.std.proofs.Common.{◌≡◌, ℕ, suc, ◌+◌, List, [], ◌∷◌, ◌++◌, Some, None, Ok, refl, sym, ap, subst, ◌∙◌, arith}
 use Rattle.std.proofs.lemmas.List.{append_assoc}
 use Rattle.cyc_syntax.specs.Symbols.{Place}
@@ -23,7 +23,7 @@ use Rattle.cyc_check.specs.inside.Inside.{Inside}
 use Rattle.cyc_check.proofs.Inside.{inside_itself, inside_through, inside_local, inside_opened, inside_region, inside_key, inside_after, inside_block, inside_labelled, numbered_as, left_numbered}
 use Rattle.cyc_expressions.proofs.Loops.{onto, with_front, regroup, onto_nothing}
 
--- `Walked` relates the nodes of the items checked so far and the current scope to the typing rules.
+-- `Walked` relates the typed trees of the declarations and statements checked so far, and the current scope, to the typing rules.
 pub record Walked (start now : Scope) (made : List ItemCode) (rest whole : Items) : Type 0 where
   pub gives : with_front view_item typed.MoreItems made (run (rule_items now rest)) ≡ run (rule_items start whole)
   pub inside : Inside start now
@@ -34,7 +34,7 @@ pub record Walked (start now : Scope) (made : List ItemCode) (rest whole : Items
 pub walk_starts : (g : Scope) (whole : Items) → Walked g g [] whole whole
 walk_starts g whole = record { gives = onto_nothing view_item typed.MoreItems (run (rule_items g whole)); inside = inside_itself g; numbers = refl; regions = refl; taken = refl }
 
--- After an item is checked, its declarations come first in the scope, before those of the outer scope.
+-- After a declaration or statement of a block is checked, the names that it declares come first in the scope, before those of outer scopes.
 inside_item : (n : Scope) (i : Item) (j : typed.Item) → Inside n (following_item n i j)
 inside_item n (Execute s) j = inside_after n s
 inside_item n (Local w x v) j = inside_local Ordinary x (declared_type j) n
@@ -47,7 +47,7 @@ inside_item n (Alias r w x y) j =
 inside_item n (DynamicRegion r k) j =
     inside_through n (with_region r n) (following_item n (DynamicRegion r k) j) (inside_region r n) (inside_local Ordinary k (Key (regions.Variable n.next_region)) (with_region r n))
 
--- After an item is checked, the numbers of its locals are used up in the scope.
+-- After a declaration or statement of a block is checked, the next free index of locals has grown by the number of its locals.
 local_item : (n : Scope) (i : Item) (j : typed.Item) → (following_item n i j).next_local ≡ n.next_local + one_item_locals i
 local_item n (Execute s) j = refl
 local_item n (Local w x v) j = omega arith
@@ -72,7 +72,7 @@ taken_item n (Region r h (Some k)) j = refl
 taken_item n (Alias r w x y) j = refl
 taken_item n (DynamicRegion r k) j = refl
 
--- If the typed tree of an item is known, the rules for a list that begins with it depend only on the remaining items.
+-- If the first declaration or statement of a list has a typed tree, the result for the list depends only on the list's rest.
 by_item : (n : Scope) (i : Item) (rest : Items) (j : typed.Item) → run (rule_item n i) ≡ Ok j → run (rule_items n (MoreItems i rest)) ≡ and_then (run (rule_items (following_item n i j) rest)) (λ js. Ok (typed.MoreItems j js))
 by_item n i rest j h = ap (λ o. and_then o (λ k. and_then (run (rule_items (following_item n i k) rest)) (λ js. Ok (typed.MoreItems k js)))) h
 

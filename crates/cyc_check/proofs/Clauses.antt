@@ -1,4 +1,4 @@
--- How the code checks the clauses of a `catch`.
+-- How the code checks the catch clauses of a `catch`.
 use Rattle.std.proofs.Common.{◌≡◌, ℕ, suc, ◌+◌, List, [], ◌∷◌, ◌++◌, Option, Some, None, Ok, Err, option_map, refl, sym, ap, subst, ◌∙◌, arith}
 use Rattle.std.proofs.lemmas.List.{append_assoc, append-nil}
 use Rattle.cyc_syntax.specs.declared.tree.Clause.{Clause}
@@ -24,12 +24,12 @@ use Rattle.cyc_check.proofs.Inside.{inside_itself, inside_through, inside_local,
 
 -- ---- one clause followed by others
 
--- Returns the first clause followed by the given clauses.
+-- Returns the first catch clause followed by the given catch clauses.
 abbrev put_after : typed.Clauses → typed.Clauses → typed.Clauses
 put_after (typed.Case n v r js cs) ds = typed.Case n v r js ds
 put_after cs ds = ds
 
--- Returns the result for a list of clauses from the parts of the first clause and the result for the following clauses.
+-- Returns the result for a list of catch clauses from the parts of the first one and the result for the following ones.
 abbrev assembled : Checked ℕ → Checked typed.Items → Option ℕ → ℕ → Checked typed.Clauses → Checked typed.Clauses
 assembled a b v r rest = and_then a (λ n. and_then b (λ js. and_then rest (λ ds. Ok (typed.Case n v r js ds))))
 
@@ -48,7 +48,7 @@ stopped_before_rest (Err g) b v r rest (stops.Refused f) h = h
 
 -- ---- all clauses
 
--- Returns the clauses checked so far, followed by the result for the remaining clauses.
+-- Returns the catch clauses checked so far, followed by the result for the remaining catch clauses.
 abbrev pub after_made : List ClauseCode → Checked typed.Clauses → Checked typed.Clauses
 after_made made checked = and_then checked (λ ds. Ok (view.clauses_of made ds))
 
@@ -60,8 +60,8 @@ regrouped_clauses : (made : List ClauseCode) (c : ClauseCode) (checked : Checked
 regrouped_clauses made c (Ok ds) = ap Ok (sym (clauses-append made c ds))
 regrouped_clauses made c (Err f) = refl
 
--- `CaughtSoFar` relates the clauses checked so far and the current scope to the typing rules. A
--- clause changes only the used numbers and names of the scope.
+-- `CaughtSoFar` relates the catch clauses checked so far and the current scope to the typing rules. A catch clause changes only three parts
+-- of the scope: the next indices of locals and of regions, and the region names declared so far.
 pub record CaughtSoFar (start now : Scope) (before : List ℕ) (made : List ClauseCode) (rest whole : Clauses) : Type 0 where
   pub gives : after_made made (run (rule_clauses now before rest)) ≡ run (rule_clauses start [] whole)
   pub same : now ≡ numbered_as start now
@@ -111,7 +111,7 @@ made_then_default : (made : List ClauseCode) (d : typed.Clauses) → then_defaul
 made_then_default [] d = refl
 made_then_default (c ∷ cs) d = ap (typed.Case c.tag c.number c.region (view.items_of c.items.items)) (made_then_default cs d)
 
--- Returns the clauses followed by the items of the default clause, whose region has the number `q`.
+-- Returns the catch clauses followed by the statements of the default clause, whose region has the index `q`.
 abbrev defaulted : Checked typed.Clauses → Checked typed.Items → ℕ → Checked typed.Clauses
 defaulted o items q = and_then o (λ ds. and_then items (λ ks. Ok (then_default ds (typed.Default q ks))))
 
@@ -137,11 +137,11 @@ first_after g x v is cs =
     ∙ ap (λ (k : ℕ). record (after_clauses (after_one g v is) cs) { next_local = g.next_local + (counted v + item_locals is + clause_locals cs); next_region = k }) r
     ∙ ap (λ (ns : List ℕ). record (after_clauses g (Case x v is cs)) { taken = ns }) (sym (append_assoc (clause_names cs) (item_names is) g.taken))
 
--- Returns the items of a default clause, as the typing rule checks them.
+-- Returns the typed declarations and statements of a default catch clause, as the typing rule checks them.
 abbrev pub default_items : Scope → List Clause → Items → Checked typed.Items
 default_items g cs is = run (rule_items (in_block (after_clauses g (clauses_of cs NoClauses))) is)
 
--- Returns the number of the exception that a clause catches, or its fault.
+-- Returns the index of the exception that a catch clause catches, or its fault.
 abbrev number_caught : Scope → List ℕ → Clause → Checked ℕ
 number_caught g before c = run (caught g (exception_among g.exceptions c.exception.name.number) before (view_name c.exception) (option_map view_name c.variable))
 

@@ -1,4 +1,4 @@
--- How the code collects the types of the locals that a typed body declares: item by item, clause by clause.
+-- How the code collects the types of the locals that a typed body declares, one statement, declaration or catch clause after the other.
 use Rattle.std.proofs.Common.{◌≡◌, ◌+◌, List, [], ◌∷◌, ◌++◌, Option, None, Some, refl, sym, ap, ◌∙◌, append_assoc}
 use Rattle.std.specs.declared.vec.Vec.{Vec}
 use Rattle.std.specs.declared.boxed.Box.{Box}
@@ -15,7 +15,8 @@ use Rattle.cyc_types.specs.TypedTreeView.{view_statement, items_of, default_of, 
 use Rattle.cyc_types.specs.Declarations.{declared_types, item_types, clause_types, caught_types}
 use Rattle.cyc_types.proofs.TypedTreeViewLemmas.{view_typed_try}
 
--- The types declared by clauses with a default clause are those of the clauses, followed by those of the default clause.
+-- The types of the locals that catch clauses with a default clause declare are those of the clauses, followed by those
+-- of the default clause.
 pub types_with_default : (cs : List Clause) (d : Clauses) → clause_types (clauses_of cs d) ≡ clause_types (clauses_of cs NoClauses) ++ clause_types d
 types_with_default [] d = refl
 types_with_default (c ∷ cs) d =

@@ -63,7 +63,7 @@ inside_after g s = record { locals = []; names = []; opened = []; same = refl }
 
 -- ---- leaving
 
--- Returns the scope `g` with the used numbers and the names of regions of the scope `n`.
+-- Returns the scope `g` with three parts of the scope `n`: the next indices of locals and of regions, and the region names declared so far.
 abbrev pub numbered_as : Scope → Scope → Scope
 numbered_as g n = record g { taken = n.taken; next_local = n.next_local; next_region = n.next_region }
 
@@ -74,6 +74,6 @@ left_numbered g n i =
     ∙ ap (λ (ns : List RegionName). record (numbered_as g n) { names = ns; regions = record g.regions { opened = drop (length (i.opened ++ g.regions.opened) - length g.regions.opened) (i.opened ++ g.regions.opened) } }) (drop_to_last i.names g.names)
     ∙ ap (λ (os : List Opened). record (numbered_as g n) { regions = record g.regions { opened = os } }) (drop_to_last i.opened g.regions.opened)
 
--- Leaving a scope keeps the regions in the order of their numbers.
+-- Leaving a scope keeps the regions in the order of their indices.
 pub order_left : (g n : Scope) → IsInOrder g → Inside g n → g.next_region ≤ n.next_region → IsInOrder (left_to (mark_of g) n)
 order_left g n o i le = subst IsInOrder (sym (left_numbered g n i)) (record { locals = o.locals; inside = omega (arith, o.inside, le) })

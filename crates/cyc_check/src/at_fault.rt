@@ -80,7 +80,8 @@ fn kept(given: Given<'_>) -> Option<ValueType> {
     }
 }
 
-/// Returns the type of an expression, as a used value or as a peek, or `None` if the expression is rejected.
+/// Returns the type of an expression, as a used value or as a peek (a read that moves no unique pointer).
+/// Returns `None` if the expression is rejected.
 pub fn value_type(
     scope: &mut Scope<'_>,
     expression: &Expr,
@@ -97,7 +98,7 @@ pub fn value_type(
     }
 }
 
-/// Returns the type of the content of an assignable expression, or `None` if the expression is rejected.
+/// Returns the type of the value stored where an assignable expression (lvalue) refers to, or `None` if the expression is rejected.
 pub fn place_type(scope: &mut Scope<'_>, expression: &Expr) -> Option<Ty> {
     match check_place(scope, expression, span_of(expression)) {
         Ok(found) => type_of_side(&found.side).share().ok(),

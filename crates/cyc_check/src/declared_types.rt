@@ -42,7 +42,7 @@ fn add_statement_types(statement: &Stmt, types: &mut Vec<Ty>) -> Result<(), Allo
     }
 }
 
-/// Appends the types of the locals that the items of a block declare to the list of types.
+/// Appends the types of the locals that the declarations and statements of a block declare to the list of types.
 #[cycle(declared)]
 pub(crate) fn add_item_types(items: &[Item], types: &mut Vec<Ty>) -> Result<(), AllocError>
     ensures { OnOk result (map view_ty types.new.items ≡ map view_ty types.old.items ++ item_types (items_of items.now)) }
@@ -53,7 +53,7 @@ pub(crate) fn add_item_types(items: &[Item], types: &mut Vec<Ty>) -> Result<(), 
     Ok(())
 }
 
-/// Appends the types of the locals that one item declares to the list of types.
+/// Appends the types of the locals that one declaration or statement declares to the list of types.
 #[cycle(declared)]
 fn add_one_item_types(item: &Item, types: &mut Vec<Ty>) -> Result<(), AllocError>
     ensures { OnOk result (map view_ty types.new.items ≡ map view_ty types.old.items ++ item_types (MoreItems (view_item item.now) NoItems)) }

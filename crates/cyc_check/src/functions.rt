@@ -18,7 +18,8 @@ use cyc_types::{Signature, typed};
 use cyc_words::Span;
 use std::alloc::{AllocError, Global};
 
-/// Returns the typed function with this signature, these items and this number of regions, whose body ends at this source position.
+/// Returns the typed function with this signature, these declarations and statements, and this number of regions. The function's
+/// body ends at the given source position.
 fn function_with(
     alloc: Global,
     signature: Signature,

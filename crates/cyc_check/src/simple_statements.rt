@@ -1,5 +1,5 @@
-//! Checks statements and items that contain only expressions: first their expressions, and then the requirements of the
-//! statement itself (`cyc_statements`).
+//! Checks statements and declarations that contain only expressions: first their expressions, and then the requirements
+//! of the statement itself (`cyc_statements`).
 ghost use Rattle.std.specs.Prelude.{◌≡◌, OnOk, IfOk, option_map};
 ghost use Rattle.cyc_syntax.specs.inside.TreeView.{place_of_span, view_name, view_type, view_expression};
 ghost use Rattle.cyc_syntax.specs.Trees.{Return, Swap, Throw, Evaluate};
@@ -48,7 +48,7 @@ pub(crate) fn check_evaluation(
     evaluation(scope.alloc(), span_of(expression), value)
 }
 
-/// Returns the typed statement of a swap of the contents of two assignable expressions.
+/// Returns the typed statement that swaps the values stored in two assignable expressions.
 pub(crate) fn check_swap(
     scope: &mut Scope<'_>,
     left: &Expr,
@@ -151,7 +151,7 @@ fn check_initial(
     }
 }
 
-/// Returns the typed item of a local's declaration; the local is in scope after it.
+/// Returns the typed declaration of a local; the local is in scope after it.
 pub(crate) fn check_local(
     scope: &mut Scope<'_>,
     written: &WrittenType,

@@ -1,4 +1,4 @@
-//! Checks statements, the items of blocks and the clauses of a `catch` by traversing them.
+//! Checks statements, the declarations in blocks and the clauses of a `catch` by traversing them.
 ghost use Rattle.std.specs.Prelude.{◌≡◌, [], ◌∷◌, Ok, OnOk, IfOk};
 ghost use Rattle.cyc_syntax.specs.inside.TreeView.{view_name, view_statement, view_item, items_of, clauses_of};
 ghost use Rattle.cyc_syntax.specs.Trees.{NoClauses};
@@ -108,7 +108,7 @@ fn check_body(scope: &mut Scope<'_>, statement: &Stmt) -> Result<Box<typed::Stmt
     Ok(body)
 }
 
-/// Checks a block with these items.
+/// Checks a block with these declarations and statements.
 #[cycle(statement)]
 fn check_block(scope: &mut Scope<'_>, items: &[Item]) -> Result<Box<typed::Stmt>, Stop>
     ensures gives { Gives view_boxed_statement result (and_then (run (rule_items (in_block scope.old) (items_of items.now)))
@@ -123,7 +123,7 @@ fn check_block(scope: &mut Scope<'_>, items: &[Item]) -> Result<Box<typed::Stmt>
     block_of(scope.alloc(), region, items)
 }
 
-/// Checks a labelled block with these items.
+/// Checks a labelled block with these declarations and statements.
 #[cycle(statement)]
 fn check_labelled(
     scope: &mut Scope<'_>,
@@ -144,7 +144,7 @@ fn check_labelled(
     block_of(scope.alloc(), region, items)
 }
 
-/// Checks the items of a block. The scope of the block stays open.
+/// Checks the declarations and statements of a block. The scope of the block stays open.
 #[cycle(statement)]
 pub(crate) fn check_items(scope: &mut Scope<'_>, items: &[Item]) -> Result<Vec<typed::Item>, Stop>
     ensures gives { Gives (λ v. typed_view.items_of v.items) result (run (rule_items scope.old (items_of items.now))) }
@@ -208,7 +208,7 @@ fn check_clauses(scope: &mut Scope<'_>, clauses: &[Clause]) -> Result<Vec<typed:
     Ok(all)
 }
 
-/// Checks a clause that follows clauses for the exceptions with these names, and adds the name of its exception.
+/// Checks a catch clause after those that catch the exceptions with these names, and adds the name of its own exception to them.
 #[cycle(statement)]
 fn check_clause(
     scope: &mut Scope<'_>,
@@ -235,7 +235,7 @@ fn check_clause(
     })
 }
 
-/// Checks the items of the default clause of a `catch`.
+/// Checks the declarations and statements of the default clause of a `catch`.
 #[cycle(statement)]
 fn check_default(scope: &mut Scope<'_>, items: &[Item]) -> Result<typed::Body, Stop>
     ensures gives { Gives (λ b. nodes.Default b.region (typed_view.items_of b.items.items)) result

@@ -94,7 +94,7 @@ pub fn image_fault(number: u32) -> &'static str {
 /// The reason why a run ended before its program did, with the limit that the run reached. `Display` writes the reason in words.
 #[derive(Clone, Copy)]
 pub enum Ending {
-    /// No handler caught the exception with this number.
+    /// No catch clause caught the exception with this number.
     Uncaught(u32),
     /// The run required more calls active at once than this limit allows.
     Calls(u32),

@@ -15,12 +15,12 @@ use cyc_machine::constants::{MAX_CALLS, MAX_PAGES, MIN_CALLS, MIN_PAGES};
 use cyc_words::Code;
 use std::alloc::Global;
 
-/// The store that a run uses.
+/// The heap store (allocator of regions and unique blocks) that a run uses.
 #[derive(Clone, Copy)]
 pub enum StoreKind {
-    /// A pool of pages, all of which are allocated at the start.
+    /// A heap store on a pool of pages, all of which are allocated at the start.
     Pages,
-    /// An array of words, which grows by a page when one more page is needed.
+    /// A heap store on an array of machine words, which grows by a page when one more page is needed.
     Plain,
 }
 
@@ -33,8 +33,8 @@ pub enum Request<'a> {
         is_json: bool,
     },
     /// `compile SOURCE -o IMAGE`: compiles the program in the file `source` to the file `image`, which carries the limits or, if `auto` is
-    /// true, the program's own bounds. If `places` names a file, the origins of the image's words are written to it. If `emit` names a
-    /// file, the text that is compiled is written to it.
+    /// true, the program's own bounds. If `places` names a file, the source positions from which the image's machine words originate are
+    /// written to it. If `emit` names a file, the text that is compiled is written to it.
     Compile {
         source: &'a str,
         image: &'a str,
@@ -86,7 +86,7 @@ pub enum Request<'a> {
         output: Option<&'a str>,
         is_check: bool,
     },
-    /// `pack TEXT`: prints the words that encode a text.
+    /// `pack TEXT`: prints the 32-bit words that encode a text.
     Pack {
         text: &'a str,
     },
@@ -95,8 +95,8 @@ pub enum Request<'a> {
 /// The greatest instruction budget of a run.
 pub const MOST_STEPS: u64 = 1_000_000_000_000;
 
-/// Returns the words to parse. Help on the command `help` is replaced by the help of `help` itself, since clap would take the word
-/// that requests help as the name of a command.
+/// Returns the words of the command line that are to be parsed. The function replaces help on the command `help` by the help of
+/// `help` itself, since clap would take the word that requests help as a command's name.
 fn words_read(words: &[String]) -> &[String] {
     match words {
         [_, name, asked] if name.as_str() == "help" && matches!(asked.as_str(), "-h" | "--help") =>

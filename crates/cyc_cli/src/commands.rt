@@ -378,7 +378,7 @@ const CHECK: Word = Word {
     help: "Write nothing, and say which files are not laid out so",
 };
 
-// The prover unfolds a table at its use, so the two tables of commands are in separate functions.
+// The prover unfolds a table at its use, so each of the two tables of commands is returned by a function of its own.
 fn first_commands() -> &'static [Plan] {
     FIRST_COMMANDS
 }
@@ -543,7 +543,7 @@ pub(crate) fn program<'a>(alloc: Global) -> Result<Command<'a>, AllocError> {
     Ok(program)
 }
 
-/// Returns the plan of the command with this name, if there is one.
+/// Returns the table entry of the command with this name, if there is one.
 fn plan_named(name: &str) -> Option<&'static Plan> {
     for plan in first_commands() {
         if plan.name == name {

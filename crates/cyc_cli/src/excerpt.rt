@@ -1,4 +1,4 @@
-//! This file shows a line of a text with a mark under one position.
+//! This file shows a line of a text with a mark under one source position.
 ghost use Rattle.std.specs.Prelude.{◌≡◌, Some, slice_get, option_map, ◌≤◌, ◌<◌, ◌+◌, flat_map};
 ghost use Rattle.std.specs.Fmt.{WritesOnOk};
 ghost use Rattle.std.specs.Str.{chars};
@@ -207,16 +207,16 @@ impl fmt::Display for Blank<'_> {
     }
 }
 
-/// The part of one line of a text around a position. `Display` writes two lines: the part, and a mark under the position.
+/// The part of one line of a text around a source position. `Display` writes two lines: this part, and a mark under the position.
 #[derive(Drop)]
 pub struct Excerpt<'a> {
-    /// Dots for the part omitted at the beginning of the line.
+    /// Dots, if bytes at the beginning of the line are omitted.
     pub lead: &'static str,
-    /// The bytes of the line before the position.
+    /// The shown bytes of the line before the source position.
     pub before: &'a [u8],
-    /// The bytes of the line from the position on.
+    /// The shown bytes of the line from the source position on.
     pub after: &'a [u8],
-    /// Dots for the part omitted at the end of the line.
+    /// Dots, if bytes at the end of the line are omitted.
     pub trail: &'static str,
 }
 
@@ -228,7 +228,7 @@ fn dots(left_out: usize) -> &'static str
     if left_out == 0 { "" } else { "..." }
 }
 
-/// Returns the beginning of the part that is shown around the position `place`, in a line of `len` bytes.
+/// Returns the index of the first byte that is shown around the byte index `place`, in a line of `len` bytes.
 fn window_start(len: usize, place: usize) -> usize
     requires { place ≤ len }
     ensures before { result ≤ place }

@@ -1,5 +1,5 @@
-//! In each row of a table of habits, the first group of words precedes the position of the fault, and the second group begins at this
-//! position. The third group names a token that fits at the position.
+//! In each row of a table of habits (usual mistakes), the first group of words precedes the position of the fault, and the second
+//! begins there. The third group of words in a row names a token that fits at the position of the fault.
 use crate::advice::hint;
 use crate::excerpt::line_at;
 use cyc_words::Code;
@@ -251,7 +251,7 @@ throw new~case & ~~ any ~~ any ~~ declare the exception: datatype exn { Failed; 
 struct ~~ any ~~ any ~~ declare the struct: struct P { int x; int y; };
 any ~~ call ~~ any ~~ declare the function: int f(int n) { return n; }, or compile --with lib/*.cyc if the library has it";
 
-/// A position in a text.
+/// A position in a source text, with the text around it and the tokens that could stand there.
 #[derive(Clone, Copy)]
 struct Place<'a> {
     /// The text before the position on its line.
@@ -312,7 +312,7 @@ fn begins_with_method(text: &[u8]) -> bool {
     }
 }
 
-/// Returns true if a text begins with one of the words.
+/// Returns true if a text begins with one of the given words, or with the form that `words` names, such as a call.
 fn begins_with(text: &[u8], words: &str) -> bool {
     match words {
         "any" => true,
@@ -382,7 +382,7 @@ fn ends_with_word(text: &[u8], word: &[u8]) -> bool {
     text.ends_with(word) && !is_joined(word.first(), text[..start].last())
 }
 
-/// Returns true if one of the words precedes a position.
+/// Returns true if one of the given words, or the form that `words` names, precedes a position of the text.
 fn stands_before(place: Place<'_>, words: &str) -> bool {
     let text = place.before;
     match words {

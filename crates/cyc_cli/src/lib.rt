@@ -1,5 +1,5 @@
 //! This crate has the texts that a user at a terminal writes and reads: the command line, the messages, and a source line with a mark
-//! under a position.
+//! under a source position.
 #![tactic(auto)]
 
 pub use advice::{Ending, image_fault, meaning};

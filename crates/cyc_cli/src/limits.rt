@@ -21,7 +21,7 @@ pub struct GivenLimits {
     pub(crate) calls: Option<u32>,
 }
 
-// The view through which contracts refer to both limits.
+// The view of given limits through which contracts refer to the limit on pages and the limit on calls.
 impl Model for GivenLimits {
     ghost use Rattle.cyc_cli.specs.inside.Limits.{Given, AreInRange};
 
@@ -45,8 +45,8 @@ fn capped(number: u32, cap: Option<u32>) -> u32
 }
 
 impl GivenLimits {
-    /// Returns both limits for a run that needs this many pages and calls: each limit is the need or the least allowed limit. Returns
-    /// `None` if the program needs more than the greatest allowed limit.
+    /// Returns both limits for a run that needs this many pages and calls: each limit is the greater of the need and the least
+    /// allowed limit. Returns `None` if the program needs more than the greatest allowed limit.
     pub fn for_needs(pages: u64, calls: u64) -> Option<GivenLimits>
         ensures { result ≡ limits_for pages calls }
     {

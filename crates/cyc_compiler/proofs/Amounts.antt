@@ -1,4 +1,5 @@
--- This file has facts about the program of a text: a bound on its weight, its properties beyond the typing rules, and its soundness.
+-- This file has facts about the program of a text: a bound on its weight (the number of tokens that its spelling needs), its
+-- properties beyond the typing rules, and its soundness.
 use Rattle.std.proofs.Common.{ℕ, ◌≤◌, List, length, arith}
 use Rattle.std.proofs.lemmas.List.{length-map}
 use Rattle.cyc_syntax.specs.TokenRule.{max_tokens}
@@ -15,11 +16,11 @@ use Rattle.cyc_soundness.specs.Sound.{IsSound}
 use Rattle.cyc_soundness.proofs.FormedLemmas.{typed_sound}
 use Rattle.cyc_front.specs.Front.{names_in, IsAcceptedText}
 
--- A text has at most as many symbols as tokens.
+-- The grammar symbols that are made from the tokens of an accepted text are no more than the largest number of tokens.
 symbols_few : (text : List ℕ) (p : Program) (a : IsAcceptedText text p) → length (symbols_of a.tokens) ≤ max_tokens
 symbols_few text p a = let tokens = length-map a.tokens (symbol_of (distinct_texts (texts_in a.tokens))) in omega (arith, tokens, a.has_tokens.within.count)
 
--- The weight of the typed program of a text is at most the number of its tokens.
+-- The weight of the typed program of a text (the tokens that its spelling needs) is at most the number of tokens of the text.
 pub accepted_weight : (text : List ℕ) (p : Program) (a : IsAcceptedText text p) → program_weight p ≤ length a.tokens
 accepted_weight text p a =
     let tree = program_lighter (names_in a.tokens) a.tree p a.typed in
@@ -27,12 +28,12 @@ accepted_weight text p a =
     let tokens = length-map a.tokens (symbol_of (distinct_texts (texts_in a.tokens))) in
     omega (arith, tree, symbols, tokens)
 
--- The weight of the typed program is at most `max_tokens`, the largest number of tokens of a text.
+-- The typed program's weight (the tokens that its spelling needs) is at most `max_tokens`, the largest number of tokens of a text.
 pub accepted_light : (text : List ℕ) (p : Program) → IsAcceptedText text p → program_weight p ≤ max_tokens
 accepted_light text p a =
     omega (arith, accepted_weight text p a, a.has_tokens.within.count)
 
--- The program of an accepted text has structs with few fields, and the numbers of its exceptions are 32-bit words.
+-- The program of an accepted text has structs with few fields, and the indices of its exceptions are 32-bit words.
 pub accepted_of_text : (text : List ℕ) (p : Program) → IsAcceptedText text p → IsOfTextProgram p
 accepted_of_text text p a =
     let words = text_constants text a.tokens a.has_tokens.rule a.has_tokens.within in

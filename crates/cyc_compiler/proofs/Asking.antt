@@ -19,18 +19,17 @@ use Rattle.cyc_compiler.specs.FullPreservation.{limited, DoesTheSame}
 use Rattle.cyc_compiler.specs.Asking.{RunWithin, AsksAtTheEnd}
 use Rattle.cyc_compiler.proofs.Preservation.{are_alike}
 
--- The world `w` with one more byte of input.
+-- The state `w` of the machine and its devices, with one more byte of input.
 abbrev longer : (b : ℕ) → World → World
 longer b w = record w { input = w.input ++ b ∷ [] }
 
--- If the given input has a byte, then the requested byte is the same in the longer input.
+-- If some input is left, then a requested byte is the same with this input and with the input extended by one byte.
 given_longer : (b : ℕ) (s : State) (output input : List ℕ) (old : State) → input ≢ []
     → longer b (reported (record { machine = old; output = output; input = input }) WantsByte s) ≡ reported (longer b (record { machine = old; output = output; input = input })) WantsByte s
 given_longer b s output [] old some = absurd (some refl)
 given_longer b s output (x ∷ input) old some = refl
 
--- An event has the same effect with the longer input as with the given input, unless the event requests the byte after
--- the given input's end.
+-- An event of the machine has the same effect with the longer input, unless it requests the byte after the end of the given input.
 reported_longer : (b : ℕ) (w : World) (event : Event) (s : State) → (event ≡ WantsByte → w.input ≢ []) → longer b (reported w event s) ≡ reported (longer b w) event s
 reported_longer b w Ran s within = refl
 reported_longer b w WantsByte s within = given_longer b s w.output w.input w.machine (within refl)

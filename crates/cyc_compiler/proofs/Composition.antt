@@ -69,7 +69,8 @@ module _ (p : Program) (lowered : PlainProgram) (code : Labelled) (addresses : â
       runs store calls input allowed.few_calls
       (follows-never_fails middle lines (lawful lowered pages calls) selected.before selected.own (plain.start lowered selected.base store input) (labelled.start code store calls input) second)
 
-  -- The words of the image that are executed before the first step of the source; below them, the words executed in one step.
+  -- The machine words of the image that are executed before the first step of the source. The next definition lists the words
+  -- executed in one step.
   abbrev words_before : List â„•
   words_before = flat_map (own addresses) (selected.before ++ flat_map selected.own [])
 
@@ -84,7 +85,7 @@ module _ (p : Program) (lowered : PlainProgram) (code : Labelled) (addresses : â
       (start p input) (plain.start lowered selected.base store input) (labelled.start code store calls input) first second)
       third
 
-  -- The words that are executed in one step are among the words of the text, each at most once.
+  -- The machine words that are executed in one step are among the words of the image's code, each at most once.
   bound : length words_before + length words_of_step â‰¤ length text
   bound =
       let all : flat_map (own addresses) (selected.before ++ flat_map selected.own (places_of lowered)) â‰¡ stretch text_base (length text) =

@@ -1,6 +1,6 @@
--- This file checks the computable parts of `IsImageOf` for an image of two words of text and one word of data. They are its form, its words
--- of text, that the machine has memory for it, its file, and that the file is read as the image. The remaining part of `IsImageOf`, that
--- the image has its program's meaning, concerns all runs.
+-- This file checks the computable parts of `IsImageOf` for an image of two words of code and one word of data. These parts are the image's
+-- form, its number of code words, the machine's memory for it, its file, and the reading of this file. The remaining part of `IsImageOf`,
+-- that the image has its program's meaning, concerns all runs.
 use Rattle.std.proofs.Common.{◌≡◌, ℕ, List, [], ◌∷◌, None, Ok, refl}
 use Rattle.cyc_elf.specs.Header.{field, program_header_at, headers_from}
 use Rattle.cyc_elf.specs.Note.{is_note, is_named, limits_at}
@@ -27,8 +27,8 @@ its_text = refl
 it_is_loadable : IsLoadable image
 it_is_loadable = refl
 
--- The bytes of the image's file: the file header, a program header for text and one for data, 8 bytes of text
--- from offset 116, and 4 bytes of data.
+-- The bytes of the image's file: the file header, a program header for the code and one for data, 8 bytes of
+-- code from offset 116, and 4 bytes of data.
 abbrev file : List ℕ
 file =
     127 ∷ 69 ∷ 76 ∷ 70 ∷ 1 ∷ 2 ∷ 1 ∷ 0 ∷ 0 ∷ 0 ∷ 0 ∷ 0 ∷ 0 ∷ 0 ∷ 0 ∷ 0 ∷ 0 ∷ 2 ∷ 0 ∷ 8 ∷ 0 ∷ 0 ∷ 0 ∷ 1 ∷ 0 ∷ 64 ∷ 0 ∷ 0

@@ -1,4 +1,5 @@
--- A compiled image keeps pace with its program: its number of instructions for n steps is bounded by the numbers of its text.
+-- A compiled image keeps pace with its program: the number of instructions that it executes for n steps is bounded by n and
+-- the number of tokens of the source text.
 use Rattle.std.proofs.Common.{ℕ, ◌+◌, ◌*◌, ◌<◌, ◌≤◌, List, length, arith}
 use Rattle.std.proofs.Math.Nat.{mul-le-mul_left}
 use Rattle.std.specs.List.{AllByRecursion}

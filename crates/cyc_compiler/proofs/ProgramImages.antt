@@ -1,5 +1,5 @@
--- This file is about the image of a compiled program after it is loaded: its words are in the text and data
--- ranges, as the labelled machine has them.
+-- This file is about the image of a compiled program after it is loaded: its words are in the memory's code
+-- and data ranges, where the machine for labelled code has them too.
 use Rattle.std.proofs.Common.{◌≡◌, ℕ, zero, suc, ◌+◌, ◌-◌, ◌*◌, ◌/◌, ◌^◌, ◌≤◌, ◌<◌, List, [], ◌∷◌, ◌++◌, length, true, false, cond, ◌&&◌, nat_le, nat_lt, max, Option, None, Some, refl, sym, ap, ◌∙◌, arith, inl, inr, length-append, get_or, map}
 use Rattle.std.specs.Prelude.{slice_index, replicate, unwrap_or, All, AllPairs, sum_by}
 use Rattle.std.specs.List.{range_with_len, AllByRecursion, list_any}
@@ -174,7 +174,7 @@ some_at [] k below = absurd (omega arith)
 some_at (w ∷ words) zero below = refl
 some_at (w ∷ words) (suc k) below = some_at words k (omega arith)
 
--- The machine in its initial state, with the image's text and data range.
+-- The machine in its initial state, whose code and data ranges hold the words of the image.
 abbrev started : Bounds → StoreState → (input : List ℕ) → (text : List (Option ℕ)) → (globals : List ℕ) → World
 started limits store input text globals = record {
   machine = record {
@@ -191,7 +191,7 @@ module _ (words globals : List ℕ) (note : Option (ℕ × ℕ)) (some : 0 < len
   abbrev segments : List SegmentContents
   segments = text_segment words ∷ data_segments globals
 
-  -- The number of words of text of a program's image is the number of its words of code.
+  -- The number of machine words in the code segment of a program's image is the number of words of the program's machine code.
   pub text_words-image : text_words (program_image words globals note) ≡ length words
   text_words-image =
       sum_by-cons (λ s. cond (lies_in_text s) (padded s.size / 4) 0) (text_segment words) (data_segments globals)
@@ -230,7 +230,7 @@ module _ (words globals : List ℕ) (note : Option (ℕ × ℕ)) (some : 0 < len
   unfolding globals_of
   data_at_start = data_laid globals_length few
 
-  -- The machine starts with these words in its text range and with the globals in its data range.
+  -- The machine starts with these words in its code range and with the globals in its data range.
   pub image_starts : (code : Labelled) (limits : Bounds) (store : StoreState) (input : List ℕ) → code.globals ≡ globals
       → start_world (program_image words globals note) limits store input ≡ assembled.start code words store limits.calls input
   image_starts code limits store input same =

@@ -30,8 +30,8 @@ use Rattle.cyc_compiler.proofs.Preservation.{are_alike}
 abbrev prints_first : Program
 prints_first = program (execute (print (Number 65)) ∷ return read_byte ∷ [])
 
--- The words of the image that reads first: service 1 reads a byte into register 16; service 2 prints A; service
--- 3 ends the run with the byte.
+-- The words of the image that reads first: system call 1 reads a byte into register 16; system call 2
+-- prints A; system call 3 ends the run with the byte.
 abbrev reads_first : ImageContents
 reads_first = program_image
     (0x24020001 ∷ 0x0000000c ∷ 0x00408021 ∷ 0x24040041 ∷ 0x24020002 ∷ 0x0000000c ∷ 0x02002021 ∷ 0x24020003 ∷ 0x0000000c ∷ []) [] None

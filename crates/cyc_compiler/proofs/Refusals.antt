@@ -86,7 +86,7 @@ module _ {X : Type 0} (Image : Program → X → Type 0) (p : Program) where
 -- ---- the same for a text
 
 module _ {X : Type 0} (Image : Program → X → Type 0) (text : List ℕ) where
-  -- The proof for a text that the front end accepts.
+  -- The proof of the compiler's contract for a text that the front end accepts.
   module _ (p : Program) (accepted : IsAcceptedText text p) (only : (q : Program) → IsAcceptedText text q → p ≡ q) (no_fault : (f : Fault) → HasFault text f → ⊥) where
     small_accepted : (result : Result X Fault) → IfOk result (λ x. (q : Program) × IsSmall p q × Image q x) → IfOk result (λ x. (q : Program) × IsCompiledText text q × Image q x)
     small_accepted (Ok x) (q, (same, small), image) = (q, (subst (IsAcceptedText text) (sym same) accepted, small), image)
@@ -111,7 +111,7 @@ module _ {X : Type 0} (Image : Program → X → Type 0) (text : List ℕ) where
       refuses = after_refuses result d;
     }
 
-  -- The proof for a text that the front end rejects.
+  -- The proof of the compiler's contract for a text that the front end rejects.
   refuses_last : {Y : Type 0} {Gives : Program → Y → Type 0} (f : Fault) → Decides (IsAcceptedText text) Gives (IsRefusedText text) (HasFault text) (Err f)
       → (fault : Fault) → HasFaultAtLast text fault → (f ≡ memory_fault) ⊎ (f ≡ fault)
   refuses_last f d fault (inl front) = d.refuses fault front

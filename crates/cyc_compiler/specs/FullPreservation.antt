@@ -1,9 +1,9 @@
 -- This file defines full preservation: the file does what a program means and nothing else. The machine that runs the file prints
 -- what the program prints and reads what the program reads, in the order of the program.
 --
--- The program has one limited run for each input. The machine has many runs of an image, since its services may choose; each of these runs
--- does what the program does. The form of this property, and its bound of instructions for each step of the program, are this project's
--- own choice.
+-- The program has one limited run for each input. The machine has many runs of an image, since its system calls may choose; each of these
+-- runs does what the program does. The form of this property, and its bound of instructions for each step of the program, are this
+-- project's own choice.
 use Rattle.std.specs.Prelude.{◌≡◌, ℕ, ◌+◌, ◌*◌, ◌/◌, ◌<◌, ◌≤◌, false, List, map, Some, Ok, sum_by, if◌then◌else◌}
 use Rattle.std.specs.List.{AllByRecursion}
 use Rattle.cyc_words.specs.Ending.{Ending}
@@ -30,11 +30,11 @@ use Rattle.cyc_meaning.specs.SourceMachine.{source_machine, seen_of}
 use Rattle.cyc_machine_model.specs.WorldMachine.{world_machine, seen_of as seen_in}
 use Rattle.cyc_compiler.specs.ProgramImage.{HasForm}
 
--- The number of words of text of an image.
+-- The number of machine words in the code segments of an image.
 abbrev pub text_words : ImageContents → ℕ
 text_words image = sum_by (λ s. if lies_in_text s then padded s.size / 4 else 0) image.segments
 
--- The number of words of data of a program's image, which are the words of the program's globals.
+-- The number of machine words of data of a program's image, which are the words of the program's globals.
 abbrev pub data_words : Program → ℕ
 data_words p = words_of_all (map (λ (g : GlobalVariable). g.of_type) p.globals)
 
@@ -46,8 +46,8 @@ IsLoadable image = has_outside image ≡ false
 abbrev pub limited : Program → Bounds → (input : List ℕ) → ℕ → State
 limited p limits input n = limited_run p limits.pages limits.calls input n
 
--- Says that the image does what the program means, for all allowed limits, every new store with any words, and each input of bytes. If
--- the image has T words of text, then T instructions suffice for each step of the program, and T before the first step.
+-- Says that the image does what the program means, for all allowed limits, every new heap store with any words, and each input of bytes. If
+-- the image has T machine words of code, then T instructions suffice for each step of the program, and T before the first step.
 abbrev pub DoesTheSame : Program → ImageContents → Type 0
 DoesTheSame p image =
     (limits : Bounds) (store : StoreState) (input : List ℕ) → AreAllowed limits.pages limits.calls → IsNew limits.pages store
@@ -56,7 +56,7 @@ DoesTheSame p image =
     (start p input) (start_world image limits store input)
 
 -- Says that a file is an image that the machine can load and that does what the program means. The file is the layout of the image, and the
--- image has the form for a program with this many words of data. Neither the file nor the image contains anything beyond this form.
+-- image has the form for a program with this many machine words of data. Neither the file nor the image contains anything beyond this form.
 pub record IsImageOf (p : Program) (file : List ℕ) : Type 0 where
   pub image : ImageContents
   pub read : reading file ≡ Ok image
@@ -64,14 +64,13 @@ pub record IsImageOf (p : Program) (file : List ℕ) : Type 0 where
   pub form : HasForm (data_words p) image
   pub loads : IsLoadable image
   pub does : DoesTheSame p image
-  -- The text of the image has at most a fixed number of words for each token that the program's spelling needs, plus the words of
-  -- the start.
+  -- The image's code has at most a fixed number of machine words for each token of the program's spelling, plus the start code's words.
   pub few : text_words image ≤ max_start_words + size_per_weight * program_weight p
 
 -- ---- the statements of full preservation, in terms of the two runs
 
--- Says that within (n + 1) * T instructions the machine has printed and read at least as much as the program in n steps. If the program has
--- ended, then the machine has ended in the same way, with equal output and equal remaining input.
+-- Within (n + 1) * T instructions, T being the image's code words, the machine has printed and read at least what the program has in n
+-- steps. If the program has ended, then the machine has ended in the same way, with equal output and equal remaining input.
 abbrev pub IsAhead : (program : State) → World → Type 0
 IsAhead s w =
     ComesTo (seen_of s) (seen_in w)
@@ -96,8 +95,8 @@ pub record AreAlike (p : Program) (image : ImageContents) (limits : Bounds) (sto
 
 -- ---- consequences for the output only
 
--- Says that within (n + 1) * T instructions the machine has printed at least what the program prints in n steps. If the program has ended,
--- then the machine has ended in the same way and with equal output.
+-- Within (n + 1) * T instructions, T being the image's code words, the machine has printed at least what the program prints in n steps. If
+-- the program has ended, then the machine has ended in the same way and with equal output.
 abbrev pub PrintsEnough : (program : State) → World → Type 0
 PrintsEnough s w =
     IsPrefix (meaning.output_of s) w.output

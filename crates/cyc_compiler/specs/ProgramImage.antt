@@ -1,5 +1,6 @@
--- This file defines the image of a compiled program. Text is readable (4) and executable (1), and data readable (4) and writable (2), as in
--- the System V ABI, chapter 5, "Program Header". The choice of segments and of their addresses is this project's own.
+-- This file defines the image of a compiled program. The code segment is readable (4) and executable (1). The data segment is readable (4)
+-- and writable (2), as in the System V ABI, chapter 5, "Program Header". The choice of segments and of their addresses is this project's
+-- own.
 use Rattle.std.specs.Prelude.{◌≡◌, ℕ, zero, suc, ◌*◌, Option, List, [], ◌∷◌, length}
 use Rattle.std.specs.List.{flat_map}
 use Rattle.cyc_words.specs.Bytes.{bytes_of_word}
@@ -31,7 +32,7 @@ abbrev pub data_segments : (globals : List ℕ) → List SegmentContents
 data_segments [] = []
 data_segments (word ∷ globals) = data_segment (word ∷ globals) ∷ []
 
--- The image with these words of text, the initial values of the globals, and the limits; its entry is the first word of text.
+-- The image with these machine words of code, the initial values of the globals, and the limits; its entry is the first word of code.
 abbrev pub program_image : (words globals : List ℕ) (note : Option (ℕ × ℕ)) → ImageContents
 program_image words globals note = record {
   entry = text_base;
@@ -41,28 +42,28 @@ program_image words globals note = record {
 
 -- ---- the form of the image
 
--- Says that a segment of text begins at the start of the text range and is readable and executable. The file contains all bytes of the
--- text segment.
+-- Says that a code segment begins at the start of the machine's code range and is readable and executable. The file contains all bytes
+-- of the code segment.
 pub record IsText (s : SegmentContents) : Type 0 where
   pub address : s.vaddr ≡ TEXT_BASE
   pub flags : s.flags ≡ READ_AND_EXECUTE
   pub stored : length s.bytes ≡ s.size
 
--- Says that a segment of data begins at the start of the data range, is readable and writable, and has as many words as the globals.
+-- Says that a data segment begins at the start of the data range, is readable and writable, and has as many words as the globals.
 pub record IsData (globals : ℕ) (s : SegmentContents) : Type 0 where
   pub address : s.vaddr ≡ DATA_BASE
   pub flags : s.flags ≡ READ_AND_WRITE
   pub stored : length s.bytes ≡ s.size
   pub size : s.size ≡ 4 * globals
 
--- Says that the segments are those of a program with this many words of globals: one of text, one of data if there are
--- globals, and no others.
+-- Says that the segments are those of a program with this many machine words of globals: one code segment, one data
+-- segment if there are globals, and no others.
 abbrev pub AreOfProgram : (globals : ℕ) → List SegmentContents → Type 0
 AreOfProgram zero (text ∷ []) = IsText text
 AreOfProgram (suc globals) (text ∷ variables ∷ []) = IsText text × IsData (suc globals) variables
 AreOfProgram globals segments = ⊥
 
--- Says that an image has the form for a program with this many words of data: the entry of the image is the start of its text.
+-- Says that an image has the form for a program with this many machine words of data: the entry of the image is the start of its code.
 pub record HasForm (globals : ℕ) (image : ImageContents) : Type 0 where
   pub entry : image.entry ≡ TEXT_BASE
   pub segments : AreOfProgram globals image.segments

@@ -21,7 +21,7 @@ pub struct Bounded {
     pub tokens: Vec<Token>,
     pub program: Flowed,
     pub bounds: Bounds,
-    /// The position of a loop that prevents a bound on pages, and the position of a loop that prevents a bound on steps, if any. The
+    /// The source position of a loop that prevents a bound on pages, and that of a loop that prevents a bound on steps, if any. The
     /// positions of loops are unverified.
     pub loop_of_pages: Option<Span>,
     pub loop_of_steps: Option<Span>,

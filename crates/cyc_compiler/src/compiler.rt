@@ -38,7 +38,8 @@ use cyc_words::Fault;
 use std::alloc::Global;
 
 /// Compiles a plain program with the frames of its functions. The bytes are an image of each source program that was lowered to the plain
-/// program, if no run of the source program is dead or wrong.
+/// program, if no run of the source program is dead or wrong. A dead run accesses a closed region or a freed object, and a wrong run
+/// reaches a state without a rule of the semantics.
 fn compile_plain(
     alloc: Global,
     plain: Plain,
@@ -52,7 +53,7 @@ fn compile_plain(
     ensures refused { IfErr result (λ f. f ≡ memory_fault) }
 {
     let code = select(alloc, &plain, &frames)?;
-    // The plain program and its frames are dropped early, so that their memory can be used for the words and the file.
+    // The plain program and its frames are dropped early, so that their memory can be used for the machine words and the file.
     drop(plain);
     drop(frames);
     let words = assemble(alloc, &code)?;
@@ -60,11 +61,11 @@ fn compile_plain(
     Ok(file)
 }
 
-/// The largest number of words of text for each token of the program's weight.
+/// The largest number of machine words of code for each token that the program's spelling needs.
 const SIZE_PER_WEIGHT: usize = 100;
 
-/// Returns the largest number of words that the code of a program may have after inlining. If the program already has more words, then
-/// nothing is inlined.
+/// Returns the largest number of machine words that the code of a program may have after inlining. If the program already has more
+/// words, then nothing is inlined.
 pub(crate) fn room_for(tree: &TypedTree) -> usize
     requires { program_weight (view_program tree.now) ≤ max_tokens }
     ensures { result ≡ size_per_weight * program_weight (view_program tree.now) }
@@ -73,7 +74,7 @@ pub(crate) fn room_for(tree: &TypedTree) -> usize
 }
 
 /// Returns the optimised plain program of a typed program: small functions are inlined, recomputed expressions have slots of their own,
-/// and known values are propagated. Every returned fault is a fault of the lowering.
+/// and values known at compile time are propagated. Every returned fault is a fault of the lowering.
 fn lower_improved(alloc: Global, program: &Flowed) -> Result<Plain, Fault>
     requires well_typed { IsWellTypedProgram (view_program program.now.tree) }
     requires small { program_weight (view_program program.now.tree) ≤ max_tokens }
@@ -131,7 +132,8 @@ pub fn compile_with_tokens(
     // The returned tokens are those of the text, and the returned typed tree is the program of the text.
     ensures tokens { IfOk result (λ made. HasTokens text.now made.tokens.items) }
     ensures program { IfOk result (λ made. IsAcceptedText text.now (view_program made.program.tree)) }
-    // No step of any run of the program is dead or wrong, for every input and without limits.
+    // For every input and without limits, no step of any run of the program accesses a closed
+    // region or a freed object. Each step has a rule of the semantics.
     ensures sound { IfOk result (λ _. (p : Program) → IsAcceptedText text.now p → IsSound p) }
     // The image contains the limits of runs in `note`.
     ensures note { IfOk result (λ made. Carries made.image.items note) }
@@ -160,8 +162,8 @@ pub fn compile_with(alloc: Global, text: &[u8], note: Option<(u32, u32)>) -> Res
     // output, together with the rest of its input, is that of the limited program after some number of steps. The machine ends as the
     // program does, and does nothing else. Each returned fault is a fault of the front end, or states that the program is too large.
     ensures decides { Decides (IsCompiledText text.now) (λ p file. IsImageOf p file.items) (IsRefusedAtLast text.now) (HasFaultAtLast text.now) result }
-    // No step of any run of the program is dead or wrong, for every input and without limits. In particular, no step accesses a cell of a
-    // closed region or of a freed object.
+    // For every input and without limits, each step of every run of the program has a rule of the semantics. In particular, no step
+    // accesses a cell of a closed region or of a freed object.
     ensures sound { IfOk result (λ _. (p : Program) → IsAcceptedText text.now p → IsSound p) }
     // The image contains the limits of runs in `note`. These limits do not affect the image's meaning: the user who runs the image sets
     // the limits of the run.
@@ -177,8 +179,8 @@ pub fn compile(alloc: Global, text: &[u8]) -> Result<Vec<u8>, Fault>
     // output, together with the rest of its input, is that of the limited program after some number of steps. The machine ends as the
     // program does, and does nothing else. Each returned fault is a fault of the front end, or states that the program is too large.
     ensures decides { Decides (IsCompiledText text.now) (λ p file. IsImageOf p file.items) (IsRefusedAtLast text.now) (HasFaultAtLast text.now) result }
-    // No step of any run of the program is dead or wrong, for every input and without limits. In particular, no step accesses a cell of a
-    // closed region or of a freed object.
+    // For every input and without limits, each step of every run of the program has a rule of the semantics. In particular, no step
+    // accesses a cell of a closed region or of a freed object.
     ensures sound { IfOk result (λ _. (p : Program) → IsAcceptedText text.now p → IsSound p) }
     // The image contains no limits of runs.
     ensures note { IfOk result (λ file. Carries file.items None) }

@@ -1,4 +1,4 @@
-//! This file builds the image of a compiled program from its words of text and the initial values of its globals.
+//! This file builds the image of a compiled program from the machine words of its code and the initial values of its globals.
 
 ghost use Rattle.std.specs.Prelude.{◌≡◌, ◌+◌, ◌*◌, ◌^◌, ◌<◌, ◌≤◌, Ok, IfOk, length};
 ghost use Rattle.std.specs.List.{AllByRecursion};
@@ -49,7 +49,7 @@ fn segment_of(alloc: Global, vaddr: u32, flags: u32, words: &[u32]) -> Result<Se
     })
 }
 
-/// Returns the image of a program: a segment of text, a segment of data if there are globals, and the limits.
+/// Returns the image of a program: a code segment, a data segment if there are globals, and the limits.
 fn image_of_program(
     alloc: Global,
     words: &[u32],

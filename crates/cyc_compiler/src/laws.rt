@@ -21,7 +21,7 @@ ghost use Rattle.cyc_compiler.specs.FullPreservation.{limited, DoesTheSame, IsAh
 ghost use Rattle.cyc_compiler.specs.Asking.{RunWithin, AsksAtTheEnd};
 
 /// The program of an accepted text has properties beyond the typing rules. In the program of an accepted text, structs have from 1 to 64
-/// fields, the numbers of exceptions are 32-bit words, and each chain of pointer arithmetic is written separately.
+/// fields, and the indices of exceptions are 32-bit words. Each chain of pointer arithmetic is written separately.
 pub fn accepted_programs_are_of_texts()
     ensures { (text : List ℕ) (p : Program) → IsAcceptedText text p → IsOfTextProgram p }
 {}
@@ -31,7 +31,7 @@ pub fn compiled_images_load()
     ensures { (p : Program) (file : List ℕ) → IsImageOf p file → (image : ImageContents) × (reading file ≡ Ok image) × IsLoadable image }
 {}
 
-/// The text of a compiled image has at most 100 words for each token of the source text, plus 7 for the start.
+/// The code of a compiled image has at most 100 machine words for each token of the source text, plus 7 for the start code.
 pub fn compiled_images_are_small()
     ensures { (text : List ℕ) (p : Program) (file : List ℕ) → (a : IsAcceptedText text p) → (is : IsImageOf p file)
         → text_words is.image ≤ max_start_words + size_per_weight * length a.tokens }
@@ -47,17 +47,18 @@ pub fn compiled_images_keep_up()
         → Run count (start_world is.image limits store input) w → IsAhead (limited p limits input n) w }
 {}
 
-/// If an image does what a program means, each run of the machine is observed as the program's limited run. No run of the machine ends with
-/// a trap.
+/// If an image does what a program means, each run of the machine shows the output and input of the program's limited run. No run of the
+/// machine ends with a trap.
 pub fn images_run_alike()
     ensures { (p : Program) (image : ImageContents) → DoesTheSame p image
         → (limits : Bounds) (store : StoreState) (input : List ℕ) → AreAllowed limits.pages limits.calls → IsNew limits.pages store
         → AllByRecursion (λ b. b < 256) input → AreAlike p image limits store input }
 {}
 
-/// Each run prints what the program prints: within (n + 1) * T instructions the machine has printed at least what the limited run prints
-/// in n steps. If the limited run has ended, then the machine has ended in the same way, with equal output. The machine's output is
-/// always a prefix of the limited run's output, and if the machine has ended, then the limited run has ended in the same way.
+/// Each run of the image prints what the program prints. Within (n + 1) * T instructions, T being the image's code words, the machine
+/// has printed at least what the limited run prints in n steps. If the limited run has ended, then the machine has ended in the same
+/// way, with equal output. The machine's output is always a prefix of the limited run's output, and if the machine has ended, then the
+/// limited run has ended in the same way.
 pub fn images_print_alike()
     ensures { (p : Program) (image : ImageContents) → DoesTheSame p image
         → (limits : Bounds) (store : StoreState) (input : List ℕ) → AreAllowed limits.pages limits.calls → IsNew limits.pages store

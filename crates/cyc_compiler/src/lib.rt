@@ -1,5 +1,5 @@
-//! This crate offers the compiler as functions: a text is compiled to an image, with the origins of the image's words if wanted, or the
-//! program's needs are reported.
+//! This crate offers the compiler as functions: a text is compiled to an image, with the source positions of its machine words if
+//! wanted, or the program's needs are reported.
 #![tactic(auto)]
 
 mod bounded;

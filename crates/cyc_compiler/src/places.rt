@@ -1,4 +1,4 @@
-//! This file finds the origins of an image's words in the text of its program.
+//! This file finds the source position from which each machine word of an image comes.
 
 ghost use Rattle.std.specs.Prelude.{◌≡◌, ◌≤◌, IfOk, length};
 ghost use Rattle.cyc_words.specs.Decision.{Decides};
@@ -32,7 +32,7 @@ use cyc_warnings::find_warnings;
 use cyc_words::{Fault, Span};
 use std::alloc::{AllocError, Global};
 
-/// A compilation together with the origins of its image's words.
+/// A compilation together with the source positions from which its image's machine words come.
 #[derive(Drop)]
 pub struct Placed {
     pub compilation: Compilation,
@@ -55,7 +55,7 @@ fn exceptions_of(alloc: Global, tree: &Tree) -> Result<Vec<Declared>, AllocError
     Ok(exceptions)
 }
 
-/// Returns the number of the mark (a source position that the lowering noted) that belongs to an
+/// Returns the index of the mark (a source position that the lowering noted) that belongs to an
 /// instruction, given the mark of an earlier instruction.
 fn mark_at(marks: &Marks, before: usize, number: usize) -> usize {
     let mut found = before;
@@ -79,14 +79,14 @@ fn is_passing(instruction: &Instruction) -> bool {
     )
 }
 
-/// The origin of a line of code, and the call for which the line was inlined, if any.
+/// The place in the source text from which a line of assembly code comes, and the call for which the line was inlined, if any.
 #[derive(Clone, Copy, PartialEq, Eq)]
 struct Cause {
     source: Source,
     site: Option<Site>,
 }
 
-/// Appends a cause for each line of code up to a number.
+/// Appends the same cause, that is, the place in the source text, for each line of assembly code before the line `end`.
 fn fill(causes: &mut Vec<Cause>, end: usize, cause: Cause) -> Result<(), AllocError> {
     for _ in causes.len()..end {
         causes.push(cause)?;
@@ -94,12 +94,13 @@ fn fill(causes: &mut Vec<Cause>, end: usize, cause: Cause) -> Result<(), AllocEr
     Ok(())
 }
 
-/// Returns the cause of an instruction in the function's own text.
+/// Returns the cause, that is, the place in the source text, of an instruction that was not inlined.
 fn own_cause(source: Source) -> Cause {
     Cause { source, site: None }
 }
 
-/// Returns the source position of the mark with this number or, if there is none, the position of the function's name.
+/// Returns the source position that the lowering noted as the mark with this index or, if there is none, the position
+/// of the function's name.
 fn span_of(marks: &Marks, mark: usize, name: Span) -> Span {
     match marks.marks.get(mark) {
         Some(mark) => mark.span,
@@ -110,7 +111,8 @@ fn span_of(marks: &Marks, mark: usize, name: Span) -> Span {
 /// The lowered program: the functions, their inlined versions, and the source positions noted for each function.
 #[derive(Clone, Copy)]
 struct Lowered<'a> {
-    /// For each function, its version before inlining and the origins of its instructions, if inlining changed it.
+    /// For each function that inlining changed: its version before inlining, and the instruction from which each
+    /// of its instructions was made.
     opened: &'a [Option<Opened>],
     /// The program after recomputed expressions got slots of their own.
     named: &'a Inlined,
@@ -118,7 +120,7 @@ struct Lowered<'a> {
 }
 
 impl<'a> Lowered<'a> {
-    /// Returns the function with this number, as it was lowered.
+    /// Returns the function with this index, as it was lowered.
     fn function(&self, number: usize) -> Option<&'a Function> {
         match self.opened.get(number)? {
             Some(opened) => Some(&opened.given),
@@ -126,7 +128,7 @@ impl<'a> Lowered<'a> {
         }
     }
 
-    /// Returns the function with this number after inlining.
+    /// Returns the function with this index after inlining.
     fn inlined(&self, number: usize) -> Option<&'a Function> {
         match self.named.opened.get(number)? {
             Some(opened) => Some(&opened.given),
@@ -134,7 +136,7 @@ impl<'a> Lowered<'a> {
         }
     }
 
-    /// Returns the origin of an instruction of the inlined function with this number.
+    /// Returns the instruction from which an instruction of the inlined function with this index was made.
     fn origin(&self, function: usize, index: usize) -> Option<Origin> {
         match self.opened.get(function)? {
             Some(opened) => opened.origins.get(index).copied(),
@@ -143,7 +145,8 @@ impl<'a> Lowered<'a> {
     }
 }
 
-/// Returns the source of the instruction with index `number` in the function with number `function`.
+/// Returns the place in the source text from which an instruction comes: the one with index `number`
+/// in the code of the function with index `function`.
 fn source_of(
     code: &[Instruction],
     marks: &Marks,
@@ -162,7 +165,7 @@ fn source_of(
     }
 }
 
-/// Returns the cause of an instruction that was inlined at a call.
+/// Returns the place in the source text of an instruction that was inlined at a call, together with this call.
 fn inlined_cause(lowered: Lowered<'_>, origin: Origin, site: Site) -> Cause {
     let (Some(function), Some(marks)) = (
         lowered.function(origin.function),
@@ -238,19 +241,19 @@ impl Sites {
     }
 }
 
-/// The data from which the origins of a function's lines are computed, and these lines.
+/// The data from which the source positions of the lines of a function's assembly code are computed, and these lines.
 #[derive(Clone, Copy)]
 struct Lines<'a> {
-    /// The number of the function.
+    /// The index of the function in the program.
     number: usize,
     /// The function's code after inlining.
     code: &'a [Instruction],
-    /// The first line of each instruction, and the line after the last instruction.
+    /// The first line of assembly code of each instruction, and the line after the last instruction.
     lines: &'a [usize],
     end: usize,
 }
 
-/// Appends the cause of each line of a function's code.
+/// Appends the place in the source text of each line of a function's assembly code.
 fn add_function(
     alloc: Global,
     causes: &mut Vec<Cause>,
@@ -304,7 +307,8 @@ fn add_function(
     Ok(())
 }
 
-/// Returns the first line of each instruction after inlining, given the first lines of the instructions that were made from it.
+/// Returns the first line of assembly code of each instruction after inlining, given the first lines of the instructions that
+/// were made from it.
 fn lines_before(
     alloc: Global,
     named: Option<&Opened>,
@@ -323,7 +327,7 @@ fn lines_before(
     Ok(firsts)
 }
 
-/// Returns the cause of each line of the code of all functions.
+/// Returns the place in the source text of each line of the assembly code of all functions.
 fn causes_of_lines(
     alloc: Global,
     lowered: Lowered<'_>,
@@ -353,7 +357,7 @@ fn causes_of_lines(
     Ok(causes)
 }
 
-/// Returns the stretches of words that are made from lines with equal causes.
+/// Returns the stretches of machine words that are made from lines of assembly code of the same place in the source text.
 fn stretches_of(
     alloc: Global,
     numbers: &[usize],
@@ -377,14 +381,14 @@ fn stretches_of(
     Ok(stretches)
 }
 
-/// Returns the address of the word with this number.
+/// Returns the address of the machine word with this index in the code of the image.
 fn address_of(word: usize) -> u32 {
     let word = u32::try_from(word).unwrap_or(u32::MAX);
     TEXT_BASE.saturating_add(word.saturating_mul(4))
 }
 
-/// Returns the origins of the words of a program's image. Repeats the passes on the same tree and follows the origins that each pass
-/// reports.
+/// Returns the source positions from which the machine words of a program's image come. Repeats the passes on the same tree and
+/// follows, for each pass, from which instruction each new instruction was made.
 fn places_of(alloc: Global, program: &Flowed, exceptions: Vec<Declared>) -> Result<Places, Fault>
     requires well_typed { IsWellTypedProgram (view_program program.now.tree) }
     requires small { program_weight (view_program program.now.tree) ≤ max_tokens }
@@ -418,7 +422,7 @@ fn places_of(alloc: Global, program: &Flowed, exceptions: Vec<Declared>) -> Resu
     })
 }
 
-/// Compiles as `compile_with_tokens` does, and also returns the origins of the image's words.
+/// Compiles as `compile_with_tokens` does, and also returns the source positions from which the image's machine words come.
 pub fn compile_with_places(
     alloc: Global,
     text: &[u8],

@@ -22,10 +22,10 @@ use std::alloc::{AllocError, Global};
 #[derive(Drop)]
 struct Declared {
     program: Program,
-    /// The number that the next global gets.
+    /// The index that the next declared global gets.
     globals: usize,
     functions: usize,
-    /// The region names that the current declaration knows.
+    /// The region names that are in scope in the current declaration.
     regions: RegionNames,
 }
 
@@ -46,7 +46,7 @@ fn signature_of_ints(alloc: Global, count: usize) -> Result<Signature, AllocErro
     })
 }
 
-/// Returns the built-in declarations of a program, from the names known in the program.
+/// Returns the built-in declarations of a program, from its built-in regions, its struct names and the number of `main`.
 fn program_before(alloc: Global, names: &Names, known: Known) -> Result<Program, Stop>
     ensures program { IfOk result (λ p. p ≡ program_before names.now known) }
     ensures memory { IfErr result (λ e. e ≡ Memory) }
@@ -63,7 +63,7 @@ fn program_before(alloc: Global, names: &Names, known: Known) -> Result<Program,
     Ok(program)
 }
 
-/// Returns the number plus one, or fails on overflow.
+/// Returns the given number plus one, or fails on overflow.
 fn next(number: usize) -> Result<usize, Stop>
     ensures next { IfOk result (λ n. n ≡ suc number) }
     ensures memory { IfErr result (λ e. e ≡ Memory) }
@@ -183,7 +183,8 @@ impl Declared {
     }
 }
 
-/// Returns all declarations of a program, including the built-in ones, from the names known in the program.
+/// Returns all declarations of a program, including the built-in ones, from its built-in regions, its
+/// struct names and the number of `main`.
 pub(crate) fn program_declared(
     alloc: Global,
     names: &Names,

@@ -1,4 +1,4 @@
-//! Checks that names differ from each other and from the names already known.
+//! Checks that names differ from each other and from the names declared before.
 ghost use Rattle.std.specs.Prelude.{◌≡◌, ◌∷◌, not, map, OnOk};
 ghost use Rattle.cyc_words.specs.declared.fault.Code.TheVariants as codes;
 ghost use Rattle.cyc_syntax.specs.inside.TreeView.{place_of_span, view_name, view_constructor};
@@ -22,7 +22,7 @@ fn demand_new(settled: &mut Settled, known: &mut NameSet, name: Ident) -> Result
     known.add(name.name.number)
 }
 
-/// Checks that a name is new, and adds the name to the known names.
+/// Checks that a name is not yet declared, and adds the name to the declared names.
 pub(crate) fn check_new(known: &mut NameSet, name: Ident) -> Result<(), Stop>
     ensures gives { Gives (λ _. tt) result (run (rule_new known.old (view_name name))) }
     ensures known { OnOk result (known.new ≡ name.name.number ∷ known.old) }
@@ -32,7 +32,7 @@ pub(crate) fn check_new(known: &mut NameSet, name: Ident) -> Result<(), Stop>
     settled.end()
 }
 
-/// Checks that the names in a list are new, and adds them to the known names.
+/// Checks that the names in a list differ from each other and from the names declared before, and adds them to the declared names.
 pub(crate) fn check_distinct(known: &mut NameSet, names: &[Ident]) -> Result<(), Stop>
     ensures gives { Gives (λ _. tt) result (run (demands (distinct_demanded known.old (map view_name names.now)))) }
     ensures known { OnOk result (known.new ≡ with_all (map view_name names.now) known.old) }
@@ -44,7 +44,7 @@ pub(crate) fn check_distinct(known: &mut NameSet, names: &[Ident]) -> Result<(),
     settled.end()
 }
 
-/// Checks that the names of exceptions are new, and adds them to the known names.
+/// Checks that the names of exceptions are not yet declared, and adds them to the declared names.
 pub(crate) fn check_constructors(
     known: &mut NameSet,
     constructors: &[Constructor],

@@ -79,7 +79,7 @@ fn check_name(
     settled.end()
 }
 
-/// Checks that the type of a parameter is well-formed and the parameter's name is new, and adds the name to the known names.
+/// Checks that the type of a parameter is well-formed and the parameter's name is new, and adds the name to the names declared so far.
 fn check_parameter(
     known: &Known,
     own: usize,
@@ -117,7 +117,8 @@ fn check_parameters(
     Ok(())
 }
 
-/// Demands that the regions of a written effect are known, and that no region of the effect is the unique region or has a key.
+/// Demands that the regions of a written effect are in scope. No region of the effect may be the unique region or have a key
+/// (for opening it).
 fn demand_effect(settled: &mut Settled, names: &RegionNames, keys: &Keys, regions: &[Ident])
     ensures { settled.new.known ≡ settle settled.old.known (effect_asked names.now keys.now (map view_name regions.now)) }
 {
@@ -129,7 +130,7 @@ fn demand_effect(settled: &mut Settled, names: &RegionNames, keys: &Keys, region
     }
 }
 
-/// Checks that an effect is well-formed, from the keys among the function's types.
+/// Checks that an effect is well-formed, given the keys of dynamic regions among the function's types.
 #[tactic(auto, using(crate::proofs::KeyLemmas::asked_same))]
 fn check_effect(names: &RegionNames, keys: &Keys, effect: &Option<Vec<Ident>>) -> Result<(), Stop>
     ensures { (ts : List Ty) → AreKeysOf keys.now ts → Gives (λ _. tt) result
@@ -155,7 +156,7 @@ fn check_constraints(names: &RegionNames, constraints: &[Constraint]) -> Result<
     settled.end()
 }
 
-/// Checks that the signature of a function is well-formed and the function's name is new, and adds the name to the known names.
+/// Checks that the signature of a function is well-formed and the function's name is new, and adds the name to the names declared so far.
 pub(crate) fn check_function(
     alloc: Global,
     known: &Known,

@@ -82,7 +82,7 @@ fn check_type(known: &Known, written: &WrittenType) -> Result<(), Stop>
     settled.end()
 }
 
-/// Checks that a global is well-formed and its name is new, and adds the global's name to the known names.
+/// Checks that a global is well-formed and its name is new, and adds the global's name to the names declared so far.
 #[tactic(auto, using(cyc_types::proofs::RuleLaws::settled_append))]
 pub(crate) fn check_global(
     alloc: Global,

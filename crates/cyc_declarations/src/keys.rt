@@ -1,4 +1,4 @@
-//! The regions that have a key among a list of types.
+//! The set of the regions whose keys (used to open dynamic regions) occur in a list of types.
 ghost use Rattle.std.specs.Prelude.{◌≡◌, ◌||◌, map, option_map, IfOk, OnOk};
 ghost use Rattle.cyc_types.specs.declared.region.Region.{Region};
 ghost use Rattle.cyc_types.specs.TypeView.{view_ty};
@@ -9,12 +9,12 @@ ghost use Rattle.cyc_declarations.specs.inside.KeyTables.{has, AreKeysOf};
 use cyc_types::{NameSet, Region, Ty};
 use std::alloc::{AllocError, Global};
 
-/// The regions that have a known key. A region is looked up in constant time.
+/// The regions whose keys (used to open dynamic regions) occur in a list of types. A region is looked up in constant time.
 #[derive(Drop)]
 pub(crate) struct Keys {
     heap: bool,
     unique: bool,
-    /// The numbers of the region variables that have a key.
+    /// The indices of the region variables whose keys (used to open dynamic regions) occur in the types.
     variables: NameSet,
 }
 
@@ -35,7 +35,7 @@ impl Keys {
         }
     }
 
-    /// Returns true if the set contains a key of the given region.
+    /// Returns true if the set contains a key (used to open a dynamic region) of the given region.
     pub(crate) fn has(&self, region: Region) -> bool
         ensures { result ≡ has self.now region }
     {
@@ -46,7 +46,7 @@ impl Keys {
         }
     }
 
-    /// Adds the region of a type to the set, if the type is a key.
+    /// Adds the region of a type to the set, if the type is that of a key (used to open a dynamic region).
     fn add(&mut self, of_type: &Ty) -> Result<(), AllocError>
         ensures { OnOk result ((r : Region) → has self.new r ≡ (has self.old r || is_key_of r (view_ty of_type.now))) }
     {
@@ -61,7 +61,7 @@ impl Keys {
     }
 }
 
-/// Returns the keys among the types of parameters and the type of a result.
+/// Returns the set of the regions whose keys (used to open dynamic regions) are among the types of parameters and result.
 pub(crate) fn keys_of(
     alloc: Global,
     types: &[Ty],

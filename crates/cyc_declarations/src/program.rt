@@ -18,7 +18,7 @@ use cyc_syntax::{Constructor, Declaration};
 use cyc_types::{Known, RegionNames, Ty, TypedTree, typed};
 use std::alloc::{AllocError, Global};
 
-/// Returns the number of the function with the given name.
+/// Returns the index of the function with the given name.
 fn function_number(name: usize, declarations: &[Declaration]) -> usize
     ensures { result ≡ function_number name (map view_declaration declarations.now) }
 {
@@ -105,7 +105,8 @@ pub struct Parts {
     main: usize,
 }
 
-/// Returns the parts of a program other than the bodies of its functions, from the names known in the program.
+/// Returns the parts of a program other than the bodies of its functions, from its built-in regions, its
+/// struct names and the number of `main`.
 pub fn parts_of(
     alloc: Global,
     known: &Known,

@@ -32,7 +32,7 @@ pub fn members(parameters: &Parameters) -> &[Member]
 pub(crate) struct HeadTypes {
     parameters: Vec<Ty>,
     result: Option<Ty>,
-    /// The number of regions that the function's parameters name or omit.
+    /// The number of the function's region variables: the regions that its parameters name or omit.
     variables: usize,
 }
 
@@ -93,7 +93,7 @@ impl HeadTypes {
         })
     }
 
-    /// Returns the keys among the types of the signature.
+    /// Returns the set of the regions whose keys (used to open dynamic regions) are among the types of the signature.
     pub(crate) fn keys(&self, alloc: Global) -> Result<Keys, AllocError>
         ensures { IfOk result (λ keys. AreKeysOf keys (and_result (map view_ty self.now.parameters.items) (option_map view_ty self.now.result))) }
     {
@@ -101,7 +101,7 @@ impl HeadTypes {
     }
 }
 
-/// Returns the first `variables` region variables, without those that have a key.
+/// Returns the first `variables` region variables, without those whose key (used to open a dynamic region) is in the set.
 fn without_keys(
     alloc: Global,
     keys: &Keys,
@@ -133,7 +133,8 @@ fn regions_of(
     Ok(all)
 }
 
-/// Returns the effect of a signature. An omitted effect consists of all regions of the types, except the regions of keys.
+/// Returns the effect of a signature (the regions that must be live at a call). An omitted effect consists of all regions
+/// of the types, except the regions of keys.
 fn effect_of(
     alloc: Global,
     names: &RegionNames,

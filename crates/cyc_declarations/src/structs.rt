@@ -32,7 +32,7 @@ pub(crate) fn declare_parameters(
     Ok(())
 }
 
-/// Checks that the type of a field is well-formed and the field's name is new, and adds the name to the known names.
+/// Checks that the type of a field is well-formed and the field's name is new, and adds the name to the names declared so far.
 fn check_field(
     structs: &StructNames,
     names: &RegionNames,
@@ -63,7 +63,7 @@ fn check_fields(
     Ok(())
 }
 
-/// Checks that a struct is well-formed and the struct's name is new, and adds the name to the known names.
+/// Checks that a struct is well-formed and the struct's name is new, and adds the name to the names declared so far.
 pub(crate) fn check_struct(
     known: &Known,
     before: &mut NameSet,

@@ -20,7 +20,8 @@ use cyc_words::{Code, Span};
 use std::alloc::{AllocError, Global};
 use std::marker::Model;
 
-/// Returns the number of a name, from the name's text. A text that is not a name of the program gets the number after all names.
+/// Returns the index of a name in the program's list of names, from the name's text. A text that is not a name of the program
+/// gets the index after all names.
 pub(crate) fn number_of(names: &Names, text: &[u8]) -> usize
     ensures { result ≡ number_of names.now text.now }
 {
@@ -35,7 +36,7 @@ pub(crate) fn number_of(names: &Names, text: &[u8]) -> usize
 struct Before {
     structs: NameSet,
     exceptions: NameSet,
-    /// The names of the functions and globals declared before.
+    /// The names of the functions and globals declared before the current declaration.
     names: NameSet,
 }
 
@@ -74,7 +75,7 @@ impl Before {
         })
     }
 
-    /// Checks that a declaration is well-formed and its names are new, and adds these names to the known names.
+    /// Checks that a declaration is well-formed and its names are new, and adds these names to the names declared so far.
     fn check_head(
         &mut self,
         alloc: Global,
@@ -137,7 +138,7 @@ fn check_declarations(
     Ok(())
 }
 
-/// Returns the names that are known in the whole text of a program.
+/// Returns the names that are known in the whole text of a program: the built-in regions, the structs and `main`.
 fn known_of(alloc: Global, names: &Names, declarations: &[Declaration]) -> Result<Known, AllocError>
     ensures { IfOk result (λ k. k ≡ known_of names.now (map view_declaration declarations.now)) }
 {

@@ -365,7 +365,8 @@ each_stored i segments good same =
 pub headers_counted : (i : Image) (len more : ℕ) (segments : List Segment) → len ≡ length segments → more ≡ note_count i.note → segments ≡ i.segments.items → len + more ≡ headers_count (contents_of i)
 headers_counted i len more segments many one same = omega (arith, many, one, ap length same, length-map i.segments.items segment_contents)
 
--- The written file consists of its five parts, one after the other.
+-- The written file consists of five parts in sequence: the file header, the segments' program
+-- headers, the note's program header, the segments' bytes, and the note.
 pub written : (i : ImageContents) (a b c d e : List ℕ) → a ≡ file_header i.entry (headers_count i)
     → b ≡ a ++ flat_map program_header (headers_of (bytes_start i) i.segments)
     → c ≡ b ++ flat_map program_header (note_headers (note_start i) i.note)

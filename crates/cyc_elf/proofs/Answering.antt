@@ -1,4 +1,4 @@
--- The result of the file reader is derived from the results of its parts.
+-- The result of the file reader is derived from the results for the file header, the table of program headers, and the entry.
 use Rattle.std.proofs.Common.{◌≡◌, ℕ, ◌+◌, ◌≤◌, ◌%◌, Bool, true, false, ◌&&◌, ◌||◌, eqb, List, [], ◌∷◌, length, map, Option, Some, None, Result, Ok, Err, All, refl, sym, ap, subst, ◌∙◌, arith}
 use Rattle.std.specs.List.{list_any}
 use Rattle.std.proofs.lemmas.List.{get_or-map, length-map}
@@ -25,7 +25,7 @@ Outlines-fault file faults.Interp read e = e
 Outlines-fault file faults.BadEntry read e = e
 Outlines-fault file faults.Memory read e = tt
 
--- A fault that occurs while the outline is read is also the fault of the whole reader.
+-- A fault that occurs while the outline (the headers of a file) is read is also the fault of the whole reader.
 pub Answers-outlined : (file : List ℕ) (f : ElfFault) (read : Result ImageContents ElfFault) → Outlines file (Err f) read → Answers (Err f) read
 Answers-outlined file faults.Truncated read e = e
 Answers-outlined file faults.NotElf32Big read e = e

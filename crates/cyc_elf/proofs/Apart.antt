@@ -224,7 +224,7 @@ rising low [] first up = tt
 rising low (x ∷ xs) first up =
     (first 0 x (omega arith), rising x.vaddr xs (λ j d lt. up 0 (suc j) d (omega arith) (omega arith)) (λ i j d le lt. up (suc i) (suc j) d (omega arith) (omega arith)))
 
--- The headers sorted by address are in order exactly if no two headers of the file overlap.
+-- Each of the headers sorted by address begins at or after the end of the one before exactly if no two headers of the file overlap.
 pub in_order-are_apart : (xs sorted : List raw.ProgramHeader) → IsPermutation xs sorted → IsNonDecreasingBy (λ h. h.vaddr) sorted → in_order 0 (map fields_of sorted) ≡ are_apart [] (map fields_of xs)
 in_order-are_apart xs sorted same up =
     elim (cases_Bool (in_order 0 (map fields_of sorted))) [

@@ -1,5 +1,5 @@
--- A file of 88 bytes, read by computation: the file header, one program header, and a word of text. The bytes follow the System V ABI's
--- tables, field by field.
+-- A file of 88 bytes, read by computation: the file header, one program header, and one word of machine code. The bytes follow the
+-- System V ABI's tables, field by field.
 use Rattle.std.proofs.Common.{◌≡◌, ℕ, List, [], ◌∷◌, ◌++◌, None, Ok, Err, refl}
 use Rattle.cyc_elf.specs.declared.fault.ElfFault.TheVariants as faults
 use Rattle.cyc_elf.specs.Header.{field, program_header_at, headers_from}
@@ -23,7 +23,7 @@ load =
     0 ∷ 0 ∷ 0 ∷ 1 ∷ 0 ∷ 0 ∷ 0 ∷ 84 ∷ 0 ∷ 64 ∷ 0 ∷ 0 ∷ 0 ∷ 0 ∷ 0 ∷ 0
     ∷ 0 ∷ 0 ∷ 0 ∷ 4 ∷ 0 ∷ 0 ∷ 0 ∷ 8 ∷ 0 ∷ 0 ∷ 0 ∷ 5 ∷ 0 ∷ 0 ∷ 0 ∷ 0 ∷ []
 
--- The text of the example file: the word 12, which encodes a `syscall`.
+-- The text (machine code) of the example file: the word 12, which encodes a `syscall`.
 abbrev text : List ℕ
 text = 0 ∷ 0 ∷ 0 ∷ 12 ∷ []
 

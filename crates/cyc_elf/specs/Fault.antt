@@ -1,4 +1,4 @@
--- The numbers of the faults are this project's own choice.
+-- The numbers that identify the faults of executable files are this project's own choice.
 use Rattle.std.specs.Prelude.{ℕ}
 use Rattle.cyc_elf.specs.declared.fault.ElfFault.{ElfFault}
 use Rattle.cyc_elf.specs.declared.fault.ElfFault.TheVariants as faults

@@ -72,7 +72,7 @@ abbrev pub note_headers : ℕ → (note : Option (ℕ × ℕ)) → List ProgramH
 note_headers offset None = []
 note_headers offset (Some limits) = note_header offset ∷ []
 
--- The bytes of a note: the two sizes and the type, the name, and the limits.
+-- The bytes of a note: the sizes of its name and of its description, its type, its name, and the limits on pages and calls.
 unfoldable pub note_bytes : (limits : ℕ × ℕ) → List ℕ
 note_bytes limits = words (name_size ∷ description_size ∷ note_type ∷ []) ++ note_name ++ words (limits.0 ∷ limits.1 ∷ [])
 

@@ -9,7 +9,7 @@ use Rattle.cyc_elf.specs.Header.{ProgramHeader}
 use Rattle.cyc_elf.specs.Image.{ImageContents}
 use Rattle.cyc_elf.specs.Reading.{segment_of}
 
--- Returns the specification's program header for one that the code stores.
+-- Returns the specification's program header for a program header as the reader's code stores it.
 abbrev pub fields_of : raw.ProgramHeader → ProgramHeader
 fields_of h = record {
   kind = h.kind;

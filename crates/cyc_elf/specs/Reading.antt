@@ -55,8 +55,8 @@ covers h address = nat_le h.vaddr address && nat_lt address (h.vaddr + h.memory_
 abbrev pub overlap : ProgramHeader → ProgramHeader → Bool
 overlap g h = nat_lt (max g.vaddr h.vaddr) (min (g.vaddr + g.memory_size) (h.vaddr + h.memory_size))
 
--- The rules of a loadable program header in a file of `len` bytes: it has no more bytes in the file than in memory, ends within the address
--- space, begins at a word, and its bytes are in the file.
+-- The rules of a loadable program header in a file of `len` bytes: it has no more bytes in the file than in memory. It ends within the
+-- address space, begins at a multiple of 4, and its bytes are in the file.
 abbrev pub load_rules : ℕ → ProgramHeader → List Rule
 load_rules len h =
     broken (nat_lt h.memory_size h.file_size) faults.BadSegment
@@ -65,8 +65,8 @@ load_rules len h =
     ∷ broken (nat_lt len (h.offset + h.file_size)) faults.Truncated
     ∷ []
 
--- The rules of a note with limits: the note is complete, describes two words, has the type 1, its limits are in their ranges, and no such
--- note came before it.
+-- The rules of a note with limits: the note is complete, its description has two words, its type is 1, its limits are in range, and no
+-- such note came before it.
 abbrev pub note_rules : List ℕ → (noted : Bool) → ProgramHeader → List Rule
 note_rules file noted h =
     broken (nat_lt h.file_size note_size) faults.BadSegment

@@ -9,7 +9,7 @@ use thiserror::Error;
 /// The reason why a file is not an image, or the fact that memory ran out.
 #[derive(Clone, Copy, Debug, PartialEq, Eq, Error)]
 pub enum ElfFault {
-    /// The file ends before the end of a part that the file's headers refer to.
+    /// The file ends before the end of its file header, of its table of program headers, or of a segment's bytes.
     #[error("the file is cut short")]
     Truncated,
     /// The file does not begin like a 32-bit, big-endian ELF file.

@@ -25,7 +25,8 @@ pub const MIPS: u16 = 8;
 /// The version of the ELF format.
 pub const VERSION: u32 = 1;
 
-/// The fields of the file header that the reader needs: the entry, and the position of the table of program headers.
+/// The fields of the file header that the reader needs: the entry address, and the file offset of the table of
+/// program headers and their number.
 #[derive(Clone, Copy)]
 pub struct FileHeader {
     pub entry: u32,

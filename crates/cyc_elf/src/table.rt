@@ -25,7 +25,7 @@ pub struct Walk {
     pub fault: Option<ElfFault>,
 }
 
-/// Returns the limits known after a valid header, given those known before it.
+/// Returns the limits on pages and calls known after a valid program header, given those known before it.
 fn noted(file: &[u8], header: ProgramHeader, known: Option<(u32, u32)>) -> Option<(u32, u32)>
     requires { is_note file.now (fields_of header) ≡ true → header.offset + note_size ≤ length file.now }
     ensures { result ≡ noted file.now known (fields_of header) }

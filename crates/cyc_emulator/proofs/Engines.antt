@@ -52,8 +52,8 @@ counted_more : (count : ℕ) (u v w : World) → Counted count u v → v.machine
 counted_more count u v w counted running goes =
     subst (λ k. Counted k u w) (let one : suc count ≡ count + 1 = omega arith in one) (v, counted_run count u v counted, ap end_in running, goes)
 
--- `Way` says that `count` instructions lead from one world to another, and that `peaks`, if they
--- are counted, are the peaks of calls and pages on the way.
+-- `Way` says that `count` instructions lead from one state of machine and devices to another. The
+-- `peaks`, if they are counted, are the peaks of calls and pages on this way.
 abbrev pub Way : (peaks : Option Peaks) → ℕ → World → World → Type 0
 Way peaks count u v = Counted count u v × IfSome peaks (HasPeaks count u v)
 
@@ -77,7 +77,7 @@ pub record Progress (start : List ℕ → World) (old now : Devices) (count : �
   pub running : machine.phase ≡ Running
   pub runs : (rest : List ℕ) → (x.ended ≡ true → rest ≡ []) → Way peaks count (start (read ++ rest)) (record { machine = machine; output = output; input = rest })
 
--- A device that is not used in a turn keeps its contents.
+-- A reader or writer that is not used while one instruction is executed keeps its remaining input or its output.
 
 leaves_kept : (a b c : Option (List ℕ)) (xs : List ℕ) → Leaves a b xs → Keeps b c → Leaves a c xs
 leaves_kept None b c xs h k = tt
@@ -119,7 +119,7 @@ quiet start old now new count x x' peaks machine machine' event s more p step is
 given_running : (s : State) (byte : Option ℕ) → s.phase ≡ Waiting → (given s byte).phase ≡ Running
 given_running s byte waiting = ap (λ q. (given_in q s byte).phase) waiting
 
--- `Took` describes the world before a byte was taken from the input, if `rest` remains after it.
+-- `Took` describes the state of machine and devices before a byte was taken from the input, if `rest` remains after it.
 pub record Took (start : List ℕ → World) (count : ℕ) (peaks : Option Peaks) (machine : State) (output read : List ℕ) (byte : Option ℕ) (rest : List ℕ) : Type 0 where
   pub before : List ℕ
   pub runs : Way peaks count (start (read ++ rest)) (record { machine = machine; output = output; input = before })
@@ -199,7 +199,8 @@ Progress-turn start old now new count x x' peaks machine machine' p (Puts byte, 
 Progress-turn start old now new count x x' peaks machine machine' p (Ended end, s, step, none) = absurd none
 Progress-turn start old now new count x x' peaks machine machine' p (NoMemory, s, step, none) = absurd none
 
--- If no peaks are counted, the exchanges between two iterations of the loop have the effects that `WentOn` describes.
+-- If no peaks are counted, the exchanges of bytes with the devices between two iterations of the loop have the
+-- effects that `WentOn` describes.
 
 -- Returns the observable state of the reader and the writer during a run.
 abbrev pub devices_of : Traffic → Devices
@@ -290,7 +291,7 @@ executes_of start old now count x peaks machine p = record {
   written = p.printed;
 }
 
--- If the devices are not used afterwards, the statement about the executed instructions stays true.
+-- If the reader and the writer are not used afterwards, the statement about the executed instructions stays true.
 executes_kept : (start : List ℕ → World) (old now new : Devices) (count : ℕ) (w : World) → Executes start old now count w → Rests now new → Executes start old new count w
 executes_kept start old now new count w x (kept, silent) = record {
   input = x.input;
@@ -403,7 +404,7 @@ answers_run grows store read image limits budget machine old new result is insid
     (MatchBool-false (has_outside image) (Refuses (Load load.Outside) old new result) (Starts grows (start_world image limits store) budget old new result) inside
     (inr (subst (λ m. Runs grows (λ input. record { machine = m; output = []; input = input }) budget old new result) begins runs)))
 
--- If the machine has no place for an image, the result `Outside` is correct.
+-- If the machine's memory has no address range for a segment of an image, the result `Outside` is correct.
 answers_outside : (grows : Bool) (store : StoreState) (read : Result ImageContents ElfFault) (image : ImageContents) (limits : Bounds) (budget : ℕ) (old new : Devices) (result : Result Report RunFault)
     → read ≡ Ok image → has_outside image ≡ true → Refuses (Load load.Outside) old new result → Answers grows store read limits budget old new result
 answers_outside grows store read image limits budget old new result is outside refuses =
@@ -493,7 +494,7 @@ reported_step grows old (Puts byte) new memory step = step
 reported_step grows old (Ended end) new memory step = step
 reported_step grows old NoMemory new memory step = absurd (memory refl)
 
--- If memory suffices, an iteration of the loop is one without a lack of memory.
+-- A correct result of an iteration of the engine's loop that never lacks memory is also correct for an iteration that may lack memory.
 pub turned_over : (grows : Bool) (machine machine' : State) (x x' : Exchanged) (old new : Devices) (result : Result (Option End) RunFault) → Turned machine machine' x x' old new result → TurnedOver grows machine machine' x x' old new result
 turned_over grows machine machine' x x' old new (Ok end) turned = turned
 turned_over grows machine machine' x x' old new (Err Read) turned = turned

@@ -42,7 +42,8 @@ Leaves None new rest = Unit {0}
 Leaves (Some reported) None rest = ⊥
 Leaves (Some reported) (Some left) rest = left ≡ rest
 
--- `Counted` says that `count` instructions lead from one world to another, and that no instruction is executed after the end of the run.
+-- `Counted` says that `count` instructions lead from one state of machine and devices to another, none of them executed after the end of
+-- the run.
 abbrev pub Counted : ℕ → World → World → Type 0
 Counted zero old new = new ≡ old
 Counted (suc count) old new = (mid : World) × Run count old mid × (end_of mid ≡ None) × Goes mid new
@@ -63,8 +64,8 @@ uses_in w = uses_at w.machine
 abbrev pub higher : Peaks → Peaks → Peaks
 higher p q = record { calls = max p.calls q.calls; pages = max p.pages q.pages }
 
--- `HasPeaks` says that `count` instructions lead from one world to another. `most` is the maximum of the calls and the pages in use over
--- all worlds on the way, including both ends.
+-- `HasPeaks` says that `count` instructions lead from one state of machine and devices to another. `most` is the maximum of the calls
+-- and the pages in use over all states on the way, including the first and the last.
 abbrev pub HasPeaks : ℕ → World → World → (most : Peaks) → Type 0
 HasPeaks zero old new most = (new ≡ old) × (most ≡ uses_in old)
 HasPeaks (suc count) old new most =
@@ -79,24 +80,24 @@ pub record Executes (start : List ℕ → World) (old new : Devices) (count : �
   pub unread : Leaves old.remaining new.remaining w.input
   pub written : Appends old.written new.written w.output
 
--- `Stops` says that the run stopped in this way: at its end, or because the budget was used up.
+-- `Stops` says that the run stopped in this way: at its end, or because the budget of instructions was used up.
 abbrev pub Stops : Stop → (budget count : ℕ) → World → Type 0
 Stops (stops.End end) budget count w = end_of w ≡ Some end
 Stops stops.Spent budget count w = (end_of w ≡ None) × (count ≡ budget)
 
--- Returns the limit that a run reached when it ended with `Full`, determined by the last requested service. `EndFull` means that the
--- stack had no space for a call; any other service is one of the store, and means that the store had too few pages.
+-- Returns the limit that a run reached when it ended with `Full`, determined by the last system call. `EndFull` means that the stack
+-- had no space for a call; any other system call is one of the store, and means that the store had too few pages.
 abbrev pub limit_at : Stop → Core → Option Limit
 limit_at (stops.End ends.Full) core = if register core SERVICE == END_FULL then Some Calls else Some Pages
 limit_at stop core = None
 
--- `StandsAt` says that the address and the limit in a report are right for this world.
+-- `StandsAt` says that the address and the limit in a report are right for this state of the machine.
 abbrev pub StandsAt : Report → World → Type 0
 StandsAt report w = (report.counter ≡ w.machine.core.counter) × (report.limit ≡ limit_at report.stop w.machine.core)
 
--- `IsReported` says that a report is right for a run from this world. The report contains the number of instructions, within the budget,
--- and how and where the run stopped. The report also contains the numbers of bytes read and printed, and the peaks of calls and pages if
--- they were counted. All parts of the report describe the same run.
+-- `IsReported` says that a report is right for a run from this start state. The report contains the number of instructions, within the
+-- budget, and how and where the run stopped. The report also contains the numbers of bytes read and printed, and the peaks of calls and
+-- pages if they were counted. All parts of the report describe the same run.
 pub record IsReported (start : List ℕ → World) (budget : ℕ) (old new : Devices) (report : Report) : Type 0 where
   pub world : World
   pub executes : Executes start old new report.count world
@@ -114,8 +115,8 @@ WantsByteNext w = (s : State) × Step w.machine WantsByte s
 abbrev pub PrintsNext : World → Type 0
 PrintsNext w = (byte : ℕ) × (s : State) × Step w.machine (Puts byte) s
 
--- `Runs` describes the result of a run from this world, over a store that grows or not. If a device failed, or the store lacked memory, the
--- instruction was not executed.
+-- `Runs` describes the result of a run from this start state, over a store that grows or not. If a device failed, or the store lacked
+-- memory, the instruction that needed it was not executed.
 abbrev pub Runs : (grows : Bool) (start : List ℕ → World) (budget : ℕ) (old new : Devices) → Result Report RunFault → Type 0
 Runs grows start budget old new (Ok report) = IsReported start budget old new report
 Runs grows start budget old new (Err Read) =
@@ -126,7 +127,7 @@ Runs grows start budget old new (Err Memory) =
     (count : ℕ) × (w : World) × Executes start old new count w × (count < budget) × (end_of w ≡ None) × WantsMemory grows w.machine
 Runs grows start budget old new (Err e) = ⊥
 
--- `Refuses` says that the result is this fault or lack of memory, before any byte is read or written.
+-- `Refuses` says that the result of running an image is this fault or lack of memory, before any byte is read or written.
 abbrev pub Refuses : RunFault → (old new : Devices) → Result Report RunFault → Type 0
 Refuses fault old new result = ((result ≡ Err fault) ⊎ (result ≡ Err Memory)) × Rests old new
 
@@ -134,8 +135,8 @@ Refuses fault old new result = ((result ≡ Err fault) ⊎ (result ≡ Err Memor
 abbrev pub Starts : (grows : Bool) (start : List ℕ → World) (budget : ℕ) (old new : Devices) → Result Report RunFault → Type 0
 Starts grows start budget old new result = ((result ≡ Err Memory) × Rests old new) ⊎ Runs grows start budget old new result
 
--- `Answers` describes the result of a call with this store, where `read` is the meaning of the image's bytes. The result is the fault of
--- reading, that of an image outside the machine's memory, or the result of running the image.
+-- `Answers` describes the result of running an image over this store, where `read` is the meaning of the image's bytes. The result is
+-- the fault of reading the image, that of an image outside the machine's memory, or the result of the run.
 abbrev pub Answers : (grows : Bool) → StoreState → Result ImageContents ElfFault → Bounds → (budget : ℕ) (old new : Devices) → Result Report RunFault → Type 0
 Answers grows store (Err f) limits budget old new result = Refuses (Elf f) old new result
 Answers grows store (Ok image) limits budget old new result =
@@ -143,6 +144,6 @@ Answers grows store (Ok image) limits budget old new result =
     (Refuses (Load load.Outside) old new result)
     (Starts grows (start_world image limits store) budget old new result)
 
--- `AnswersAnew` describes the result of a call that makes its own new store, with as many pages as the limits allow.
+-- `AnswersAnew` describes the result of running an image over a new store, which has as many pages as the limits allow.
 abbrev pub AnswersAnew : (grows : Bool) → Result ImageContents ElfFault → Bounds → (budget : ℕ) (old new : Devices) → Result Report RunFault → Type 0
 AnswersAnew grows read limits budget old new result = (store : StoreState) × IsNew limits.pages store × Answers grows store read limits budget old new result

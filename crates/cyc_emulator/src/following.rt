@@ -13,29 +13,29 @@ use cyc_pagestore::PageStore;
 use cyc_store::Store;
 use std::alloc::{AllocError, Global};
 
-/// The most active calls that are reported.
+/// The greatest number of active calls that a report lists.
 pub const MOST_REPORTED: usize = 32;
 
-/// The number of instructions before the stop that are replayed one at a time in the first attempt.
+/// The number of instructions before the stop that the first attempt of a replay executes one at a time.
 const FIRST_WINDOW: u64 = 10_000;
 
-/// The factor by which more instructions are replayed one at a time, if the exception was first thrown before them.
+/// The factor by which the instructions replayed one at a time become more, if the exception was first thrown before these instructions.
 const WIDER: u64 = 32;
 
 /// The number of bytes of a stack frame.
 const FRAME_BYTES: u32 = 4 * WORDS_PER_CALL as u32;
 
-/// The word of `addiu $29, $29, -1024`, with which a call makes the callee's frame.
+/// The machine word of `addiu $29, $29, -1024`, with which a call makes the callee's frame.
 const PUSH_FRAME: u32 = 0x27bd_fc00;
 
-/// The word of `addiu $29, $29, 1024`, with which a function removes its frame.
+/// The machine word of `addiu $29, $29, 1024`, with which a function removes its frame.
 const POP_FRAME: u32 = 0x27bd_0400;
 
-/// The word of `lw $31, 8($25)`, the first instruction of a throw to a handler. From this instruction on, register 31 belongs to the
-/// handler, and then register 29 does.
+/// The machine word of `lw $31, 8($25)`, the first instruction of a throw to a handler. From this instruction on, register 31
+/// belongs to the handler, and then register 29 does.
 const THROW: u32 = 0x8f3f_0008;
 
-/// The number of words of a throw to a handler: `lw $31, 8($25)`, `lw $29, 4($25)`, `jr $31` and `lw $25, 0($25)`.
+/// The number of machine words of a throw to a handler: `lw $31, 8($25)`, `lw $29, 4($25)`, `jr $31` and `lw $25, 0($25)`.
 const THROW_WORDS: u32 = 4;
 
 /// The upper half of `sw $31, ..($29)`, with which a function saves its return address.
@@ -47,11 +47,11 @@ const MOST_ENTRY: u32 = 5;
 /// The most words of a call, a return or a throw between the instruction that changes the frame and the jump.
 const MOST_BETWEEN: u32 = 1024;
 
-/// The position at which a run stopped, with the active calls.
+/// The machine-code address at which a run stopped, with the addresses of the active calls.
 #[derive(Drop)]
 pub struct Trail {
     /// The address of the instruction that determines the reported position: the one at the stop, or the test or the throw that caused
-    /// it. For an exception that was passed on, or is on its way to a handler, it is the first throw.
+    /// it. For an exception that was passed on, or is on its way to a handler, this address is that of the first throw.
     pub address: u32,
     /// The addresses of the jumps that made the active calls, innermost first, except that of `main`; at most 32.
     pub calls: Vec<u32>,
@@ -59,7 +59,7 @@ pub struct Trail {
     pub others: u32,
 }
 
-/// Returns the origin of the word at an address: the part of the source for which it was made.
+/// Returns the part of the source program for which the machine word at an address was made.
 fn source_at(stretches: &[Stretch], address: u32) -> Option<Source> {
     Some(stretch_at(stretches, address)?.source)
 }
@@ -73,7 +73,7 @@ fn is_same_function(one: Option<usize>, other: Option<usize>) -> bool {
     }
 }
 
-/// Returns the entries of the functions: for each function, the first stretch that has words.
+/// Returns the entries of the functions: for each function, its first range of machine code (stretch) that has words.
 fn entries_of(alloc: Global, stretches: &[Stretch]) -> Result<Vec<Stretch>, AllocError> {
     let mut entries = Vec::new(alloc);
     let mut last = None;
@@ -106,7 +106,7 @@ enum Change {
     Given,
 }
 
-/// Returns the change of the stack frame that the instruction of this word makes, if it makes one.
+/// Returns the change of the stack frame that the instruction encoded by this word makes, if it makes one.
 fn change_by(word: u32) -> Option<Change> {
     match word {
         PUSH_FRAME => Some(Change::Made),
@@ -126,7 +126,8 @@ fn is_leaving<S: Store + Drop>(machine: &Machine<S>, address: u32) -> bool {
     false
 }
 
-/// The data for a replay: the stretches of the text (with their origins), and the entries of its functions.
+/// The data for a replay: the ranges of the machine code (stretches) with the source constructs they were
+/// made for, and the entries of the functions.
 #[derive(Clone, Copy)]
 struct Map<'a> {
     stretches: &'a [Stretch],
@@ -134,7 +135,7 @@ struct Map<'a> {
 }
 
 impl Map<'_> {
-    /// Returns the address of the entry of the function that contains a word.
+    /// Returns the address of the entry of the function whose machine code contains an address.
     fn entry(&self, address: u32) -> Option<u32> {
         let begun = stretch_at(self.entries, address)?;
         begun.frame_function()?;
@@ -165,7 +166,8 @@ impl Map<'_> {
         Change::Nothing
     }
 
-    /// Returns how the function that contains a word saves its return address: the address of the instruction, and the offset in the frame.
+    /// Returns how the function whose code contains an address saves its return address: the address of the saving instruction, and the
+    /// offset in the frame.
     fn saving<S: Store + Drop>(&self, machine: &Machine<S>, address: u32) -> Option<(u32, u32)> {
         let entry = self.entry(address)?;
         for number in 0..MOST_ENTRY {
@@ -178,7 +180,8 @@ impl Map<'_> {
         None
     }
 
-    /// Returns the saved return address of the function that contains a word, and whose frame begins at `frame`.
+    /// Returns the return address that a function saved in its frame, which begins at `frame`; the function is
+    /// the one whose code contains the given address.
     fn kept<S: Store + Drop>(&self, machine: &Machine<S>, address: u32, frame: u32) -> Option<u32> {
         let (_, offset) = self.saving(machine, address)?;
         machine.word(frame.wrapping_add(offset)).ok()
@@ -203,7 +206,7 @@ impl Map<'_> {
         }
     }
 
-    /// Returns the position of the machine with its active calls.
+    /// Returns the address at which the machine stopped, with the addresses of its active calls.
     fn trail<S: Store + Drop>(
         &self,
         alloc: Global,
@@ -243,13 +246,13 @@ struct Watch {
     last: u32,
     /// The address of the last branch or jump to code that raises a built-in exception.
     tested: u32,
-    /// The position of the first throw of the last exception, if it was seen.
+    /// The address of the first throw of the last exception, with the active calls at that throw, if the throw was seen.
     thrown: Option<Trail>,
 }
 
 impl Watch {
-    /// Returns the address that determines the origin of an instruction. If the instruction raises an exception for several tests, it
-    /// is that of the test that failed.
+    /// Returns the address that determines the source position of an instruction. If the instruction raises an exception for several
+    /// tests, the address is that of the test that failed.
     fn reported(&self, map: Map<'_>, address: u32) -> u32 {
         match source_at(map.stretches, address) {
             Some(Source::Raise { .. }) => self.tested,
@@ -296,8 +299,8 @@ impl Watch {
         Ok(())
     }
 
-    /// Returns the position at which the run stopped. If an exception is passed on or on its way to a handler, this is the exception's
-    /// first throw. Returns `None` if this throw was not seen.
+    /// Returns the address at which the run stopped. If an exception is passed on or on its way to a handler, this address is that of
+    /// the exception's first throw. Returns `None` if the exception's first throw was not seen.
     fn end<S: Store + Drop>(
         self,
         alloc: Global,
@@ -347,7 +350,7 @@ fn skip<S: Store + Drop>(machine: &mut Machine<S>, count: u64, input: &mut Input
     }
 }
 
-/// Replays a run of this many instructions. The last ones are executed one at a time.
+/// Replays a run of this many instructions. The last `window` instructions of the run are executed one at a time.
 fn follow_last<S: Store + Drop>(
     alloc: Global,
     map: Map<'_>,
@@ -373,8 +376,8 @@ fn follow_last<S: Store + Drop>(
     watch.end(alloc, map, &machine)
 }
 
-/// Replays a run of this many instructions, of an image with these stretches, limits and input. Returns the position at which the
-/// run stopped.
+/// Replays a run of this many instructions, of an image with these code ranges (stretches), limits and input. Returns the address
+/// at which the run stopped, with the active calls.
 pub fn follow(
     alloc: Global,
     image: &[u8],

@@ -1,4 +1,4 @@
-//! Lists the words of an image's text with the instructions that they encode.
+//! Lists the words of an image's machine code with the instructions that they encode.
 
 ghost use Rattle.std.specs.Prelude.{◌≡◌, ◌+◌, ◌<◌, ◌≤◌, ◌&&◌, ◌||◌, nat_le, nat_lt, true, All, OnOk, OnErr, length, map, Err};
 ghost use Rattle.std.specs.Io.KnownBytes.{Keeps};
@@ -49,7 +49,7 @@ fn hex_digits(word: u32) -> [u8; 8]
     ]
 }
 
-/// Writes the text of a word: the instruction that it encodes, or `.word`.
+/// Writes the text of a machine word: the instruction that it encodes, or `.word`.
 #[tactic(auto, unfolding(crate::specs::Listing::word_text))]
 fn put_word<W: ByteOut>(address: u32, word: u32, out: &mut W) -> Result<(), Failed>
     ensures bytes { TakesText (W.written out.old) (word_text address word) result (W.written out.new) }
@@ -109,7 +109,7 @@ fn is_in_text(address: u32) -> bool
     TEXT_BASE <= address && address < TEXT_END
 }
 
-/// Writes the lines of the segment that a program header describes, if the segment begins in the text range.
+/// Writes the lines of the segment that a program header describes, if the segment begins in the address range for machine code (text).
 fn put_listed<W: ByteOut>(file: &[u8], header: &ProgramHeader, out: &mut W) -> Result<(), Failed>
     requires stored { header.now.offset + header.now.file_size ≤ length file.now }
     requires segment { IsSegment (segment_of file.now (fields_of header.now)) }
@@ -142,8 +142,9 @@ fn put_all_listed<W: ByteOut>(
     Ok(())
 }
 
-/// Lists an image: a line for each word of each segment in the text range. A line has the address, the word, and the text of the encoded
-/// instruction, or `.word` if the word encodes none. The bytes of the segments are not copied from the file.
+/// Lists an image: a line for each word of each segment that begins in the address range for machine code. A line has the address, the
+/// word, and the text of the encoded instruction, or `.word` if the word encodes none. The bytes of the segments are not copied from the
+/// file.
 ///
 /// If the writer fails, a prefix of the listing has been written.
 pub fn disassemble<W: ByteOut>(alloc: Global, image: &[u8], writer: &mut W) -> Result<(), RunFault>

@@ -58,7 +58,7 @@ pub enum RunFault {
     /// The bytes are not a valid image.
     #[error("{0}")]
     Elf(ElfFault),
-    /// The image has a segment for which the machine's memory has no place.
+    /// The image has a segment that lies outside the address ranges of the machine's memory.
     #[error("{0}")]
     Load(LoadFault),
     /// The reader failed.

@@ -1,5 +1,5 @@
-//! This file explains a fault in a function's body. The scope at the fault is the scope at which the checker stopped. The items,
-//! statements and expressions of the body are examined in the order of the text, each after its parts.
+//! This file explains a fault in a function's body. The scope at the fault is the scope at which the checker stopped. The
+//! declarations, statements and expressions of a function's body are examined in the order of the text, each after its parts.
 use crate::calls::explain_call;
 use crate::expressions::{
     explain_address, explain_binary, explain_chain, explain_key, explain_name, explain_place,
@@ -88,7 +88,7 @@ fn note_head(teller: &mut Teller, names: &RegionNames, name: Ident, members: &[M
     }
 }
 
-/// Explains the fault in the forms (items, statements and expressions) of a body, which are listed last one first.
+/// Explains the fault in the forms (declarations, statements and expressions) of a body, which are listed last one first.
 fn explain_forms(
     teller: &mut Teller,
     scope: &mut Scope<'_>,
@@ -134,8 +134,8 @@ fn explain_begin(teller: &mut Teller, label: Option<Ident>, span: Span) {
 
 // ---- items
 
-/// Explains a local that these items declare twice or that is already declared. The names that these items declare are out of scope after
-/// the items.
+/// Explains a local that a block declares twice or whose name is already declared. The names that a block declares are out of scope after
+/// the block.
 fn explain_declared(teller: &mut Teller, items: &Vec<Item>) {
     for item in items {
         match item {
@@ -149,7 +149,7 @@ fn explain_declared(teller: &mut Teller, items: &Vec<Item>) {
     teller.declared.clear();
 }
 
-/// Explains a fault in an item of a block that ends at position `end`.
+/// Explains a fault in a declaration or statement of a block that ends at source position `end`.
 fn explain_item(teller: &mut Teller, scope: &mut Scope<'_>, item: &Item, end: Option<Span>) {
     match item {
         Item::Statement { .. } => {}
@@ -170,7 +170,7 @@ fn explain_item(teller: &mut Teller, scope: &mut Scope<'_>, item: &Item, end: Op
     }
 }
 
-/// Explains a fault in an item that opens a region, by a key or as a new region, in a block that ends at position `end`.
+/// Explains a fault in a declaration that opens a key's region or a new region, in a block that ends at source position `end`.
 fn explain_region_item(
     teller: &mut Teller,
     scope: &Scope<'_>,
@@ -206,7 +206,7 @@ fn explain_statement(teller: &mut Teller, scope: &mut Scope<'_>, statement: &Stm
     }
 }
 
-/// Explains a fault before the items of a `catch` clause, or a second declaration of the clause's variable.
+/// Explains a fault before the statements of a `catch` clause, or a second declaration of the clause's variable.
 fn explain_clause(teller: &mut Teller, scope: &Scope<'_>, clause: &Clause) {
     explain_exception(teller, scope, clause.exception);
     teller
@@ -248,7 +248,7 @@ fn explain_expression(
     }
 }
 
-/// Explains a fault in an expression whose form requires nothing of the type of a part.
+/// Explains a fault in an expression of a form that puts no requirement on the types of its parts.
 fn explain_plain(teller: &mut Teller, scope: &Scope<'_>, expression: &Expr) {
     match expression {
         Expr::UniqueRegion { span } => teller.tell(Message::UniqueRegionAlone, *span),

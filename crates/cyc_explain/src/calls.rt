@@ -18,7 +18,7 @@ use std::mem::ManuallyDrop;
 
 // ---- regions of the call
 
-/// Notes the name of a called function, its regions as its own signature names them, and the name of its parameter with this number.
+/// Notes the name of a called function, its regions as its own signature names them, and the name of its parameter with this index.
 fn note_theirs(
     teller: &mut Teller,
     declarations: &[Declaration],
@@ -140,7 +140,7 @@ fn name_of(homes: &Homes, region: Region) -> Option<usize> {
     }
 }
 
-/// Writes the caller's region for a region of the called function.
+/// Writes the region of the caller that takes the place of a region of the called function.
 fn say_here(teller: &mut Teller, own: Region, here: Region) {
     teller.notes.their_regions.0 = own;
     teller.notes.regions.0 = here;
@@ -260,7 +260,7 @@ fn explain_effects(
     }
 }
 
-/// Explains a fault in a call of a function with this signature and these values, or in its argument with this number.
+/// Explains a fault in a call of a function with this signature and these values, or in the call's argument with this index.
 fn explain_called(
     teller: &mut Teller,
     scope: &Scope<'_>,
@@ -320,7 +320,7 @@ fn explain_number(
     }
 }
 
-/// Explains a fault at the name of a called function, or at the call's argument with this number.
+/// Explains a fault at the name of a called function, or at the call's argument with this index.
 pub(crate) fn explain_call(
     teller: &mut Teller,
     scope: &mut Scope<'_>,

@@ -206,8 +206,8 @@ fn is_in_chain(teller: &Teller, start: Span, postfixes: &[Postfix]) -> bool {
     is_here
 }
 
-/// Explains a violated requirement of a postfix operator (a field or an index) on the pointer found and on its target. The target then
-/// becomes the value found.
+/// Explains a violated requirement of a postfix operator (a field or an index) on the pointer found and on its target. The pointer's
+/// target then becomes the value found, from which the next operator continues.
 fn explain_postfix(teller: &mut Teller, scope: &Scope<'_>, start: Span, field: Option<Ident>) {
     match field {
         Some(name) => {
@@ -270,7 +270,7 @@ fn is_null(found: &Option<ValueType>) -> bool {
     matches!(found, Some(ValueType::Null))
 }
 
-/// Explains two values that cannot be compared, if the types of both values are known.
+/// Explains two values that cannot be compared, if the checker could find the types of both in spite of the fault.
 fn explain_compared(teller: &mut Teller, span: Span) {
     if matches!(teller.notes.wanted, Some(_)) {
         let is_left = given(&teller.notes.found).is_pointer();

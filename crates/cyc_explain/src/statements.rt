@@ -1,4 +1,4 @@
-//! This file explains violated requirements of items and statements on their parts.
+//! This file explains violated requirements of declarations and statements on their parts.
 use crate::expressions::{explain_key, explain_name, explain_place};
 use cyc_check::place_type;
 use cyc_explain_texts::messages::Message;
@@ -92,7 +92,7 @@ pub(crate) fn explain_opened(teller: &mut Teller, scope: &Scope<'_>, region: Ide
     explain_key(teller, scope, key);
 }
 
-/// Explains a fault in an alias; the type of an alias is the type of its source except for the region.
+/// Explains a fault in an alias; the type of an alias is the type of the variable whose object it shares, except for the region.
 pub(crate) fn explain_alias(
     teller: &mut Teller,
     scope: &Scope<'_>,

@@ -5,8 +5,8 @@ use cyc_explain_texts::teller::Teller;
 use cyc_scope::Scope;
 use cyc_syntax::Expr;
 
-/// Notes the type of an expression as the type found. Returns true if the type of the expression is known. `is_looked_at` tells if the
-/// value is only examined or also used.
+/// Notes the type of an expression as the type found. Returns true if the checker could find the type of the expression in spite of
+/// the fault. `is_looked_at` tells if the value is only examined or also used.
 pub(crate) fn find(
     teller: &mut Teller,
     scope: &mut Scope<'_>,
@@ -19,7 +19,8 @@ pub(crate) fn find(
     matches!(teller.notes.found, Some(_))
 }
 
-/// Returns the number of the name of the variable that an expression denotes; `NO_NAME` if the expression is not a variable.
+/// Returns the index, in the lexicon, of the name of the variable that an expression denotes; `NO_NAME` if the expression is
+/// not a variable.
 fn variable_of(value: &Expr) -> usize {
     match value {
         Expr::Variable { name } => name.name.number,

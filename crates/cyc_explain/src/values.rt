@@ -1,4 +1,4 @@
-//! This file explains values that may not be used in their role.
+//! This file explains values that may not be used for their purpose, such as an assignment or an argument.
 use crate::calls::explain_call;
 use crate::statements::{result_type, type_here};
 use crate::types::find;
@@ -24,7 +24,7 @@ fn left_out_of(value: Given<'_>) -> Region {
     }
 }
 
-/// Returns the type to which a value is converted, if this type is known.
+/// Returns the type to which a value is converted, if the checker could find this type in spite of the fault.
 fn type_wanted(scope: &mut Scope<'_>, role: &Role<'_>, found: Given<'_>) -> Option<Ty> {
     match role {
         Role::Operand(_) | Role::Argument(..) => None,
@@ -35,7 +35,7 @@ fn type_wanted(scope: &mut Scope<'_>, role: &Role<'_>, found: Given<'_>) -> Opti
     }
 }
 
-/// Explains a value that may not be used in its role.
+/// Explains a value that may not be used for its purpose, such as an assignment or an argument.
 pub(crate) fn explain_value(
     teller: &mut Teller,
     scope: &mut Scope<'_>,
@@ -67,7 +67,7 @@ fn explain_converted(teller: &mut Teller, scope: &mut Scope<'_>, role: &Role<'_>
     }
 }
 
-/// Returns the message about the role of a value, and notes the names for the message.
+/// Returns the message that tells for which purpose a value is used, and notes the names for the message.
 fn note_target(notes: &mut Notes, scope: &Scope<'_>, role: &Role<'_>) -> Message {
     match role {
         Role::Local(name, _) => {

@@ -12,7 +12,7 @@ use cyc_words::{Code, Span};
 
 // ---- regions that are not live
 
-/// Returns the last end, before the fault, of a block that opens the dynamic region with the given name.
+/// Returns the source position of the last block end before the fault, among blocks that open the dynamic region with the given name.
 fn last_end(teller: &Teller, name: usize) -> Option<Span> {
     let mut last = None;
     for ending in &teller.endings {
@@ -70,7 +70,7 @@ pub fn explain_closed(teller: &mut Teller, scope: &Scope<'_>, span: Span) {
 
 // ---- regions that do not outlive others
 
-/// Returns the message about a region's origin, or `None` if only the region's name is known.
+/// Returns the message that tells where a region comes from, such as a block or the caller, or `None` if only its name is known.
 fn beginning_of(region: Region, home: Option<Home>) -> Option<Message> {
     match home {
         Some(home) => match home.origin {
@@ -87,7 +87,7 @@ fn beginning_of(region: Region, home: Option<Home>) -> Option<Message> {
     }
 }
 
-/// Writes a region's origin, introduced by the message `mark`. Returns true if there was an origin to write.
+/// Writes where a region comes from, introduced by the message `mark`. Returns true if it is known where the region comes from.
 fn say_beginning(teller: &mut Teller, mark: Message, region: Region) -> bool {
     let home = teller.notes.homes.find(region);
     let beginning = beginning_of(region, home);
@@ -214,8 +214,8 @@ fn more_on(given: Given<'_>, wanted: &Ty) -> Message {
     }
 }
 
-/// Returns a second message about pointers with different target types. The outer marks of the pointer types do not matter, because only
-/// the targets cannot be converted.
+/// Returns a second message about pointers with different target types. The pointer kinds (`*`, `@` or `?`) of the outer pointer types
+/// do not matter, because only the targets cannot be converted.
 fn more_on_targets(target: &Ty, wanted: &Ty) -> Message {
     match (target, wanted) {
         _ if has_shape(target, wanted) => Message::OtherRegions,
@@ -268,7 +268,7 @@ fn better(notes: &Notes, lead: Message, more: Message) -> Message {
     }
 }
 
-/// Returns the number of the struct that a pointer value points to.
+/// Returns the index of the struct that a pointer value points to.
 fn struct_after(value: &Option<ValueType>) -> Option<usize> {
     match value {
         Some(
@@ -320,7 +320,7 @@ fn are_heap(regions: &[Region]) -> bool {
     true
 }
 
-/// Returns the number of the struct if the type is a struct type.
+/// Returns the index of the struct if the type is a struct type.
 fn struct_of(of_type: &Ty) -> Option<usize> {
     match of_type {
         Ty::Struct { number, .. } => Some(*number),
@@ -342,7 +342,7 @@ fn lead_alike(of_type: &Ty, wanted: &Ty) -> bool {
     }
 }
 
-/// Returns true if the targets of the found type and of the required type are pointers that differ only in their marks.
+/// Returns true if the targets of the found and the required type are pointers that differ only in their pointer kinds (`*`, `@` or `?`).
 fn is_of_other_mark(notes: &Notes) -> bool {
     match (&notes.found, &notes.wanted) {
         (
@@ -405,7 +405,7 @@ fn better_on_null(notes: &Notes, lead: Message) -> Message {
     }
 }
 
-/// Returns the demand that converting the found type to the required type violates, and a second message about the types.
+/// Returns the code of the typing rule that converting the found type to the required type violates, and a second message about the types.
 fn broken(notes: &Notes, scope: &Scope<'_>, span: Span) -> Option<(Code, Message)> {
     if let Some(ValueType::Value { of_type }) = &notes.wanted {
         let found = given(&notes.found);
@@ -418,7 +418,7 @@ fn broken(notes: &Notes, scope: &Scope<'_>, span: Span) -> Option<(Code, Message
     None
 }
 
-/// Explains a value whose type cannot be converted to the required type. The message `lead` describes the value's role.
+/// Explains a value whose type cannot be converted to the required type. The message `lead` tells for which purpose the value is used.
 pub fn explain_conversion(teller: &mut Teller, scope: &Scope<'_>, span: Span, lead: Message) {
     if let Some((code, more)) = broken(&teller.notes, scope, span) {
         if teller.is_fault(code, span) {

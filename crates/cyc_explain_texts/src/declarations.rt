@@ -84,7 +84,7 @@ fn explain_constructors(teller: &mut Teller, constructors: &[Constructor]) {
     }
 }
 
-/// Explains a fault in the parts of a struct declaration, but not in the struct's name.
+/// Explains a fault in the region parameters or fields of a struct declaration, but not in the struct's name.
 fn explain_struct(teller: &mut Teller, regions: &[Ident], fields: &[Member]) {
     for region in regions {
         teller.declare(*region);

@@ -5,7 +5,7 @@ use cyc_words::Span;
 #[derive(Drop)]
 pub struct Explanation {
     /// The lines state the violated rule with the names, types or regions involved; the last line has no line feed. If the last line
-    /// begins with `hint: `, it is advice that replaces the general advice for the code.
+    /// begins with `hint: `, it is advice that replaces the general advice for the fault's code.
     pub lines: Vec<u8>,
     /// The last source position that the lines of the explanation mention, if they mention one.
     pub place: Option<Span>,

@@ -1,5 +1,5 @@
-//! The forms of a function's body (items, statements, expressions) as a list in source order, each form after its parts. Code that visits
-//! the list needs no recursion.
+//! The forms of a function's body (declarations, statements, expressions) as a list in source order, each form after its parts. Code that
+//! visits the list of forms needs no recursion.
 use crate::wanted::{Wanted, wanted_by, wanted_of};
 use cyc_operands::span_of;
 use cyc_syntax::{
@@ -11,29 +11,29 @@ use std::alloc::Global;
 /// A number larger than the number of forms in any source text.
 const MOST: usize = 1_000_000;
 
-/// The position in which the value of an expression is used.
+/// The use of an expression's value, such as an operand or a call argument.
 #[derive(Clone, Copy)]
 pub enum Role<'b> {
-    /// The value is an operand that must satisfy this demand.
+    /// The value is an operand that must satisfy this requirement.
     Operand(Wanted),
     /// The value is assigned to the given lvalue.
     Assigned(&'b Expr),
     /// The value initialises the local with the given name and written type.
     Local(Ident, &'b WrittenType),
     Returned,
-    /// The value initialises the field with the given number, of a struct with the given name and regions.
+    /// The value initialises the field with the given index, of a struct with the given name and regions.
     Field(Ident, &'b [Ident], usize),
-    /// The value is the argument with the given number, in a call of the given function with the given arguments.
+    /// The value is the argument with the given index, in a call of the given function with the given arguments.
     Argument(Ident, &'b [Expr], usize),
 }
 
 impl Role<'_> {
-    /// Returns true if the role puts a demand on the value.
+    /// Returns true if the way in which a value is used puts a requirement on it.
     pub fn is_asked(&self) -> bool {
         !matches!(self, Role::Operand(Wanted::Nothing))
     }
 
-    /// Returns true if the role only examines the value, so that a unique pointer is not moved.
+    /// Returns true if the use of a value only examines it, so that a unique pointer is not moved.
     pub fn is_looked_at(&self) -> bool {
         match self {
             Role::Operand(wanted) => wanted.is_looked_at(),
@@ -42,7 +42,8 @@ impl Role<'_> {
     }
 }
 
-/// A form of a function's body that may have demands; the form's parts are separate list entries.
+/// A form of a function's body (a declaration, statement or expression) that may have
+/// requirements; the form's parts are separate list entries.
 #[derive(Clone, Copy)]
 pub enum Form<'b> {
     Expression {
@@ -58,11 +59,11 @@ pub enum Form<'b> {
         item: &'b Item,
         end: Option<Span>,
     },
-    /// The start of the items of a block.
+    /// The start of the declarations and statements of a block.
     Items {
         items: &'b Vec<Item>,
     },
-    /// The start of the items of a catch clause.
+    /// The start of the declarations and statements of a catch clause.
     Clause {
         clause: &'b Clause,
     },
@@ -136,7 +137,7 @@ impl<'b> Forms<'b> {
         }
     }
 
-    /// Adds the parts of an item to the pending forms.
+    /// Adds the parts of a declaration or statement to the pending forms.
     fn add_in_item(&mut self, item: &'b Item, end: Option<Span>) {
         match item {
             Item::Statement { statement } => self.add_statement(statement, end),
@@ -228,7 +229,8 @@ impl<'b> Forms<'b> {
         }
     }
 
-    /// Adds the items of a default clause to the pending forms; `around` is the position of the statement that has the clause.
+    /// Adds the declarations and statements of a default clause to the pending forms; `around` is the position of the
+    /// statement that has the clause.
     fn add_default(&mut self, items: &'b Vec<Item>, around: Span, end: Option<Span>) {
         self.add_begin(None, start_of(items, around));
         self.add_items(items, end);
@@ -342,8 +344,8 @@ impl<'b> Forms<'b> {
     }
 }
 
-/// Returns the source position where a default clause's items begin. A default clause stores no source position, so the beginning
-/// of the enclosing statement is used if there are no items.
+/// Returns the source position where the declarations and statements of a default clause begin. A default clause stores no source
+/// position, so an empty one is given the beginning of the enclosing statement.
 fn start_of(items: &Vec<Item>, around: Span) -> Span {
     match items.first() {
         Some(Item::Local { of_type, .. }) => of_type.span,

@@ -1,4 +1,4 @@
-//! The origins and names of the regions of a function.
+//! For each region of a function, the construct from which it comes, and its name.
 use cyc_syntax::{BaseType, Ident, Member, WrittenType};
 use cyc_types::{Region, RegionNames};
 use cyc_words::Span;
@@ -11,15 +11,15 @@ pub enum Origin {
     Caller,
     /// A block, possibly the function's body, opens the region.
     Block,
-    /// A `region` item opens the region.
+    /// A `region` declaration in a block opens the region.
     Item,
     /// An alias declaration introduces the region.
     Alias,
-    /// The region is dynamic: an item declares it, or the caller provides it.
+    /// The region is dynamic: a declaration in a block creates it, or the caller provides it.
     Dynamic,
 }
 
-/// The origin of a region, its name, if it has one, and the source position of its declaration or of its block.
+/// The construct from which a region comes, the region's name, if it has one, and the source position of its declaration or of its block.
 #[derive(Clone, Copy)]
 pub struct Home {
     pub name: Option<usize>,
@@ -27,7 +27,7 @@ pub struct Home {
     pub origin: Origin,
 }
 
-/// The origins of a function's regions that are declared before the fault, indexed by region numbers.
+/// For the regions of a function that are declared before the fault, the constructs from which they come, in the order of their numbers.
 #[derive(Drop)]
 pub struct Homes {
     pub all: Vec<Home>,
@@ -43,7 +43,7 @@ impl Homes {
         }
     }
 
-    /// Returns the origin of a region, or `None` for the heap and the unique region.
+    /// Returns where a region comes from, or `None` for the heap and the unique region.
     pub fn find(&self, region: Region) -> Option<Home> {
         match region {
             Region::Variable(number) => self.all.get(number).copied(),
@@ -62,7 +62,7 @@ impl Homes {
         found
     }
 
-    /// Adds the origin of the region with the next number.
+    /// Records where the region with the next number comes from.
     pub fn add(&mut self, name: Option<Ident>, span: Span, origin: Origin) {
         let name = match name {
             Some(name) => Some(name.name.number),
@@ -74,7 +74,7 @@ impl Homes {
 
     // ---- the signature
 
-    /// Adds the origins of a function's regions: its own, and those that its parameters name or omit.
+    /// Records where a function's regions come from: its own region, and those that its parameters name or omit.
     pub fn add_parameters(&mut self, names: &RegionNames, own: Ident, members: &[Member]) {
         self.add(Some(own), own.span, Origin::Block);
         for member in members {
@@ -83,7 +83,7 @@ impl Homes {
         }
     }
 
-    /// Adds the origins of the regions that a type contains before its pointer marks.
+    /// Records the regions that the base of a pointer type names, before its pointer signs (`*`, `@` or `?`).
     fn add_base(&mut self, names: &RegionNames, base: &BaseType) {
         match base {
             BaseType::Int | BaseType::Char => {}
@@ -109,7 +109,7 @@ impl Homes {
         }
     }
 
-    /// Adds the origin of the named region, unless the name is predefined or already known.
+    /// Records where the named region comes from, unless the name is predefined or already known.
     fn add_named(&mut self, names: &RegionNames, name: Ident) {
         let number = name.name.number;
         let is_fixed = matches!(names.find(number), Some(Region::Heap | Region::Unique));

@@ -3,7 +3,7 @@
 use cyc_syntax::{Declaration, Ident, Name, Names, Tree};
 use std::alloc::Global;
 
-/// The number that represents the absence of a name.
+/// The value that stands for the absence of a name where the index of a name is expected.
 pub const NO_NAME: usize = usize::MAX;
 
 /// The beginning and end of a name's text within the common buffer.
@@ -13,7 +13,7 @@ struct Entry {
     end: usize,
 }
 
-/// A struct of the program: the number of its name, and its number of region parameters.
+/// A struct of the program: the index of its name in the lexicon, and its number of region parameters.
 #[derive(Clone, Copy)]
 struct Known {
     name: usize,
@@ -78,7 +78,7 @@ impl Lexicon {
         }
     }
 
-    /// Returns the number of the name of a struct, from the struct's number.
+    /// Returns the index of a struct's name in the lexicon, from the struct's own index.
     pub fn struct_name(&self, number: usize) -> usize {
         match self.structs.get(number) {
             Some(known) => known.name,

@@ -13,7 +13,7 @@ pub enum Sort {
     Function,
     Struct,
     Exception,
-    /// The name of a field of the struct with this number.
+    /// The name of a field of the struct with this index.
     Field(usize),
 }
 

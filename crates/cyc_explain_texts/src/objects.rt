@@ -1,4 +1,4 @@
-//! Explains violated demands on the values of a new struct.
+//! Explains violated requirements on the values of a new struct.
 use crate::lexicon::NO_NAME;
 use crate::messages::Message;
 use crate::names::{Sort, explain_unknown};
@@ -11,7 +11,7 @@ use cyc_types::formation::arguments_or;
 use cyc_words::Code;
 use std::mem::ManuallyDrop;
 
-/// Explains a violated demand on the initial value after `new`, except the demands on its parts.
+/// Explains a violated requirement on the initial value after `new`, except the requirements on its parts.
 pub fn explain_made(teller: &mut Teller, scope: &Scope<'_>, initial: &Initial) {
     if let Initial::Fields {
         name,
@@ -51,7 +51,7 @@ fn explain_counts(
     }
 }
 
-/// Returns the number of a field's name, from the name of the struct and the field's number.
+/// Returns the index of a field's name in the lexicon, from the name of the struct and the field's index.
 pub fn field_name(scope: &Scope<'_>, name: Ident, number: usize) -> usize {
     match scope
         .fields(scope.structs().number(name.name.number))
@@ -62,7 +62,7 @@ pub fn field_name(scope: &Scope<'_>, name: Ident, number: usize) -> usize {
     }
 }
 
-/// Returns the type of a field, from the struct's name and region arguments and the field's number.
+/// Returns the type of a field, from the struct's name and region arguments and the field's index.
 pub fn field_type(scope: &Scope<'_>, name: Ident, regions: &[Ident], number: usize) -> Option<Ty> {
     let of_struct = scope.structs().number(name.name.number);
     let count = scope.structs().parameters(name.name.number);

@@ -153,7 +153,7 @@ impl Teller {
         self.words.say(&self.notes, message);
     }
 
-    /// Writes a message that mentions two numbers: the required one and the found one.
+    /// Writes a message that mentions two numbers: a required number and the number found, such as of arguments.
     pub fn say_count(&mut self, message: Message, wanted: usize, found: usize) {
         self.notes.counts = (wanted, found);
         self.say(message);
@@ -161,7 +161,7 @@ impl Teller {
 
     // ---- types found and wanted
 
-    /// Records the type of the value found. Returns true if the type is known.
+    /// Records the type of the value found. Returns true if the checker could find this type in spite of the fault.
     pub fn find_type(&mut self, of_type: Option<Ty>) -> bool {
         self.notes.found = value_of(of_type);
         self.notes.variable = NO_NAME;
@@ -169,14 +169,14 @@ impl Teller {
         matches!(self.notes.found, Some(_))
     }
 
-    /// Records the required type. Returns true if the type is known.
+    /// Records the required type. Returns true if the checker could find the required type in spite of the fault.
     pub fn want_type(&mut self, of_type: Option<Ty>) -> bool {
         self.notes.wanted = value_of(of_type);
         matches!(self.notes.wanted, Some(_))
     }
 }
 
-/// Returns a value type with the given type, if the type is known.
+/// Returns a value type with the given type, if the checker could find this type in spite of the fault.
 fn value_of(of_type: Option<Ty>) -> Option<ValueType> {
     match of_type {
         Some(of_type) => Some(ValueType::Value { of_type }),

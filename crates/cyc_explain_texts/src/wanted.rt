@@ -1,4 +1,4 @@
-//! A demand on a single value, and the message about its violation.
+//! A requirement on a single value, and the message about its violation.
 use crate::conversions::explain_closed;
 use crate::homes::{Home, Origin};
 use crate::messages::Message;
@@ -13,7 +13,7 @@ use cyc_words::{Code, Span};
 
 #[derive(Clone, Copy)]
 pub enum Wanted {
-    /// There is no demand on the value, or one that depends on more than the value.
+    /// No requirement is put on the value, or one that depends on more than the value.
     Nothing,
     /// The value must have a type, because it initialises a new object.
     Content,
@@ -22,13 +22,13 @@ pub enum Wanted {
     Negated,
     /// The value is a right operand of an addition.
     Added,
-    /// The value is compared by size, or is an operand of a subtraction.
+    /// The value is an operand of a subtraction, or of a comparison that finds out which value is less.
     Measured,
     /// The value is tested for zero or null.
     Tested,
     /// The value is compared for equality.
     Compared,
-    /// The value must be an int, or a fat pointer on which pointer arithmetic is performed.
+    /// The value is an operand that must be an int, or a fat pointer on which pointer arithmetic is performed.
     Moved,
     Pointer,
     Fat,
@@ -64,7 +64,7 @@ fn has_members(given: Given<'_>) -> bool {
 }
 
 impl Wanted {
-    /// Returns the message about a value that violates this demand.
+    /// Returns the message about a value that violates this requirement.
     fn message(self) -> Message {
         match self {
             Wanted::Nothing => Message::Nothing,
@@ -80,7 +80,7 @@ impl Wanted {
         }
     }
 
-    /// Returns the advice about a value that violates this demand, if there is any.
+    /// Returns the advice about a value that violates this requirement, if there is any.
     fn advice(self, given: Given<'_>) -> Message {
         match (self, given) {
             (_, Given::Void) => Message::VoidUsed,
@@ -115,7 +115,7 @@ impl Wanted {
         }
     }
 
-    /// Returns true if this demand only examines its operand, so that a unique pointer is not moved.
+    /// Returns true if an operator with this requirement only examines its operand, so that a unique pointer is not moved.
     pub fn is_looked_at(self) -> bool {
         matches!(
             self,
@@ -123,7 +123,7 @@ impl Wanted {
         )
     }
 
-    /// Returns true if a value of the given type satisfies this demand.
+    /// Returns true if a value of the given type satisfies this requirement.
     fn allows(self, given: Given<'_>) -> bool {
         match self {
             Wanted::Nothing => true,
@@ -143,7 +143,7 @@ impl Wanted {
     }
 }
 
-/// Returns the demand of a prefix operator on its operand.
+/// Returns the requirement of a prefix operator on its operand.
 pub fn wanted_of(operator: PrefixOperator) -> Wanted {
     match operator {
         PrefixOperator::Negate => Wanted::Negated,
@@ -154,7 +154,7 @@ pub fn wanted_of(operator: PrefixOperator) -> Wanted {
     }
 }
 
-/// Returns the demands of an operator on its left and right operands.
+/// Returns the requirements of an operator on its left and right operands.
 pub fn wanted_by(operator: BinaryOperator) -> (Wanted, Wanted) {
     match operator {
         BinaryOperator::OrElse | BinaryOperator::AndThen => (Wanted::Tested, Wanted::Tested),
@@ -188,7 +188,7 @@ fn misused(teller: &Teller, wanted: Wanted) -> Message {
     }
 }
 
-/// Explains a value at the given source position whose type violates a demand, or whose region is not live.
+/// Explains a value at the given source position whose type violates a requirement, or whose region is not live.
 pub fn explain_found(teller: &mut Teller, scope: &Scope<'_>, wanted: Wanted, span: Span) {
     let found = given(&teller.notes.found);
     if teller.is_fault(Code::TypeMismatch, span) && !wanted.allows(found) {

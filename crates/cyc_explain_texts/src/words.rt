@@ -26,18 +26,18 @@ const MOST_WHOLE: usize = 1200;
 #[derive(Drop)]
 pub struct Notes {
     pub lexicon: Lexicon,
-    /// The number of the current function's name; `NO_NAME` if there is none.
+    /// The index of the current function's name in the lexicon; `NO_NAME` if there is none.
     pub function: usize,
     /// The regions of the current function, and the regions of the called function.
     pub homes: Homes,
     pub theirs: Homes,
-    /// The number of the name that a message is about, and of a second name.
+    /// The index, in the lexicon, of the name that a message is about, and of a second name.
     pub name: usize,
     pub other: usize,
     pub place: Span,
-    /// The type of the value found, if it is known, and the required type.
+    /// The type of the value found, if the checker could find this type in spite of the fault, and the required type.
     pub found: Option<ValueType>,
-    /// The message about the role of the value found.
+    /// The message that tells for which purpose the value found is used.
     pub lead: Message,
     /// The variable whose value was found, if any; and true if the value is a newly made object.
     pub variable: usize,
@@ -46,7 +46,7 @@ pub struct Notes {
     /// Two regions of the current function, and two regions of the called function.
     pub regions: (Region, Region),
     pub their_regions: (Region, Region),
-    /// The required number and the found number.
+    /// The required number and the number found, such as of arguments, for a message that mentions both.
     pub counts: (usize, usize),
 }
 
@@ -58,7 +58,7 @@ pub struct Words {
     pub stand_in: &'static [u8],
     /// The number of bytes that the current placeholder may still take; unlimited outside placeholders.
     pub room: usize,
-    /// True if a part of the current placeholder's content was left out.
+    /// True if a part of the text for the current placeholder was left out.
     pub is_cut: bool,
     /// The last source position that the lines mention, if any.
     pub place: Option<Span>,
@@ -66,7 +66,7 @@ pub struct Words {
     pub is_whole: bool,
 }
 
-/// Returns a type in the form that the typing rules use; an unknown type is treated as no value.
+/// Returns a type in the form that the typing rules use; a type that the checker could not find is treated as no value.
 pub fn given(value: &Option<ValueType>) -> Given<'_> {
     match value {
         Some(ValueType::Value { of_type }) => Given::Value(of_type),
@@ -107,7 +107,8 @@ impl Words {
         }
     }
 
-    /// Writes a byte of a text, or fills the placeholder that the byte denotes. Returns true if the next byte denotes a placeholder.
+    /// Writes a byte of a message's text, or fills the placeholder that the byte denotes. Returns true if the next byte denotes a
+    /// placeholder.
     fn say_byte(&mut self, notes: &Notes, byte: u8, is_gap: bool) -> bool {
         if is_gap {
             self.begin_gap();
@@ -148,7 +149,7 @@ impl Words {
         }
     }
 
-    /// Fills a placeholder whose content is program text for the user to write.
+    /// Fills a placeholder with program text that the user should write.
     fn fill_written(&mut self, notes: &Notes, letter: u8) {
         match letter {
             b'g' => self.put_declared(notes),
@@ -162,7 +163,7 @@ impl Words {
         }
     }
 
-    /// Fills a placeholder whose content is a region.
+    /// Fills a placeholder with the name or description of a region.
     fn fill_region(&mut self, notes: &Notes, letter: u8) {
         match letter {
             b'r' => self.put_of(notes, &notes.homes, notes.regions.0),
@@ -172,7 +173,7 @@ impl Words {
         }
     }
 
-    /// Fills a placeholder whose content is a number or a fixed text.
+    /// Fills a placeholder with a number or a fixed text.
     fn fill_plain(&mut self, notes: &Notes, letter: u8) {
         match letter {
             b'c' => self.put_number(notes.counts.0),
@@ -219,7 +220,7 @@ impl Words {
         self.put_number(span.column as usize);
     }
 
-    /// Writes the name with the given number.
+    /// Writes the name with the given index in the lexicon.
     fn put_name(&mut self, lexicon: &Lexicon, number: usize) {
         self.put(lexicon.text(number));
     }
@@ -246,7 +247,7 @@ impl Words {
         }
     }
 
-    /// Writes a region, as described by its origin, name and source position.
+    /// Writes a region, described by the construct from which it comes, its name and its source position.
     fn put_home(&mut self, lexicon: &Lexicon, home: Home, is_placed: bool) {
         if let Some(name) = home.name {
             self.put_byte(b'`');
@@ -291,7 +292,7 @@ impl Words {
         }
     }
 
-    /// Writes the type found, with the pointer mark of the required type.
+    /// Writes the type found, with the pointer kind (`*`, `@` or `?`) of the required type.
     fn put_declared(&mut self, notes: &Notes) {
         match (&notes.found, &notes.wanted) {
             (
@@ -467,7 +468,7 @@ impl Words {
         self.end_gap();
     }
 
-    /// Writes the part of a written type that precedes its pointer marks.
+    /// Writes the base of a written type, which precedes its pointer signs (`*`, `@` or `?`).
     fn put_written_base(&mut self, lexicon: &Lexicon, base: &BaseType) {
         match base {
             BaseType::Int => self.put(b"int"),
@@ -484,7 +485,7 @@ impl Words {
         }
     }
 
-    /// Writes the name of the region after a pointer mark; an omitted region is written as the heap.
+    /// Writes the name of the region after a pointer sign (`*`, `@` or `?`); an omitted region is written as the heap.
     fn put_mark_region(&mut self, lexicon: &Lexicon, region: Option<Ident>) {
         self.put_byte(b'`');
         match region {

@@ -42,7 +42,7 @@ pub fn explain_arguments(teller: &mut Teller, regions: &[Ident]) {
     }
 }
 
-/// Explains a fault in a region that a written type names before its pointer marks.
+/// Explains a fault in a region that a written type names before its pointer signs (`*`, `@` or `?`).
 fn explain_base(teller: &mut Teller, base: &BaseType) {
     match base {
         BaseType::Int | BaseType::Char => {}

@@ -1,4 +1,4 @@
--- Lemmas: the result for an expression follows from the results for its parts, of which the code holds copies.
+-- Lemmas: the result for an expression follows from the results for its subexpressions, of which the code holds copies.
 use Rattle.std.proofs.Common.{◌≡◌, ◌≢◌, ℕ, Bool, List, [], ◌∷◌, Option, Ok, Err, refl, sym, ap, ◌∙◌}
 use Rattle.cyc_words.specs.declared.fault.Code.TheVariants as codes
 use Rattle.cyc_syntax.specs.declared.tree.Postfix.{Postfix}

@@ -95,7 +95,7 @@ pub chain_ends : (g : Scope) (p : Place) (k : Option ℕ) (left : ValueType) (xs
     → after_operations xs (run (rule_chain g p k left (operations_of zs))) ≡ whole → whole ≡ after_operations xs (run (rule_chain g p k left (operations_of [])))
 chain_ends g p k left xs zs whole is so_far = sym so_far ∙ ap (λ vs. after_operations xs (run (rule_chain g p k left (operations_of vs)))) is
 
--- at the end of a chain, the type of the complete chain is the type known so far
+-- at the end of a chain, the type of the complete chain is the type of the operations checked so far
 pub chain_whole : (xs : List Operation) (known : Option Fault) (t u : Ty) → unless known t ≡ Ok u → after_operations xs (unless known (typed.NoOperations, t)) ≡ Ok (view.operations_of xs, u)
 chain_whole xs None t u h = ap (λ os. Ok (os, t)) (then_all_view xs) ∙ ap (λ v. Ok (view.operations_of xs, v)) (from_ok t u h)
 chain_whole xs (Some f) t u h = absurd (cc)

@@ -4,12 +4,12 @@ use Rattle.std.proofs.Common.{◌≡◌, List, [], ◌∷◌, ◌++◌, Ok, Err,
 use Rattle.cyc_types.specs.Rules.{Checked, and_then}
 
 module _ {X Y B : Type 0} (view : X → Y) (add : Y → B → B) where
-  -- adds the views of some items in front of a list
+  -- adds the views of some elements in front of a list
   abbrev pub onto : List X → B → B
   onto [] b = b
   onto (x ∷ xs) b = add (view x) (onto xs b)
 
-  -- the result of adding the items checked so far in front of the result for the remaining items
+  -- the result of adding the elements checked so far in front of the result for the remaining elements
   abbrev pub with_front : List X → Checked B → Checked B
   with_front front checked = and_then checked (λ b. Ok (onto front b))
 

@@ -1,6 +1,6 @@
 //! Checks expressions by a recursive traversal. The traversal checks the parts of an expression in order of evaluation, and then the
-//! demands of the expression's own form (`cyc_calls`, `cyc_typing`). Each operand is checked once: as a used value, as a peek, or as an
-//! lvalue.
+//! requirements of the expression's own form (`cyc_calls`, `cyc_typing`). Each operand is checked once: as a used value, as a peek (a
+//! read that moves no unique pointer), or as an lvalue.
 ghost use Rattle.std.specs.Prelude.{◌≡◌, ◌≢◌, [], ◌∷◌, map, option_map, Ok, OnOk, IfErr};
 ghost use Rattle.cyc_words.specs.declared.fault.Code.TheVariants as codes;
 ghost use Rattle.cyc_syntax.specs.inside.TreeView.{place_of_span, view_name, view_initial, view_expression, expressions_of, postfixes_of, operations_of};
@@ -45,7 +45,7 @@ fn name_in(expression: &Expr) -> Option<Ident>
     }
 }
 
-/// Returns true if the first operation of a chain only peeks at its left operand.
+/// Returns true if the first operation of a chain only peeks at its left operand: it reads a unique pointer without moving it.
 fn is_looking_first(operations: &[Operation]) -> bool
     ensures { result ≡ is_looking_first (operations_of operations.now) }
 {
@@ -73,7 +73,8 @@ struct Chain {
     of_type: Ty,
 }
 
-/// Returns the left operand of an operation: the chain's first operand, or the result of the previous operations, which is not a peek.
+/// Returns the left operand of an operation: the chain's first operand, or the result of the previous operations. The result of an
+/// operation is not a peek (a read of a local that moves no unique pointer).
 fn left_of<'a>(first: Left<'a>, of_type: &'a Option<Ty>) -> Left<'a>
     ensures span { result.span ≡ first.entry.span }
     ensures peeked { result.peeked ≡ peeked_after first.entry.peeked of_type.now }
@@ -201,7 +202,7 @@ pub fn check_expression(scope: &mut Scope<'_>, expression: &Expr) -> Result<Box<
     }
 }
 
-/// Checks an operand that is only peeked at.
+/// Checks an operand that is only peeked at: a unique pointer in it is read but not moved.
 #[cycle(expression)]
 pub fn check_looked(scope: &mut Scope<'_>, expression: &Expr) -> Result<Box<typed::Expr>, Stop>
     ensures gives { Gives view_boxed result (run (rule_looked scope.old (view_expression expression.now) (rule scope.old (view_expression expression.now)))) }
@@ -213,7 +214,7 @@ pub fn check_looked(scope: &mut Scope<'_>, expression: &Expr) -> Result<Box<type
     }
 }
 
-/// Checks an operand as a peek if `is_looking` is true, otherwise as a used value.
+/// Checks an operand as a peek (a read that moves no unique pointer) if `is_looking` is true, otherwise as a used value.
 #[cycle(expression)]
 fn check_operand(
     scope: &mut Scope<'_>,
@@ -498,7 +499,7 @@ fn check_chain(
     binary(scope.alloc(), left, chain.operations, chain.of_type)
 }
 
-/// Checks and returns the initial content of a new object.
+/// Checks and returns the initial value or values of a new object.
 #[cycle(expression)]
 fn check_made(scope: &mut Scope<'_>, initial: &Initial) -> Result<Box<Made>, Stop>
     ensures gives { GivesOne IsMade result (run (rule_made scope.old (view_initial initial.now))) }
@@ -551,7 +552,7 @@ fn check_fields(
     fields_made(scope, name, regions, expressions, values)
 }
 
-/// Checks the element expression of an array `for` with the given counter variable.
+/// Checks the element expression of an array initializer `for` with the given loop variable.
 #[cycle(expression)]
 fn check_element(
     scope: &mut Scope<'_>,
@@ -568,7 +569,8 @@ fn check_element(
     Ok(value)
 }
 
-/// Returns the placement of a new object, from the argument of `rnew`; `span` is the argument's source position.
+/// Returns where a new object is allocated (in the unique region or in the region of a handle), from the
+/// argument of `rnew`; `span` is the argument's source position.
 #[cycle(expression)]
 fn check_placement(
     scope: &mut Scope<'_>,

@@ -1,4 +1,4 @@
--- If a node of the typed tree contains a list, the flow state after the node is computed from the list's items.
+-- If a node of the typed tree contains a list, the flow state after the node is computed from the list's elements.
 use Rattle.std.proofs.Common.{◌≡◌, ℕ, List, [], ◌++◌, Option, None, Some, Result, Ok, Err, sym, ap, subst, ◌∙◌}
 use Rattle.std.specs.declared.vec.Vec.{Vec}
 use Rattle.std.specs.declared.boxed.Box.{Box}
@@ -97,7 +97,7 @@ module _ (statement : Stmt) (span : Span) (condition : Expr) (b : Box Stmt Heap)
       let P : Statement → Type 0 = λ s. GivesKnown r (run (rule_statement c s k)) (touched_statement s ns) breaks in
       subst P (sym e) h
 
--- After the body of a `try`, the flow check's result for the clauses is its result for the whole statement.
+-- After the body of a `try`, the flow check's result for the catch clauses is its result for the whole statement.
 module _
     (statement : Stmt) {span : Span} (b : Box Stmt Heap) (v : Vec Clause Heap) (d : Option Body) (is : statement ≡ stmt.Try span b v d) (body : Stmt) (at : body ≡ b.value) (items : List Clause) (same : items ≡ v.items)
     (l : Option Loop) (locks later : List ℕ) (unlocked : later ≡ locks) (f breaks before end inside start now : State) (copied : before ≡ f) (goes_on : now ≡ end)
@@ -126,7 +126,7 @@ module _
       ap (λ (s : Statement). touched_statement s ns) whole
       ∙ ap (touched_clauses (clauses_of items (default_of d))) (ap (λ (ms : List ℕ). ns ++ ms) (sym touches_all) ∙ sym adds)
 
--- The flow state after the clauses of a `try` is the state after the statement, or the state before the items of its default clause.
+-- The flow state after the catch clauses of a `try` is the state after the statement, or the state before the body of its default clause.
 module _ (d : Option Body) (l : Option Loop) (locks : List ℕ) (start following breaks : State) (whole : Checked Known) (whole_touched ns : List ℕ)
     (run_on : whole ≡ run (rule_clauses (stands l locks) start (default_of d) (known following breaks))) (touched_on : whole_touched ≡ touched_clauses (default_of d) ns) where
   pub no_default : d ≡ None → (whole ≡ Ok (known following breaks)) × (ns ≡ whole_touched)

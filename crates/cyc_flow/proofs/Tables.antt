@@ -1,4 +1,4 @@
--- The bits of a table of words represent the fullness of each local variable.
+-- The bits of a table of words represent the state of each local variable: empty, lent or full.
 use Rattle.std.proofs.Common.{◌≡◌, ◌≢◌, ℕ, zero, suc, ◌+◌, ◌*◌, ◌/◌, ◌%◌, ◌<◌, ◌≤◌, min, Bool, true, false, ◌==◌, ◌&&◌, ◌||◌, if◌then◌else◌, List, [], ◌∷◌, ◌++◌, length, take, drop, replicate, get_or, set, refl, sym, ap, subst, ◌∙◌, arith, inl, inr}
 use Rattle.std.specs.Prelude.{bit_and, bit_or, bit_xor}
 use Rattle.std.specs.Int.{bit_at}
@@ -171,7 +171,7 @@ covers_marked m o i h =
 
 -- ---- tables
 
--- The two bits stored for a local in the table determine its fullness.
+-- The two bits stored for a local in the table determine its state: empty, lent or full.
 pub known_read : (t : Table) (n : ℕ) (m : Marks) → n < table_length t → m ≡ get_or t.marks.items (n / 64) m
     → marked m (n % 64) ≡ get_or (view_table t) n Vacant
 known_read t n m below read =
@@ -181,7 +181,7 @@ known_read t n m below read =
 pub known_past : (t : Table) (n : ℕ) → table_length t ≤ n → Vacant ≡ get_or (view_table t) n Vacant
 known_past t n past = sym (get_or_past (view_table t) n Vacant (omega (arith, past, length-each_below (table_length t) (known_at t.marks.items))))
 
--- Changing the bits of one local changes only the fullness of this local.
+-- Changing the bits of one local changes only the state (empty, lent or full) of this local.
 module _ (ms : List Marks) (n : ℕ) (m o : Marks) (a : Fullness) (within : n / 64 < length ms) (read : m ≡ get_or ms (n / 64) m)
     (same : marked o (n % 64) ≡ a) (other : (i : ℕ) → i < 64 → i ≢ n % 64 → marked o i ≡ marked m i) where
   at_place : marks_at (set ms (n / 64) o) (n / 64) ≡ o
@@ -276,7 +276,8 @@ met_all ms os whole i n d e k =
 abbrev CoverEach : List Marks → List Marks → Type 0
 CoverEach ms os = (p : ℕ) → p < length ms → p < length os → Covers (marks_at ms p) (marks_at os p)
 
--- `LacksBelow` says that if no bit is missing in `w`, then none is missing in the first `n` words.
+-- `LacksBelow` says that the word `w` collects the missing bits of the first `n` words: if a bit of
+-- `w` is 0, then this bit is missing in none of them.
 abbrev pub LacksBelow : List Marks → List Marks → (word : ℕ) → ℕ → Type 0
 LacksBelow ms os w n = (i : ℕ) → bit_at w i ≡ 0 → (p : ℕ) → p < n → bit_at (missing (marks_at ms p) (marks_at os p)) i ≡ 0
 
@@ -311,7 +312,7 @@ length_known t n e = length-each_below (table_length t) (known_at t.marks.items)
 
 -- ---- emptied locals
 
--- Returns the fullness of a local after it is emptied, unless it is lent, if the condition holds.
+-- Returns the state of a local: empty if the condition holds and the local is not lent, otherwise unchanged.
 abbrev emptied_if : Bool → Fullness → Fullness
 emptied_if true a = if is_locked a then a else Vacant
 emptied_if false a = a

@@ -31,7 +31,8 @@ pub lowered_append : (cs ds : List Change) (f : State) → lowered (cs ++ ds) f 
 lowered_append [] ds f = refl
 lowered_append (c ∷ cs) ds f = lowered_append cs ds (with_fullness (lower (fullness f c.number) (view_fullness c.before)) f c.number)
 
--- Lowering locals to recorded states continues to agree when the present state of one more changed local is recorded.
+-- If recorded states lower locals as the list of changes requires, then they still do when one more changed local's
+-- present state is recorded.
 pub noted_now : (g : State) (vs : List Change) (v c : Change) (cs : List Change) (f : State) → v.number ≡ c.number → view_fullness v.before ≡ fullness g c.number
     → lowered_to g cs (lowered (vs ++ v ∷ []) f) ≡ lowered_to g (c ∷ cs) (lowered vs f)
 noted_now g vs v c cs f n e =

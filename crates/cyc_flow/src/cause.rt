@@ -8,13 +8,14 @@ use cyc_words::{Fault, Span};
 /// The effect of a program point on a local variable, as a diagnostic names it.
 #[derive(Clone, Copy)]
 pub enum Change {
-    /// The point uses the local's value, which leaves the local empty.
+    /// The program point uses the local's value, which leaves the local empty.
     Moved,
-    /// The point assigns the local. A catch clause cannot know if the assignment happened.
+    /// The program point assigns the local. A catch clause cannot know if the assignment happened.
     Assigned,
-    /// The point lends the local until the end of the block.
+    /// The program point lends the local until the end of the block.
     Locked,
-    /// The point peeks at the local, and later operands are evaluated while the peek is in use.
+    /// The program point peeks at the local (reads it without moving its value), and later operands
+    /// are evaluated before the read value is used.
     Peeked,
 }
 

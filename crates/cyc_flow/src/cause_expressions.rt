@@ -14,13 +14,13 @@ pub(crate) struct Around {
 #[derive(Drop)]
 pub(crate) struct Walk {
     pub(crate) fault: Fault,
-    /// The number of the local whose change is sought.
+    /// The index of the local whose change is sought.
     pub(crate) number: usize,
-    /// The peek of the local that is still in use, if any.
+    /// The peek of the local (a read without a move) whose value is not yet used, if any.
     pub(crate) waiting: Option<Cause>,
     /// The effect that the body of the innermost enclosing `try` has on the local.
     pub(crate) touched: Option<Cause>,
-    /// True if an item has locked the local since the start of the enclosing loop's body.
+    /// True if a declaration or statement has locked the local since the start of the enclosing loop's body.
     pub(crate) is_locked: bool,
     pub(crate) around: Option<Around>,
     /// The meet of the local's states at the breaks that leave the enclosing loop.
@@ -31,7 +31,7 @@ fn is_at(span: Span, fault: Fault) -> bool {
     span.line == fault.line && span.column == fault.column
 }
 
-/// Returns the local whose peek yields the dereferenced pointer, and the source position of that peek.
+/// Returns the local from which the dereferenced pointer is peeked (read without a move), and the source position of that peek.
 pub(crate) fn peek_after(place: &Dereference) -> Option<(usize, Span)> {
     match place {
         Dereference::Target { pointer, .. } => peek_of(pointer),
@@ -117,7 +117,7 @@ impl Walk {
         }
     }
 
-    /// Visits an item that declares one local and locks another one, whose name is at this source position.
+    /// Visits a declaration or statement that declares one local and locks another one, whose name is at this source position.
     pub(crate) fn lock(
         &mut self,
         number: usize,
@@ -147,7 +147,8 @@ impl Walk {
         }
     }
 
-    /// Records that a peek of the local is in use from now on, if the operand is one. Returns the peek that was in use before.
+    /// If the operand is a peek of the local (a read without a move), records that the read value is not yet used. Returns the
+    /// peek that was recorded before.
     pub(crate) fn wait(&mut self, peeked: Option<(usize, Span)>) -> Option<Cause> {
         let before = self.waiting;
         match peeked {
@@ -162,8 +163,8 @@ impl Walk {
         before
     }
 
-    /// Visits the end of a loop's body, where control returns to the head of the loop with this
-    /// keyword. The keyword may be the position of the fault.
+    /// Visits the end of a loop's body, where control returns to the loop's head. The position of
+    /// the loop's keyword may be that of the fault.
     pub(crate) fn go_back(&self, span: Span, head: Known, end: Known) -> Result<(), Found> {
         if is_at(span, self.fault) && end.is_emptier(head) {
             return Err(Found(end.cause()));

@@ -128,7 +128,7 @@ impl Walk {
         }
     }
 
-    /// Visits the body of a `try`. Returns the local's state at the start of the clauses, and its state after the body.
+    /// Visits the body of a `try`. Returns the local's state at the start of the catch clauses, and its state after the body.
     #[cycle(statement)]
     fn check_body(&mut self, body: &Stmt, known: Known) -> Result<(Known, Known), Found> {
         let before = self.touched;

@@ -22,9 +22,10 @@ use cyc_types::{Flowed, TypedTree};
 use cyc_words::{Code, Fault};
 use std::alloc::{AllocError, Global};
 
-/// Checks that a typed tree satisfies the flow rules. Each variable holds a value when it is used, and no variable is used or assigned
-/// while its value is lent or peeked at. At the end of a loop body, no local is emptier than at the loop's head. A catch clause relies on
-/// no local that the body of its `try` may have emptied. No path through a function with a result reaches the function's end.
+/// Checks that a typed tree satisfies the flow rules. Each variable holds a value when it is used. No variable is used or assigned while
+/// its value is lent, or is peeked at (read early) and not yet used. At the end of a loop body, no local is emptier than at the loop's
+/// head. A catch clause relies on no local that the body of its `try` may have emptied. No path through a function with a result reaches
+/// the function's end.
 ///
 /// Returns the first flow fault, in execution order. Any copy of a flow state may fail for lack of memory.
 pub fn flow(alloc: Global, tree: TypedTree) -> Result<Flowed, Fault>

@@ -120,7 +120,8 @@ impl Evaluation {
     }
 
     /// Replaces the state by its meet with the state at the start. If an operand has only consumed locals, the result is the present state;
-    /// skipping the meet in this case keeps nested operators cheap, since each of them would visit the same changes again.
+    /// skipping the meet if an operand has only consumed locals keeps nested operators cheap, since each of them would
+    /// visit the same changes again.
     #[tactic(auto, using(crate::proofs::Trails::meet_undone, crate::proofs::Trails::meet_emptied))]
     pub(crate) fn meet_start(&mut self, alloc: Global) -> Result<(), AllocError>
         ensures state { IfOk result (λ _. view_state self.new.state ≡ meet (begun self.old) (view_state self.old.state)) }

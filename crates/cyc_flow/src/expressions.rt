@@ -1,6 +1,6 @@
 //! The flow state after an expression that satisfies the flow rules. Each method changes the state before the expression into the state
-//! after it, and receives the locals whose peeks are in use. The state is changed in place: expressions nest deepest, so no stack frame
-//! contains a state.
+//! after it. It receives the locals that were peeked at (read without a move) and whose read values are not yet used. The state is
+//! changed in place: expressions nest deepest, so no stack frame contains a state.
 ghost use Rattle.std.specs.Prelude.{◌≡◌, ◌++◌, IfOk, Some, Ok, option_map};
 ghost use Rattle.cyc_syntax.specs.inside.TreeView.{place_of_span};
 ghost use Rattle.cyc_types.specs.Rules.{run, fault_at};
@@ -35,7 +35,7 @@ pub(crate) struct Tracked {
     pub(crate) touched: Touched,
 }
 
-/// Returns the local that an operand peeks at, if any.
+/// Returns the local that an operand peeks at (reads without moving its value), if any.
 fn peek_of(operand: &Expr) -> Option<usize>
     ensures { result ≡ peek_of (view_expression operand.now) }
 {
@@ -45,7 +45,7 @@ fn peek_of(operand: &Expr) -> Option<usize>
     }
 }
 
-/// Returns the local whose peek yields the dereferenced pointer, if any.
+/// Returns the local from which the dereferenced pointer is peeked (read without a move), if any.
 pub(crate) fn peek_after(place: &Dereference) -> Option<usize>
     ensures { result ≡ peek_after (view_dereference place.now) }
 {
@@ -56,7 +56,7 @@ pub(crate) fn peek_after(place: &Dereference) -> Option<usize>
     }
 }
 
-/// Returns the locals whose peeks are in use, extended by this local if there is one.
+/// Returns the locals that were peeked at (read without a move) and whose values are not yet used, and one more local if it is given.
 pub(crate) fn and_peeked(
     alloc: Global,
     waiting: &[usize],
@@ -72,7 +72,7 @@ pub(crate) fn and_peeked(
 }
 
 impl Tracked {
-    /// Returns the flow state in which one local has this fullness and all others are unchanged.
+    /// Returns the flow state in which one local is empty, lent or full as given, and all others are unchanged.
     pub(crate) fn with_fullness(mut self, number: usize, fullness: Fullness) -> Tracked
         ensures state { view_state result.state ≡ with_fullness (view_fullness fullness) (view_state self.state) number }
         ensures touched { result.touched.numbers.list ≡ self.touched.numbers.list }
@@ -103,7 +103,7 @@ impl Tracked {
 }
 
 impl Evaluation {
-    /// Checks that a peek at a local is allowed: the local holds a value that is not lent.
+    /// Checks that a peek at a local (a read without a move) is allowed: the local holds a value that is not lent.
     fn look(&self, span: Span, number: usize) -> Result<(), Stop>
         ensures { Leads result self.now (run (looked (place_of_span span) number (view_state self.now.state))) self.now.touched.numbers.list (begun self.now) }
     {
@@ -215,7 +215,7 @@ impl Evaluation {
         }
     }
 
-    /// Checks the evaluation of a dereference or of another place in memory.
+    /// Checks the evaluation of a dereference or of another expression that denotes a memory location.
     #[cycle(expression)]
     pub(crate) fn find(
         &mut self,
@@ -250,7 +250,7 @@ impl Evaluation {
         }
     }
 
-    /// Checks the initial contents of a new object. An array may have no elements, and the flow state after its last element must be that
+    /// Checks the initial values of a new object. An array may have no elements, and the flow state after its last element must be that
     /// at the first.
     #[cycle(expression)]
     fn initialise(

@@ -1,4 +1,4 @@
-//! The numbers of the touched locals, in a ghost list that only contracts and proofs read.
+//! The indices of the touched locals (consumed, assigned or locked), in a ghost list that only contracts and proofs read.
 
 ghost use Rattle.std.specs.Prelude.{◌≡◌, ℕ, List, [], ◌++◌};
 ghost use Rattle.std.specs.Borrow.{ftrue};
@@ -12,8 +12,8 @@ pub(crate) struct Touch {
     pub(crate) number: usize,
 }
 
-/// The numbers of the touched locals, in the order of the traversal and with repetitions. Only contracts read the list of these numbers.
-/// The list of these numbers takes no memory, and its functions do nothing at run time.
+/// The indices of the touched locals, in the order of the traversal and with repetitions. Only contracts read this list; it takes no
+/// memory, and its functions do nothing at run time.
 #[derive(Drop)]
 pub(crate) struct Numbers {
     pub(crate) ghost list: { List ℕ },
@@ -31,7 +31,7 @@ impl Numbers {
         Numbers {}
     }
 
-    /// Returns the list of touched locals extended by the touched one.
+    /// Returns the list of touched locals, extended by the local of one more touch.
     pub(crate) fn with(_before: &Numbers, _touch: &Touch) -> Numbers
         ensures { result.list ≡ and_local _touch.now.number _before.now.list }
     {

@@ -47,7 +47,7 @@ impl Settled {
         self.number = number;
     }
 
-    /// Requires that the local named here holds a value that is not lent.
+    /// Requires that the local whose name is at this source position holds a value that is not lent.
     pub(crate) fn look(&mut self, state: &State, span: Span, number: usize)
         ensures { self.new.known ≡ settled self.old.known (full_demanded (place_of_span span) number (view_state state.now)) }
     {
@@ -56,7 +56,8 @@ impl Settled {
         self.demand(Code::LockedVariable, span, number, !fullness.is_locked());
     }
 
-    /// Requires that the local named here holds a value that is not lent, and that no peek of this local is in use.
+    /// Requires that the local whose name is at this source position holds a value that is not lent. No value that
+    /// was peeked from this local (read without a move) may still be unused.
     pub(crate) fn use_local(&mut self, waiting: &[usize], state: &State, span: Span, number: usize)
         ensures { self.new.known ≡ settled self.old.known (use_demanded waiting.now (place_of_span span) number (view_state state.now)) }
     {
@@ -69,7 +70,7 @@ impl Settled {
         );
     }
 
-    /// Requires that the assigned local is not lent, and that no peek of this local is in use.
+    /// Requires that the assigned local is not lent, and that no value that was peeked from it (read without a move) is still unused.
     pub(crate) fn store_local(
         &mut self,
         waiting: &[usize],
@@ -88,7 +89,7 @@ impl Settled {
         );
     }
 
-    /// Requires that no local is emptier here than at the head of the loop with this keyword.
+    /// Requires that no local is emptier at this program point than at the head of the loop whose keyword is at the given source position.
     pub(crate) fn go_on(&mut self, state: &State, head: &State, span: Span)
         ensures { self.new.known ≡ settled self.old.known (head_demanded (place_of_span span) (view_state state.now) (view_state head.now)) }
     {
@@ -111,7 +112,7 @@ impl Settled {
     }
 }
 
-/// Checks that no local is emptier here than at the head of the loop with this keyword.
+/// Checks that no local is emptier at this program point than at the head of the loop whose keyword is at the given source position.
 pub(crate) fn check_head(state: &State, head: &State, span: Span) -> Result<(), Stop>
     ensures { Ends result (settled None (head_demanded (place_of_span span) (view_state state.now) (view_state head.now))) }
 {

@@ -66,7 +66,7 @@ pub(crate) enum State {
 }
 
 impl State {
-    /// Returns the fullness of a local. In unreachable code, each local is taken to be full.
+    /// Returns the state of a local: empty, lent or full. In unreachable code, each local is taken to be full.
     pub(crate) fn fullness(&self, number: usize) -> Fullness
         ensures { view_fullness result ≡ fullness (view_state self.now) number }
     {
@@ -76,7 +76,7 @@ impl State {
         }
     }
 
-    /// Sets the fullness of one local. In unreachable code the call has no effect, since no state is stored.
+    /// Sets the state of one local to empty, lent or full. In unreachable code the call has no effect, since no state is stored.
     pub(crate) fn set(&mut self, number: usize, fullness: Fullness)
         ensures { view_state self.new ≡ with_fullness (view_fullness fullness) (view_state self.old) number }
     {
@@ -116,7 +116,8 @@ impl State {
         matches!(self, State::Reached(_))
     }
 
-    /// Returns true if no peek of the local is in use. In unreachable code the function always returns true.
+    /// Returns true if no value that was peeked from the local (read without a move) is still unused. In
+    /// unreachable code the function always returns true.
     pub(crate) fn is_free(&self, waiting: &[usize], number: usize) -> bool
         ensures { result ≡ is_free waiting.now number (view_state self.now) }
     {

@@ -38,7 +38,7 @@ fn evaluate(alloc: Global, value: &Expr, tracked: Tracked) -> Result<Tracked, St
     Ok(evaluation.end())
 }
 
-/// Checks an expression whose value is converted, while no peek is in use.
+/// Checks an expression whose value is converted, at a point where no peeked value (read from a local without a move) is still unused.
 fn convert(alloc: Global, value: &Converted, tracked: Tracked) -> Result<Tracked, Stop>
     ensures { Gives result (run (rule_converted [] (view_converted value.now) (view_state tracked.state)))
         (touched_converted (view_converted value.now) tracked.touched.numbers.list) }
@@ -106,7 +106,7 @@ fn left(tracked: Tracked) -> Tracked
 
 // ---- swaps
 
-/// Returns the local whose peek yields the pointer that a side of a swap dereferences, if any.
+/// Returns the local from which an operand of a swap peeks (reads without a move) the pointer that it dereferences, if any.
 fn peeked_side(side: &Side) -> Option<usize>
     ensures { result ≡ peeked_side (view_side side.now) }
 {
@@ -116,7 +116,7 @@ fn peeked_side(side: &Side) -> Option<usize>
     }
 }
 
-/// Checks the evaluation of one side of a swap, as an assignable expression.
+/// Checks the evaluation of the left or right operand of a swap, as an assignable expression.
 fn find_side(
     alloc: Global,
     waiting: &[usize],
@@ -136,7 +136,7 @@ fn find_side(
     }
 }
 
-/// Requires that a side of a swap that is a variable may be used, after both sides were evaluated.
+/// Requires that an operand of a swap that is a variable may be used, after both operands were evaluated.
 fn use_side(asked: &mut Settled, waiting: &[usize], side: &Side, state: &State)
     ensures { asked.new.known ≡ settled asked.old.known (side_demanded waiting.now (view_side side.now) (view_state state.now)) }
 {
@@ -176,7 +176,7 @@ pub(crate) struct Loop {
 #[derive(Drop)]
 pub(crate) struct Walk {
     alloc: Global,
-    /// The locals that items have locked since the start of the enclosing loop's body, in order.
+    /// The locals that declarations and statements have locked since the start of the enclosing loop's body, in order.
     locks: Vec<usize>,
     /// The meet of the states at the breaks so far that leave the enclosing loop.
     breaks: State,
@@ -222,7 +222,8 @@ impl Walk {
         check_head(&at_exit, &around.head, around.span)
     }
 
-    /// Checks an item that declares one local and locks another one, named here, until the end of the block.
+    /// Checks a declaration or statement that declares one local and locks another one until the end of the
+    /// block; the locked local's name is at the given source position.
     fn lock(
         &mut self,
         number: usize,
@@ -405,7 +406,7 @@ impl Walk {
         })
     }
 
-    /// Checks a block. At the end of the block, the locals that its items have locked are full again.
+    /// Checks a block. At the end of the block, the locals that its declarations and statements have locked are full again.
     #[cycle(statement)]
     fn check_block(
         &mut self,
@@ -428,7 +429,7 @@ impl Walk {
         })
     }
 
-    /// Checks the items of a block. The locals that the items lock stay locked.
+    /// Checks the declarations and statements of a block. The locals that they lock stay locked.
     #[cycle(statement)]
     #[tactic(auto, using(std::proofs::lemmas::List::drop_more, std::proofs::lemmas::List::append_assoc))]
     pub(crate) fn check_items(
@@ -449,7 +450,7 @@ impl Walk {
         Ok(following)
     }
 
-    /// Checks an item of a block.
+    /// Checks a declaration or statement of a block.
     #[cycle(statement)]
     fn check_item(
         &mut self,

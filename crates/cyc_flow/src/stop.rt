@@ -10,7 +10,7 @@ use std::alloc::{AllocError, AllocFailed};
 pub(crate) enum Stop {
     /// An allocation failed.
     Memory,
-    /// A violated flow rule, with the number of the local that it concerns, if any.
+    /// A violated flow rule, with the index of the local that it concerns, if any.
     Refused { fault: Fault, number: usize },
 }
 

@@ -115,7 +115,7 @@ impl Table {
         }
     }
 
-    /// Returns the fullness of a local; a local outside the table is empty.
+    /// Returns the state of a local: empty, lent or full; a local outside the table is empty.
     pub(crate) fn fullness(&self, number: usize) -> Fullness
         ensures { view_fullness result ≡ get_or (view_table self.now) number Vacant }
     {
@@ -126,7 +126,7 @@ impl Table {
         }
     }
 
-    /// Sets the fullness of one local in the table.
+    /// Sets the state of one local in the table to empty, lent or full.
     pub(crate) fn set(&mut self, number: usize, fullness: Fullness)
         ensures { view_table self.new ≡ slice_set (view_table self.old) number (view_fullness fullness) }
     {
@@ -182,8 +182,8 @@ impl Table {
         self
     }
 
-    /// Returns true if no local is emptier in this table than in the other one. If a bit is missing, the locals are compared one by one.
-    /// The comparison one by one happens at most once in a check, since a missing bit is then a fault.
+    /// Returns true if no local is emptier in this table than in the other one. If a bit of the other table is missing in this table, the
+    /// locals are compared one by one. The comparison one by one happens at most once in a check, since a missing bit is then a fault.
     pub(crate) fn is_as_full(&self, other: &Table) -> bool
         ensures { result ≡ are_as_full (view_table self.now) (view_table other.now) }
     {

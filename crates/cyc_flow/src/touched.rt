@@ -17,7 +17,7 @@ pub(crate) struct Touched {
     ghost stand: { Stand words.items numbers.list },
 }
 
-/// Adds the number of a local to the set.
+/// Adds the index of a local to the set.
 fn insert(words: &mut Vec<u64>, number: usize) -> Result<(), AllocError>
     ensures { IfOk result (λ _. (n : ℕ) → has_number words.new.items n ≡ ((n == number) || has_number words.old.items n)) }
 {
@@ -70,7 +70,7 @@ impl Touched {
         &self.words
     }
 
-    /// Adds the number of one more touched local to the set.
+    /// Adds the index of one more touched local to the set.
     pub(crate) fn add(&mut self, number: usize) -> Result<(), AllocError>
         ensures { IfOk result (λ _. self.new.numbers.list ≡ and_local number self.old.numbers.list) }
     {
@@ -84,7 +84,7 @@ impl Touched {
         Ok(())
     }
 
-    /// Returns the union of two sets of touched locals, whose list of numbers is the first set's list followed by the second's.
+    /// Returns the union of two sets of touched locals, whose list of local indices is the first set's list followed by the second's.
     pub(crate) fn joined(self, more: Touched) -> Touched
         ensures { result.numbers.list ≡ self.numbers.list ++ more.numbers.list }
     {

@@ -1,4 +1,4 @@
--- If the comparison of the formatter returns a correct result, its contract is satisfied.
+-- If the comparison of tokens in the formatter gives a correct result, the contract of the formatter is satisfied.
 use Rattle.std.proofs.Common.{◌≡◌, ◌∙◌, ℕ, List, map, Ok, sym, ap}
 use Rattle.cyc_words.proofs.Decisions.{decides}
 use Rattle.cyc_words.specs.Decision.{Decides}

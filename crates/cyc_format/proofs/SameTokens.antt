@@ -10,7 +10,7 @@ use Rattle.cyc_syntax.specs.TokenRule.{LiesIn}
 use Rattle.cyc_syntax.proofs.PieceLemmas.{one_piece}
 use Rattle.cyc_format.specs.Formatted.{kinds_of}
 
--- Returns the kind of a piece that is a token, otherwise the default.
+-- Returns the token kind of a piece of text if the piece is a token, otherwise the default kind.
 kind_in : Kind → Piece → Kind
 kind_in other (Lexeme k) = k
 kind_in other _ = other

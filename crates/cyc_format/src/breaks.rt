@@ -7,10 +7,10 @@ use crate::roles::{
 };
 use cyc_syntax::{Keyword, Sign, TokenKind};
 
-/// The formatter adds no further call to a line of at least this many bytes.
+/// The formatter puts no further call statement on a line that already has at least this many bytes.
 const WIDE: usize = 80;
 
-/// The kind of the gap between two tokens, apart from comments.
+/// The kind of the gap between two tokens, apart from comments: nothing, a space or a line end.
 #[derive(Clone, Copy, Debug, PartialEq, Eq)]
 pub(crate) enum BreakKind {
     Nothing,
@@ -54,7 +54,7 @@ impl Break {
 impl<'t> Layout<'t> {
     // ---- constructs that the next token closes
 
-    /// Closes the open constructs that the token with this number shows to be complete.
+    /// Closes the open constructs that the token with this index shows to be complete.
     pub(crate) fn resolve(&mut self, number: usize) {
         let kind = self.kind(number);
         if self.frames.ends_with(FrameKind::Regions)
@@ -79,7 +79,7 @@ impl<'t> Layout<'t> {
         }
     }
 
-    /// Ends a statement whose end is missing, so that the lines after it are kept.
+    /// Ends a statement whose end is missing in the text, so that the lines after it are kept.
     fn recover(&mut self, number: usize, kind: Option<TokenKind>) {
         if is_starter(kind) && self.frames.is_within() {
             self.frames.close_within();
@@ -115,7 +115,7 @@ impl<'t> Layout<'t> {
 
     // ---- the gap before a token
 
-    /// Returns the gap before the token with this number.
+    /// Returns the gap before the token with this index.
     pub(crate) fn break_before(&mut self, number: usize) -> Break {
         match self.at {
             At::Statement => self.break_before_statement(number),
@@ -205,7 +205,7 @@ impl<'t> Layout<'t> {
         }
     }
 
-    /// Returns the gap between two statements. A call may stay on the line of the call before it.
+    /// Returns the gap between two statements. A call statement may stay on the line of the call statement before it.
     fn break_after_statement(&self, number: usize, level: usize) -> Break {
         if self.statement.is_call
             && !self.gap.has_line_end
@@ -219,7 +219,7 @@ impl<'t> Layout<'t> {
         }
     }
 
-    /// Returns true if the statement that begins with the token with this number is only a call.
+    /// Returns true if the statement that begins with the token with this index is only a call.
     pub(crate) fn is_call(&self, number: usize) -> bool {
         let open = number.saturating_add(1);
         if !is_name(self.kind(number)) || !is_sign(self.kind(open), Sign::LeftParen) {
@@ -242,7 +242,7 @@ impl<'t> Layout<'t> {
         false
     }
 
-    /// Returns true if a line may end within a statement before the token with this number: after a comma, beside an operator, or after an
+    /// Returns true if a line may end within a statement before the token with this index: after a comma, beside an operator, or after an
     /// opening bracket.
     fn may_end_line(&self, number: usize) -> bool {
         let kind = self.kind(number);

@@ -31,10 +31,10 @@ fn lay_out_settled(alloc: Global, text: &[u8], tokens: &[Token]) -> Option<Vec<u
     Vec::from_slice(alloc, text).ok()
 }
 
-/// Formats a text. The result has the tokens of the text. If the layout had other tokens or exceeded the size limit of texts, the text
-/// is returned unchanged.
+/// Formats a text. The result has the same tokens as the text. If the layout had other tokens or exceeded the size limit of texts, the
+/// text is returned unchanged.
 ///
-/// If a text has no list of tokens, `format` returns the fault that `lex` returns. The only other error is lack of memory.
+/// If a text has no list of tokens, `format` returns the fault that `lex` returns. The only other error of `format` is lack of memory.
 pub fn format(alloc: Global, text: &[u8]) -> Result<Vec<u8>, Fault>
     ensures { Decides (IsAccepted text.now) (λ tokens answer. HasSameTokens tokens answer.items) (IsRefused text.now) (IsRefused text.now) result }
 {

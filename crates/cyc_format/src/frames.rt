@@ -24,7 +24,7 @@ pub(crate) enum FrameKind {
     Exceptions,
     /// The braces around the clauses of a `catch`.
     Clauses,
-    /// The statements of a clause, after its `case`.
+    /// The statements of a catch clause, after its `case`.
     Clause,
     If,
     Else,
@@ -69,7 +69,7 @@ impl FrameKind {
         )
     }
 
-    /// Returns true if a construct of this kind contains statements, fields or clauses.
+    /// Returns true if a construct of this kind contains statements, fields or catch clauses.
     pub(crate) fn is_body(self) -> bool {
         matches!(
             self,
@@ -162,7 +162,7 @@ impl Frames {
         }
     }
 
-    /// Closes open conditions from the innermost on, up to one of this kind.
+    /// Closes the innermost open conditions, up to the first construct that is no condition or has the kind `kept`.
     pub(crate) fn close_heads(&mut self, kept: Option<FrameKind>) {
         for _ in 0..self.all.len() {
             match self.last() {

@@ -10,7 +10,7 @@ use std::alloc::Global;
 /// The position of the next token relative to statements.
 #[derive(Clone, Copy, Debug, PartialEq, Eq)]
 pub(crate) enum At {
-    /// The next token is at the beginning of a statement, an item or a declaration, or at the end of a body.
+    /// The next token begins a statement, a declaration, a field or a catch clause, or is at the end of a body.
     Statement,
     /// The next token is after a condition, before the statement that the condition controls.
     Nested,
@@ -77,17 +77,17 @@ impl<'t> Layout<'t> {
         }
     }
 
-    /// Returns the kind of the token with this number.
+    /// Returns the kind of the token with this index.
     pub(crate) fn kind(&self, number: usize) -> Option<TokenKind> {
         self.tokens.get(number).map(|token| token.kind)
     }
 
-    /// Returns the kind of the token that is `distance` tokens before the one with this number.
+    /// Returns the kind of the token that is `distance` tokens before the one with this index.
     pub(crate) fn kind_before(&self, number: usize, distance: usize) -> Option<TokenKind> {
         self.kind(number.checked_sub(distance)?)
     }
 
-    /// Reads the gap before the token with this number.
+    /// Reads the gap before the token with this index.
     fn read_gap(&mut self, number: usize) {
         let (text, tokens) = (self.text, self.tokens);
         let end = match tokens.get(number) {
@@ -107,7 +107,7 @@ impl<'t> Layout<'t> {
         self.gap.read(text, start, end, column);
     }
 
-    /// Writes the token with this number and the gap before it.
+    /// Writes the token with this index and the gap before it.
     fn lay(&mut self, number: usize, token: Token) {
         self.read_gap(number);
         self.resolve(number);

@@ -16,7 +16,7 @@ struct Before {
 }
 
 impl<'t> Layout<'t> {
-    /// Records the effect of the token with this number on the layout of the tokens after it.
+    /// Records the effect of the token with this index on the layout of the tokens after it.
     pub(crate) fn note(&mut self, number: usize, token: Token) {
         let before = Before {
             number,
@@ -85,7 +85,7 @@ impl<'t> Layout<'t> {
         self.is_operand = false;
     }
 
-    /// Closes a condition. The statement that it controls continues at the condition's indentation level.
+    /// Closes a condition. The statement that the condition controls continues at the condition's indentation level.
     fn close_head(&mut self, kind: FrameKind) {
         if self.frames.ends_with(kind) {
             if let Some(frame) = self.frames.pop() {
@@ -186,7 +186,7 @@ impl<'t> Layout<'t> {
         }
     }
 
-    /// Returns true if the braces opened here are on one line: a list of exceptions, or one clause with one statement.
+    /// Returns true if the braces opened here are on one line: a list of exceptions, or one catch clause with one statement.
     fn stands_on_one_line(&self, before: &Before, token: Token) -> bool {
         if !matches!(before.brace, FrameKind::Exceptions | FrameKind::Clauses) {
             return false;

@@ -15,7 +15,7 @@ pub(crate) enum Role {
     /// The token is an operator between two operands.
     Binary,
     Comma,
-    /// The token is the semicolon before a function's effect.
+    /// The token is the semicolon before a function's effect (its list of regions).
     Effect,
     /// The token is the colon after a label or a `case`.
     Label,
@@ -63,12 +63,12 @@ pub(crate) fn is_opening(kind: Option<TokenKind>) -> bool {
     )
 }
 
-/// Returns true if the token begins a clause: `case` or `default`.
+/// Returns true if the token begins a catch clause: `case` or `default`.
 pub(crate) fn is_case(kind: Option<TokenKind>) -> bool {
     is_word(kind, Keyword::Case) || is_word(kind, Keyword::Default)
 }
 
-/// Returns true if the token occurs only at the beginning of a statement or an item.
+/// Returns true if the token occurs only at the beginning of a statement, a declaration in a block or a catch clause.
 pub(crate) fn is_starter(kind: Option<TokenKind>) -> bool {
     matches!(
         kind,
@@ -90,7 +90,7 @@ pub(crate) fn is_starter(kind: Option<TokenKind>) -> bool {
     )
 }
 
-/// Returns true if an opening bracket after the token follows without a space.
+/// Returns true if no space is written between the token and an opening bracket that follows it.
 pub(crate) fn is_called(kind: Option<TokenKind>) -> bool {
     matches!(
         kind,

@@ -2,7 +2,7 @@
 use crate::gap::Comment;
 use std::alloc::Global;
 
-/// The most bytes of a text. A longer formatted text is not completed, since it cannot be a result.
+/// The most bytes of a text. A formatted text above the size limit is not completed, since it cannot be a result.
 const MOST_BYTES: usize = 1048576;
 
 /// The deepest indentation level; the lines of deeper levels are indented as much as those of this level.

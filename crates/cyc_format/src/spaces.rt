@@ -6,7 +6,7 @@ use crate::roles::{Role, are_apart, is_called, is_region, is_sign, is_word};
 use cyc_syntax::{Keyword, Sign};
 
 impl<'t> Layout<'t> {
-    /// Returns the gap before the token with this number, which is within a statement.
+    /// Returns the gap before the token with this index, which is within a statement.
     pub(crate) fn space_before(&self, number: usize) -> BreakKind {
         if self.touches(number) && !self.is_apart_from_last(number) {
             BreakKind::Nothing
@@ -26,7 +26,7 @@ impl<'t> Layout<'t> {
         }
     }
 
-    /// Returns true if the formatter writes no space between the token with this number and the token before it.
+    /// Returns true if the formatter writes no space between the token with this index and the token before it.
     fn touches(&self, number: usize) -> bool {
         match self.role {
             Role::Open | Role::Prefix | Role::Mark | Role::Arrow | Role::OpenRegions => true,

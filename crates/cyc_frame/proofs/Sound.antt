@@ -147,7 +147,7 @@ more_frames program count before most frames frame r are rises saved is framed h
 abbrev no_frame : Frame
 no_frame = record { return_address = 0; saves = false; first_saved = 0; saved = 0; first_slot = 0; parameters = 0; homes = []; idle = []; fills = [] }
 
--- The homes of slots stay correct if the frame saves more registers.
+-- The homes (registers or memory) of slots stay correct if the frame saves more registers.
 module _ (program : Program) (most : ℕ) (few : most ≤ MOST_SAVED) where
   more_homes : (r : Routine) (saved : ℕ) (homes : List Home) → saved ≤ most → AreHomes program r saved homes → AreHomes program r most homes
   more_homes r saved homes fewer are = record {
@@ -222,7 +222,7 @@ module _ (program : Program) (most : ℕ) (few : most ≤ MOST_SAVED) where
           omega (arith, before, ap (λ (f : Frame). f.saved) (get_or-set_other frames n k (record (frame_at frames n) { saved = most }) no_frame other))
     ]
 
-    -- A function that opens no handler need not save more registers, so the loop invariant is kept.
+    -- A function that opens no exception handler need not save more registers, so the loop invariant is kept.
     pub raised_past : (n : ℕ) → opens_any (routine_at program n).code ≡ false → AreRaised program n most frames → AreRaised program (n + 1) most frames
     raised_past n none so_far k below opens = elim (cases_eq k n) [
       | inl same ↦ absurd (let e : false ≡ true = sym none ∙ (sym (ap (λ (j : ℕ). opens_any (routine_at program j).code) same) ∙ opens) in cc)

@@ -7,10 +7,11 @@ ghost use Rattle.cyc_registers.specs.inside.Idle.{idle_at};
 use cyc_registers::Home;
 use std::marker::Model;
 
-/// The use of the words of a function's frame, and the homes of its slots. Words are numbered from the lowest address of the frame.
+/// The use of the words of a function's frame, and the home (register or memory) of each of its slots. Words are numbered from the
+/// lowest address of the frame.
 #[derive(Drop)]
 pub struct Frame {
-    /// The number of the frame's word that keeps the return address while the function calls another.
+    /// The index of the frame's word that keeps the return address while the function calls another.
     pub return_address: usize,
     /// True if the function saves its return address in the frame at its entry. A function that does not save its return address never
     /// overwrites the return address register.
@@ -23,11 +24,11 @@ pub struct Frame {
     pub first_slot: usize,
     /// The number of parameters; the first slots of a function are its parameters.
     pub parameters: usize,
-    /// The home of each slot, indexed by slot number.
+    /// The home of each slot, that is, its register or memory, indexed by the slot.
     pub homes: Vec<Home>,
     /// For each instruction of the function's code, true if it is idle: it needs no machine code.
     pub idle: Vec<bool>,
-    /// For each instruction, true if its word may be computed in the delay slots of the branches to it.
+    /// For each instruction, true if its first machine word may be executed in the delay slots of the branches to it.
     pub fills: Vec<bool>,
 }
 
@@ -50,7 +51,7 @@ impl Model for Frame {
 }
 
 impl Frame {
-    /// Returns the home of a slot, or memory if there is no such slot.
+    /// Returns the home of a slot, which is a register or memory; it is memory if there is no such slot.
     pub fn home(&self, slot: usize) -> Home
         ensures { result ≡ home_of self.now.homes slot }
     {
@@ -70,7 +71,7 @@ impl Frame {
         }
     }
 
-    /// Returns true if the first line of the instruction at this index may fill delay slots.
+    /// Returns true if the first line of assembly code of the instruction at this index may fill delay slots.
     pub fn fills_slots(&self, index: usize) -> bool
         ensures { result ≡ fills_at self.now.fills index }
     {

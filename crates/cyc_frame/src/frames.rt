@@ -4,7 +4,7 @@ ghost use Rattle.std.specs.Prelude.{◌≡◌};
 use crate::frame::Frame;
 use std::marker::Model;
 
-/// A frame for each function of a program, in the order of the functions' numbers.
+/// A frame for each function of a program, in the order of the functions' indices.
 #[derive(Drop)]
 pub struct Frames {
     frames: Vec<Frame>,

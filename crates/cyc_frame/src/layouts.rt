@@ -16,7 +16,7 @@ use cyc_registers::{MOST_SAVED, allocate};
 use cyc_words::{Code, Fault, Span};
 use std::alloc::{AllocError, Global};
 
-/// Returns the position of the name of the first function whose frame is too large.
+/// Returns the source position of the name of the first function whose frame is too large.
 fn first_too_large(functions: &[Function]) -> Option<Span>
     ensures { result ≡ first_too_large (map routine_of functions.now) }
 {
@@ -28,7 +28,7 @@ fn first_too_large(functions: &[Function]) -> Option<Span>
     None
 }
 
-/// Returns true if an instruction overwrites the return address register: a call, or the opening of a handler.
+/// Returns true if an instruction overwrites the return address register: a call, or the opening of an exception handler.
 fn loses(instruction: Instruction) -> bool
     ensures { result ≡ loses instruction }
 {
@@ -50,7 +50,7 @@ fn loses_any(code: &[Instruction]) -> bool
     false
 }
 
-/// Returns true if an instruction is a return, whose size includes words to save and restore registers.
+/// Returns true if an instruction is a return, whose size includes machine words to save and restore registers.
 fn returns(instruction: Instruction) -> bool
     ensures { result ≡ returns instruction }
 {
@@ -85,14 +85,14 @@ fn all_return(plain: &Plain) -> bool
     true
 }
 
-/// Returns true if an instruction opens a handler.
+/// Returns true if an instruction opens an exception handler.
 fn opens(instruction: Instruction) -> bool
     ensures { result ≡ opens instruction }
 {
     matches!(instruction, Instruction::Try { .. })
 }
 
-/// Returns true if some instruction of the code overwrites the return address register.
+/// Returns true if some instruction of the code opens an exception handler.
 fn opens_any(code: &[Instruction]) -> bool
     ensures { result ≡ opens_any code.now }
 {

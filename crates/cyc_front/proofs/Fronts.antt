@@ -27,7 +27,7 @@ pub record Passes {A : Type 0} (Accepted : A → Type 0) (Has : Fault → Type 0
   pub only : (b : A) → Accepted b → a ≡ b
   pub no_fault : (f : Fault) → Has f → ⊥
 
--- If a phase's decision accepts a result, the phase passed the result.
+-- If the decision of a phase of the front end accepts a result, then the phase passed this result.
 pub passed : {X A : Type 0} (view : X → A) (Accepted : A → Type 0) (Refused Has : Fault → Type 0) (x : X)
     → Decides Accepted (λ a y. view y ≡ a) Refused Has (Ok x) → Passes Accepted Has (view x)
 passed view Accepted Refused Has x d =
@@ -111,12 +111,12 @@ HasPhases p v = HasProgram p v.program
 abbrev pub IsAnswered : List ℕ → Result Flowed Fault → Type 0
 IsAnswered = IsAnsweredBy HasProgram
 
--- If the front end rejects a text, the fault is the same for every type of results.
+-- If the front end rejects a text, the fault does not depend on the form in which results are returned.
 pub refused_by_both : {X Y A : Type 0} {Accepted : A → Type 0} {Refused Faulty : Fault → Type 0} (Gives : A → X → Type 0) (Other : A → Y → Type 0) (f : Fault)
     → Decides Accepted Gives Refused Faulty (Err f) → Decides Accepted Other Refused Faulty (Err f)
 refused_by_both Gives Other f d = record { accepted = tt; refused = d.refused; accepts = d.accepts; refuses = d.refuses }
 
--- A result can be replaced by any other result that contains the same program.
+-- An accepted result can be replaced by any other result that contains the same program.
 pub accepted_alike : {X Y A : Type 0} {Accepted : A → Type 0} {Refused Faulty : Fault → Type 0} (Gives : A → X → Type 0) (Other : A → Y → Type 0) (x : X) (y : Y)
     → ((a : A) → Gives a x → Other a y) → Decides Accepted Gives Refused Faulty (Ok x) → Decides Accepted Other Refused Faulty (Ok y)
 accepted_alike Gives Other x y alike d = record {

@@ -1,4 +1,4 @@
-//! This file defines the program's answer: its exit status, and its last line on standard error.
+//! This file defines the outcome (answer) of a command of the program: its exit status, and its last line on standard error.
 ghost use Rattle.std.specs.Prelude.{◌≡◌, Some};
 ghost use Rattle.cyc_host.specs.inside.Answer.{last_line, status_of, cause_words, ending_of};
 
@@ -22,7 +22,7 @@ pub enum Answer {
     BadImage(u32),
     /// The run ended with an uncaught exception, given by its number and its value.
     Uncaught(u32, i32),
-    /// The run ended for lack of pages or of calls.
+    /// The run ended because the store had no free pages, or because the stack had no space for another call.
     Full,
     /// The machine refused an instruction for this cause.
     Trapped(Cause),
@@ -43,7 +43,7 @@ pub enum Answer {
 /// The number of the fault for an image outside the machine's memory; this number follows those of ELF faults.
 const OUTSIDE: u32 = 8;
 
-/// Returns the words of the last line for the cause of a trap.
+/// Returns the wording of the last line on standard error for the cause of a trap.
 pub fn cause_words(cause: Cause) -> &'static str
     ensures { result.now ≡ cause_words cause }
 {
@@ -60,7 +60,7 @@ pub fn cause_words(cause: Cause) -> &'static str
 }
 
 impl Answer {
-    /// Returns the exit status.
+    /// Returns the exit status for the outcome (answer) of a command.
     pub fn status(&self) -> u8
         ensures { result ≡ status_of self.now }
     {
@@ -152,7 +152,8 @@ impl From<RunFault> for Answer {
     }
 }
 
-/// Returns the reason why a run with these limits and this budget ended before its program did, computed from its answer and its report.
+/// Returns the reason why a run with these limits and this budget ended before its program did. The reason is computed from the run's
+/// outcome (answer) and its report.
 pub fn ending(
     answer: &Answer,
     report: Option<Report>,
@@ -174,7 +175,8 @@ pub fn ending(
     }
 }
 
-/// Returns further words for a user about an answer, in addition to its last line and the messages printed earlier.
+/// Returns a further explanation for the user of a command's outcome (answer), in addition to the outcome's last
+/// line and the messages printed earlier.
 pub fn explanation(answer: &Answer) -> Option<&'static str> {
     match *answer {
         Answer::BadImage(number) => Some(image_fault(number)),

@@ -105,7 +105,7 @@ impl<W: Write + Drop> ByteOut for Screen<W> {
     }
 }
 
-/// Returns the answer, or a write fault if the output could not be flushed completely.
+/// Returns the outcome of a command, or a write fault if the command's output could not be flushed completely.
 pub fn finish_for<W: Write + Drop>(screen: &mut Screen<W>, answer: Answer) -> Answer
     ensures answer { EndsAs answer (screen_held screen.new) (screen_is_stuck screen.new) result }
     ensures bytes { Keeps (screen_written W.contents screen.old) (screen_written W.contents screen.new) }

@@ -17,10 +17,10 @@ const MOST_TEXT: u64 = 1_048_577;
 
 const MOST_IMAGE: u64 = 33_554_432;
 
-/// A limit above the size of every file of places, which lists the origins of an image's words.
+/// A limit above the size of every file of places, which lists the source position or other origin of each word of an image.
 const MOST_PLACES: u64 = 268_435_456;
 
-/// Returns the answer to a failed read, and prints the reason for the failure on standard error.
+/// Returns the outcome of a command whose read of a file failed, and prints the reason for the failure on standard error.
 fn report_read_failure<R: Eprint>(rt: &R, name: &str, error: &io::Error) -> Answer {
     if error.kind() == io::ErrorKind::OutOfMemory {
         return Answer::NoMemory;
@@ -32,7 +32,7 @@ fn report_read_failure<R: Eprint>(rt: &R, name: &str, error: &io::Error) -> Answ
     Answer::ReadFault
 }
 
-/// Returns the answer to a failed write, and prints the reason for the failure on standard error.
+/// Returns the outcome of a command whose write of a file failed, and prints the reason for the failure on standard error.
 fn report_write_failure<R: Eprint>(rt: &R, name: &str, error: &io::Error) -> Answer {
     let _ = eprintln!(rt;
         "cyclone: {} cannot be written: {error}",
@@ -90,7 +90,7 @@ fn read_named<R: Files + AllocGlobal + Input>(
     read_up_to(rt.alloc(), file, most, room_for(rt, path, most))
 }
 
-/// Reads a file, or returns the answer for a file that cannot be read.
+/// Reads a file, or returns the outcome of the command if the file cannot be read.
 fn read_file<R: Files + AllocGlobal + Eprint + Input>(
     rt: &R,
     path: &str,
@@ -136,7 +136,7 @@ pub fn read_image<R: Files + AllocGlobal + Eprint + Input>(
     Ok(bytes)
 }
 
-/// Returns the bytes of a file of places, which lists the origins of an image's words.
+/// Returns the bytes of a file of places, which lists the source position or other origin of each word of an image.
 pub fn read_places<R: Files + AllocGlobal + Eprint + Input>(
     rt: &R,
     path: &str,
@@ -209,7 +209,7 @@ pub fn will_be_one_file<R: Files + AllocGlobal>(rt: &R, first: &str, second: &st
         || is_free(rt, first) && is_free(rt, second) && have_one_end(rt, first, second)
 }
 
-/// The existing directory entry with the name of the output file, which determines how the file is written.
+/// The kind of the existing directory entry with the name of the output file, if there is one, which determines how the file is written.
 #[derive(Clone, Copy)]
 enum Place {
     /// The directory has no entry with the name of the output file, so a new file is made.
@@ -401,16 +401,16 @@ fn write_all<R: Files<File = File> + AllocGlobal>(
     }
 }
 
-/// Writes an image, or the report of a run, to its file. If the answer is `Done`, then a regular or new file contains all of the bytes.
-/// After any other answer, the file has its former contents, if files can be created in its directory. An existing file keeps its
+/// Writes an image, or the report of a run, to its file. If the result is `Done`, then a regular or new file contains all of the bytes.
+/// After any other result, the file has its former contents, if files can be created in its directory. An existing file keeps its
 /// permissions.
 pub fn write_file<R: Files<File = File> + AllocGlobal + Eprint>(
     rt: &R,
     path: &str,
     bytes: &[u8],
 ) -> Answer {
-    // The output file is closed before anything is printed: if standard error is closed, then its number may have become
-    // the number of this file.
+    // The output file is closed before anything is printed: if standard error is closed, then its descriptor number may
+    // have become that of the output file.
     match write_all(rt, path, bytes) {
         Ok(Ok(())) => Answer::Done,
         Ok(Err(error)) => report_write_failure(rt, path, &error),

@@ -1,5 +1,5 @@
-//! This crate is the program's interface to its host, and defines its answers: files, the standard streams, the system's
-//! limits, and the last line.
+//! This crate is the program's interface to its host: files, the standard streams and the system's limits. It also
+//! defines the outcomes of commands and their last lines.
 #![tactic(auto)]
 
 pub use answer::{Answer, cause_words, ending, explanation};

@@ -1,4 +1,5 @@
-//! This file provides the standard output as a writer that returns an error before the system kills the process.
+//! This file provides the standard output as a writer. It returns an error before the system would kill the
+//! process for exceeding the limit of file sizes.
 ghost use Rattle.std.specs.Prelude.{◌≡◌, take};
 
 use crate::system::{file_limit, room_of_output};

@@ -22,7 +22,7 @@ fn read_part<R: Files>(rt: &R, path: &str, room: &mut [u8; MOST]) -> usize
     file.read(room).unwrap_or(0)
 }
 
-/// Returns the first word of a text.
+/// Returns the first word (the text up to a space or tab) of a text.
 fn first_word(text: &[u8]) -> Option<&str> {
     for word in text.split(|byte| matches!(*byte, b' ' | b'\t')) {
         if !word.is_empty() {
@@ -64,14 +64,14 @@ pub fn file_limit<R: Files>(rt: &R) -> u64 {
     limit_of(rt, b"Max file size")
 }
 
-/// Returns true if a stack of this size is sufficient.
+/// Returns true if a stack with this size limit is sufficient for the program.
 pub fn is_enough_stack(limit: u64) -> bool
     ensures { IsTrue result ↔ (4194304 ≤ limit) }
 {
     limit >= STACK
 }
 
-/// Returns the number of bytes that may still be written to a file, given the limit and the position of the next byte.
+/// Returns the number of bytes that may still be written to a file, given the limit and the file offset of the next byte.
 fn room_at(limit: u64, place: u64) -> u64
     ensures { result ≡ limit - place }
 {
@@ -81,7 +81,7 @@ fn room_at(limit: u64, place: u64) -> u64
 /// The flag of an open file that makes each write append to the file. The flags are given in octal.
 const APPENDS: u64 = 0o2000;
 
-/// Returns the position of the next byte written to the standard output, if the standard output is a file of this length.
+/// Returns the file offset of the next byte written to the standard output, if the standard output is a file of this length.
 fn place_of_output<R: Files>(rt: &R, length: u64) -> u64 {
     let mut room = [0; MOST];
     let count = read_part(rt, "/proc/self/fdinfo/1", &mut room);

@@ -1,4 +1,5 @@
-//! This crate has facts about images that the compiler and the emulator share: the limits of an image, and the origins of its words.
+//! This crate has facts about images that the compiler and the emulator share: an image's limits, and the source text from which its
+//! words come.
 #![tactic(auto)]
 
 pub mod laws;

@@ -8,7 +8,7 @@ use cyc_words::{ByteOut, Failed};
 use std::alloc::{AllocError, Global};
 use std::fmt::Display;
 
-/// A function of an image: its number, and the address of its first instruction.
+/// A function of an image: its index in the program, and the address of its first instruction.
 #[derive(Clone, Copy)]
 struct Begun {
     number: usize,
@@ -36,7 +36,7 @@ fn functions_of(alloc: Global, table: &Table) -> Result<Vec<Begun>, AllocError> 
     Ok(found)
 }
 
-/// A source file: its name, its bytes, and the positions at which its lines begin.
+/// A source file: its name, its bytes, and the byte offsets at which its lines begin.
 #[derive(Drop)]
 struct Text {
     name: Vec<u8>,

@@ -102,8 +102,8 @@ fn is_data(segment: &ProgramHeader) -> bool
         && 0 < segment.memory_size
 }
 
-/// Returns true if an image has the form of this compiler's images. An image of this form has its entry at the start of the text range,
-/// one text segment, one data segment if there are globals, and no other segment.
+/// Returns true if an image has the form of this compiler's images. An image of this form has its entry at the start of the code range.
+/// An image of this form has one code segment, one data segment if there are globals, and no other segment.
 fn has_form(image: &Outline) -> bool
     ensures { result ≡ has_form image.now.entry (map extent_in image.now.loads.items) }
 {

@@ -92,7 +92,7 @@ fn value_in(answer: Answer) -> Option<i32>
     }
 }
 
-/// Returns the number of the uncaught exception, if one ended the run.
+/// Returns the index of the uncaught exception, if one ended the run.
 fn exception_in(answer: Answer) -> Option<u32>
     ensures { result ≡ exception_in answer }
 {

@@ -7,7 +7,7 @@ use cyc_places::Table;
 use cyc_words::Span;
 use std::fmt;
 
-/// The built-in exceptions, in the order of their numbers.
+/// The built-in exceptions, in the order of their indices.
 const BUILT_IN: [&str; 4] = ["Null_Exception", "Array_bounds", "Array_size", "Div_zero"];
 
 /// The source position at which a run stopped. `Display` writes a line for the stop and one for each active call, innermost first.

@@ -38,7 +38,8 @@ use Rattle.cyc_inline.specs.inside.Emission.{IsFitOperand, IsFit, IsFitEnd, IsFi
 abbrev instruction_of : Call → Instruction
 instruction_of call = instructions.Call call.callee call.arguments call.count call.result
 
--- If an instruction is chosen for inlining, it is a call, and `line` of the callee's instructions are placed in line, with `line` above 0.
+-- An instruction chosen for inlining is a call, and the first `line` of the callee's instructions, with `line` above 0, are placed at the
+-- call.
 pub call_is : (i : Instruction) (line : ℕ) (call : Call) → chosen_call i line ≡ Some call → (i ≡ instruction_of call) × (call.line ≡ line) × (0 < line)
 call_is (instructions.Call callee arguments count result) line call is = go (line == 0) refl is
   where
@@ -94,7 +95,7 @@ few_instructions program number plain is_function =
 
 -- ---- the instructions before an instruction
 
--- An instruction that may have a duplicate before it may also have hoisted instructions before it.
+-- If a duplicate of an instruction may be put before it, hoisted instructions may be put before it too.
 duplicate_preceded : (i : Instruction) → may_have_duplicate i ≡ true → may_follow_hoisted i ≡ true
 duplicate_preceded (instructions.Binary operator destination left right) may = refl
 duplicate_preceded (instructions.LoadGlobal destination global) may = refl
@@ -133,7 +134,7 @@ further_least given slots slot is = leb-true given slot (and_left (nat_le given 
 pub further_below : (given slots slot : ℕ) → is_further given slots slot ≡ true → slot < slots
 further_below given slots slot is = nat_lt-true slot slots (and_right (nat_le given slot) (nat_lt slot slots) is)
 
--- An instruction that passes the test `may_hoisted` satisfies the definition of hoisted instructions.
+-- An instruction that passes the test `may_hoisted` satisfies `IsHoisted`, the definition of a hoisted instruction.
 pub is_hoisted : (globals given slots : ℕ) (x : Instruction) → may_hoisted globals given slots x ≡ true → IsHoisted given slots x
 is_hoisted globals given slots (instructions.Move destination source) may =
     let further = and_left (is_further given slots destination) (fits_in slots source) may in
@@ -244,7 +245,7 @@ module _ (program : Program) (r : Routine) (shift : ℕ) (fits : shift + r.slots
   fit_end (instructions.Finish value) is = omega (arith, is, fits)
   fit_end i is = tt
 
--- The numbers of a call that may be inlined fit machine words.
+-- The slot and function indices in a call that may be inlined fit machine words.
 pub fit_site : (program : Program) (r : Routine) (slots : ℕ) (call : Call) → IsPlain program → slots < 2 ^ 64 → IsOpenable program r slots call
     → IsCallInRange program r call.callee call.arguments call.count call.result
     → (s t : Routine) (following rest : ℕ) (code : List Instruction) → s ≡ r → t ≡ routine_at program call.callee → code ≡ t.code
@@ -294,7 +295,7 @@ no_calls program r chosen slots none same = record {
   frame = inl same;
 }
 
--- Each entry of a table extended by one entry is an old entry or the new last entry.
+-- If a list is extended by one element, each positive element of the new list is an old element or the new last one.
 pub last_line : (lines : List ℕ) (line : ℕ) (k : ℕ) → 0 < place_in (lines ++ line ∷ []) k
     → (place_in (lines ++ line ∷ []) k ≡ place_in lines k) ⊎ ((k ≡ length lines) × (place_in (lines ++ line ∷ []) k ≡ line))
 last_line [] line zero is = inr (refl, refl)

@@ -1,5 +1,5 @@
--- Lemmas about the costs of code positions in an inlined program. Each position has one origin in the source program, so no
--- cost is counted twice.
+-- Lemmas about the costs of code positions in an inlined program. Each code position of an inlined program is made from one
+-- instruction of the source program, so no cost is counted twice.
 use Rattle.std.proofs.Common.{◌≡◌, ◌≢◌, ℕ, zero, suc, ◌+◌, ◌<◌, ◌≤◌, Bool, true, false, List, [], ◌∷◌, ◌++◌, length, map, get_or, Option, Some, None, slice_get, refl, sym, ap, subst, ◌∙◌, arith}
 use Rattle.std.specs.Prelude.{◌==◌, ◌&&◌, sum_by, Contains, if◌then◌else◌}
 use Rattle.std.specs.List.{AllByRecursion, range_with_len}
@@ -16,7 +16,8 @@ use Rattle.cyc_plain.proofs.Steps.{place_known}
 use Rattle.cyc_inline.specs.declared.origin.Origin.{Origin}
 use Rattle.cyc_inline.specs.inside.Opened.{origin_at, origins_of}
 
--- Lists the code positions with a given origin; equality of origins is decidable.
+-- Lists the code positions of the inlined program that are made from a given source
+-- instruction; equality of source instructions is decidable.
 module _ {P Q : Type 0} (same : P → P → Bool) (is : (p r : P) → same p r ≡ true → p ≡ r) (origin : Q → P) where
   abbrev pub made_of : List Q → P → List Q
   made_of [] p = []
@@ -60,7 +61,7 @@ module _ {P Q : Type 0} (same : P → P → Bool) (is : (p r : P) → same p r �
   nothing [] price = refl
   nothing (p ∷ ps) price = let a = sum_by-cons (λ (x : P). sum_by price (made_of [] x)) p ps in let r = nothing ps price in let z : sum_by price (made_of [] p) ≡ 0 = refl in omega (arith, a, r, z)
 
-  -- The total cost of the positions made from distinct origins is at most the cost of all positions.
+  -- The costs of all code positions made from distinct source instructions add up to at most the cost of the whole inlined program.
   pub parts_cheap : (price : Q → ℕ) (ps : List P) (qs : List Q) → IsDistinct ps → sum_by (λ (p : P). sum_by price (made_of qs p)) ps ≤ sum_by price qs
   parts_cheap price ps [] distinct = let n = nothing ps price in omega (arith, n)
   parts_cheap price ps (q ∷ qs) distinct =
@@ -71,7 +72,7 @@ module _ {P Q : Type 0} (same : P → P → Bool) (is : (p r : P) → same p r �
       let all = sum_by-cons price q qs in
       omega (arith, split, one, rest, all)
 
-  -- Each code position is in the list of positions made from its origin.
+  -- Each code position of the inlined program is in the list of the positions made from its source instruction.
   pub made_has : (qs : List Q) (q : Q) (p : P) → same p (origin q) ≡ true → Contains qs q → Contains (made_of qs p) q
   made_has [] q p made (k, below, at) = absurd (omega (arith, below))
   made_has (x ∷ qs) q p made (zero, below, at) = (

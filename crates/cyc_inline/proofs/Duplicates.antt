@@ -1,6 +1,7 @@
--- Simulation of an instruction with hoisted instructions and a duplicate before it, outside inlined calls. Several steps of the inlined
--- program match one source step. The extra steps write slots that the source call does not have. After the extra steps the instruction has
--- the same effect in both programs.
+-- Simulation of an instruction outside inlined calls, before which hoisted instructions and a duplicate of the instruction are put.
+-- Several steps of the inlined program match one step of the source program. The steps of hoisted instructions and duplicates write slots
+-- that the source program's call does not have. After the steps of the instructions put before it, the instruction itself has the same
+-- effect in both programs.
 use Rattle.std.proofs.Common.{◌≡◌, ℕ, suc, ◌+◌, ◌<◌, ◌≤◌, Bool, true, false, ◌&&◌, List, [], ◌∷◌, ◌++◌, length, Option, Some, None, refl, sym, ap, subst, ◌∙◌, arith, inl, inr, length-append}
 use Rattle.std.specs.Prelude.{nat_le, Contains, if◌then◌else◌}
 use Rattle.std.specs.List.{AllByRecursion}
@@ -85,7 +86,7 @@ module _ (program inlined : Program) (origins : List (List Origin)) (are : AreOp
   abbrev place : ℕ → ℕ
   place = place_in program inlined origins are c.active.function
 
-  -- The duplicated instruction as it occurs in the inlined program, after the extra instructions.
+  -- The instruction itself as it occurs in the inlined program, with moved jump targets, after the instructions put before it.
   abbrev j : Instruction
   j = moved 0 place i
 

@@ -69,7 +69,7 @@ opened_next program number chosen front_at place rest in_line code index i all o
     ∙ ap (λ (n : ℕ). here ++ opened_code program number chosen front_at place rest in_line n (drop (index + 1) code)) next)
     before
 
--- Emitting the replacement of one more instruction extends the list of origins.
+-- Emitting the replacement of one more instruction extends the list of source instructions from which the code is made.
 pub opened_origins_next : (program : Program) (number : ℕ) (chosen : List ℕ) (front_at : ℕ → Instruction → List Instruction) (in_line : Bool) (code : List Instruction) (index : ℕ) (i : Instruction) (all old new : List Origin)
     → At code index i → new ≡ old ++ part_origins program number in_line index (chosen_call i (place_in chosen index)) (length (front_at index i))
     → old ++ opened_origins program number chosen front_at in_line index (drop index code) ≡ all

@@ -102,7 +102,7 @@ module _ {A : Type 0} (piece : ℕ → Instruction → List A) (count : ℕ → 
   pieces_long first [] = refl
   pieces_long first (i ∷ code) = omega (arith, length-append (piece first i) (pieces piece (suc first) code), long first i, pieces_long (suc first) code)
 
--- If a property holds for the items of each piece, it holds for all items of the concatenated pieces.
+-- If a property holds for the elements of each piece, it holds for all elements of the concatenated pieces.
 pub all_pieces : {A : Type 0} (P : A → Type 0) (piece : ℕ → Instruction → List A) (first : ℕ) (code : List Instruction)
     → ((k : ℕ) (i : Instruction) → At code k i → AllByRecursion P (piece (first + k) i)) → AllByRecursion P (pieces piece first code)
 all_pieces P piece first [] each = tt

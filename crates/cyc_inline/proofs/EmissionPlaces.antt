@@ -25,7 +25,7 @@ use Rattle.cyc_inline.proofs.EmissionSites.{is_site, site_long, site_origins_lon
 
 -- ---- the tables of places
 
--- The number of instructions in an instruction's replacement, for the in-line or the out-of-line part.
+-- The number of instructions in an instruction's replacement: in the part placed in line, or in the part placed after the caller's code.
 abbrev pub count_at : Program → List ℕ → (front_at : ℕ → Instruction → List Instruction) → (in_line : Bool) → (index : ℕ) → Instruction → ℕ
 count_at program chosen front_at in_line index i = part_count program in_line (chosen_call i (place_in chosen index)) (length (front_at index i))
 
@@ -131,7 +131,8 @@ module _ (program : Program) (number : ℕ) (chosen : List ℕ) (front_at : ℕ 
 
 -- ---- the function of these parts
 
--- Says that a function's code and origins consist of the given parts.
+-- Says that a function's code, and the list of the source instructions from which its instructions
+-- are made, are built from the given parts.
 pub record IsOf (program : Program) (number : ℕ) (chosen : List ℕ) (front_at : ℕ → Instruction → List Instruction) (places rests : List ℕ) (s : Routine) (origins : List Origin) : Type 0 where
   pub parts : AreParts program number chosen front_at places rests s.slots
   pub name : s.name ≡ (routine_at program number).name
@@ -156,11 +157,11 @@ module _ (program : Program) (number : ℕ) (chosen : List ℕ) (front_at : ℕ 
   abbrev rest : ℕ → ℕ
   rest = place_in rests
 
-  -- The code position where an instruction's replacement begins, for the in-line or the out-of-line part.
+  -- The code position where an instruction's replacement begins: the part placed in line, or the part placed after the caller's code.
   abbrev pub begins : (in_line : Bool) → (k : ℕ) → ℕ
   begins in_line k = if in_line then place k else rest k
 
-  -- The code position where the in-line part of a function begins, or its out-of-line part.
+  -- The code position where a function's own code begins, or the parts of inlined callees that are placed after it.
   abbrev pub begin : (in_line : Bool) → ℕ
   begin in_line = if in_line then 0 else opened_end program chosen front_at true 0 0 r.code
 

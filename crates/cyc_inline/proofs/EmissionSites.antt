@@ -37,7 +37,8 @@ part_long site place index i (Some value) =
     )
 part_long site place index i None = refl
 
--- The replacement of a callee's instruction in the in-line or the out-of-line part; it is empty in the other part.
+-- The replacement of a callee's instruction in the part placed at the call or after the caller's code; empty in
+-- the part without the instruction.
 abbrev pub piece_inside : Site → (place : ℕ → ℕ) → (in_line : Bool) → (index : ℕ) → Instruction → List Instruction
 piece_inside site place in_line index i = if stands_in in_line site.call.line index then inside_part site place index i (is_end i) else []
 
@@ -84,7 +85,7 @@ rest_place results line first here there (i ∷ code) (suc k) within past =
     let rest = rest_place results line (suc first) (here + count_inside results line true first i) (there + count_inside results line false first i) code k (omega (arith, within)) (omega (arith, past)) in
     omega (arith, rest)
 
--- The instructions after the callee's in-line part contribute no in-line code.
+-- The callee's instructions after its in-line part contribute nothing to the code placed at the call.
 none_past : (results line first : ℕ) (code : List Instruction) (k : ℕ) → line ≤ first → offset (count_inside results line true) first code k ≡ 0
 none_past results line first [] k past = refl
 none_past results line first (i ∷ code) zero past = refl
@@ -141,11 +142,11 @@ module _ (program : Program) (code : List Instruction) (origins : List Origin) (
   abbrev counts : (in_line : Bool) → ℕ → Instruction → ℕ
   counts in_line = count_inside site.results site.call.line in_line
 
-  -- The code position where the in-line part of an inlined call begins, or its out-of-line part.
+  -- The code position where an inlined call's part placed at the call begins, or its part placed after the caller's code.
   abbrev begin : (in_line : Bool) → ℕ
   begin in_line = if in_line then first else site.rest
 
-  -- Says that a callee's instruction is in the in-line or out-of-line part, at the code position that the table states.
+  -- Says that a callee's instruction is in the part placed at the call or after the caller's code, at the position that the table states.
   record IsThere (k : ℕ) : Type 0 where
     pub in_line : Bool
     pub stands : stands_in in_line site.call.line k ≡ true
@@ -193,7 +194,8 @@ module _ (program : Program) (code : List Instruction) (origins : List Origin) (
         (stands_within origins (pieces piece 0 t.code) (piece k i) (begin is.in_line) (offset (counts is.in_line) 0 t.code k) whole
         (subst (λ (n : ℕ). StandsAt (pieces piece 0 t.code) (piece n i) (offset (counts is.in_line) 0 t.code k)) same inner))))
 
-    -- In the same part, the offset of the next instruction is the offset of the current instruction plus the size of its replacement.
+    -- In each part of an inlined call's code, the offset of the callee's next instruction is that of the current one plus its
+    -- replacement's size.
     further : (in_line : Bool) (k : ℕ) (i : Instruction) → At t.code k i → stands_in in_line site.call.line k ≡ true
         → offset (counts in_line) 0 t.code (k + 1) ≡ offset (counts in_line) 0 t.code k + inside_count site.results site.call.line k (is_end i)
     further in_line k i at is =
@@ -217,7 +219,7 @@ module _ (program : Program) (code : List Instruction) (origins : List Origin) (
       ]
     ]
 
-    -- After the last in-line instruction of the callee, control continues in the caller.
+    -- After the last of the callee's instructions that are placed at the call, control continues in the caller.
     last_place : (k : ℕ) (i : Instruction) → At t.code k i → k + 1 ≡ site.call.line → site.following ≡ place k + inside_count site.results site.call.line k (is_end i)
     last_place k i at last =
         let here = line_place site.results site.call.line 0 first site.rest t.code k (below_from_slice_get t.code k i at) (omega (arith, last)) in
@@ -272,7 +274,7 @@ module _ (program : Program) (code : List Instruction) (origins : List Origin) (
 
 -- ---- the inlined call
 
--- If the in-line and out-of-line code of an inlined call are at their positions, the caller's code contains the callee's code.
+-- The caller's code contains the callee's code if the part placed at the call and the part after the caller's code are at their positions.
 module _ (program : Program) (r s : Routine) (origins : List Origin) (number index here following rest : ℕ) (call : Call) (openable : IsOpenable program r s.slots call)
     (routine : IsRoutine program (routine_at program call.callee)) (next : following ≡ here + call_size program true call)
     (stands : (in_line : Bool) → StandsAt s.code (site_code (site_of program r call following rest) in_line here (routine_at program call.callee).code) (if in_line then here else rest))

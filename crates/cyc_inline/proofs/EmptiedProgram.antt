@@ -256,7 +256,8 @@ module _ (program : Program) (reached : List Bool) (plain : IsPlain program) (ar
       endings = λ s t ending matches ended. ap status_of matches.0 ∙ ended;
     }
 
-    -- A stack address that is allowed for a step of the emptied program is allowed for the source step.
+    -- A stack address allowed for a step of the program whose unreachable functions keep only a return
+    -- is also allowed in the source program.
     lies : (c : Configuration) (base : ℕ) (o : Option ℕ) → MayLie (emptied program reached) base o (Running c) → MayLie program base o (Running c)
     lies c base None may = may
     lies c base (Some function) may = record {

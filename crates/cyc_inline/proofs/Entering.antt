@@ -88,7 +88,7 @@ module _ (program inlined : Program) (origins : List (List Origin)) (are : AreOp
   words : HoldsWords (Running e)
   words = (passed_words shift arguments count b.slots matches.words.0, matches.words.1, matches.words.2, matches.words.3, matches.words.4)
 
-  -- The slots of the source call correspond to the extra slots of the caller in the inlined program.
+  -- The slots of the call in the source program correspond to the extra slots that its caller has in the inlined program.
   abbrev found : Words
   found = λ (k : ℕ). passer.slots (shift + k)
 
@@ -112,7 +112,7 @@ module _ (program inlined : Program) (origins : List (List Origin)) (are : AreOp
         high = (let high = lies.high in let slots = (each_opened program inlined origins are callee).like.slots in let there = same.slotted.base in omega (arith, high, slots, there));
       })
 
-  -- Each slot of the source call equals the corresponding extra slot of the caller.
+  -- Each slot of the call in the source program equals the corresponding extra slot of the caller in the inlined program.
   slots_same : (k : ℕ) → passer.slots (shift + k) ≡ copied c.active.slots arguments count found 0 k
   slots_same k = elim (cases_lt k count) [
     | inl argument ↦

@@ -54,7 +54,7 @@ step_so program pages calls c i s at free does within = (
       ∙ limited-within pages calls (Running c) s within))),
 )
 
--- If a state has at most as many calls as a state within the limits, and the same heap demand, it is within the limits too.
+-- A state is within the limits if it has at most as many calls, and the same heap pages, as a state within them.
 pub fewer_within : (pages calls : ℕ) (c d : Configuration) → stores.demand d.store ≡ stores.demand c.store → length d.frames ≤ length c.frames → is_within pages calls (Running c) ≡ true → is_within pages calls (Running d) ≡ true
 fewer_within pages calls c d as_much fewer within =
     let (paged, some) = and_parts (nat_le (stores.demand c.store) pages) (nat_le (suc (length c.frames)) calls) within in
@@ -63,7 +63,7 @@ fewer_within pages calls c d as_much fewer within =
     (le-leb (suc (length d.frames)) calls (let l = leb-true (suc (length c.frames)) calls some in omega (arith, l, fewer)))
 
 module _ (program inlined : Program) (origins : List (List Origin)) (are : AreOpened program inlined origins) where
-  -- The relation of an inlined call's states does not depend on the next code position.
+  -- The relation between source and inlined states during an inlined call does not depend on the next code position.
   abbrev pub lodged_at : (c : Configuration) (b : Activation) (gs : List Frame) (next : ℕ) → IsLodged program inlined origins are c b gs → IsLodged program inlined origins are c (record b { next = next }) gs
   lodged_at c b gs next l = record {
     waits = l.waits;
@@ -154,7 +154,7 @@ module _ (program inlined : Program) (origins : List (List Origin)) (are : AreOp
           above : Step program pages calls (Running c) (Running e)
           above = step_so program pages calls c i (Running e) at (ordinary_calls i ordinary) does within
 
-          -- After these steps both programs are at corresponding code positions again.
+          -- After the steps that replace one instruction of an inlined callee, both programs are at corresponding code positions again.
           arrives : (u : State) (other : ℕ) → u ≡ Running (beside program inlined origins are e (record g.active { next = other }) g.frames) → other ≡ place e.active.next → HoldsWords u
               → (s : State) × Step program pages calls (Running c) s × Matches program inlined origins are plain fine pages calls s u
           arrives u other is to words = (

@@ -2,11 +2,11 @@
 pub mod Costs
 -- lemmas: moving words one by one equals copying them at once
 pub mod Moves
--- lemmas: agreement of slots, calls and memory in both programs
+-- lemmas: agreement of slots, calls and memory in the source and the inlined program
 pub mod Agreeing
 pub mod Waiting
 pub mod Memory
--- lemmas: the effects of instructions in both programs
+-- lemmas: the effects of instructions in the source and the inlined program
 pub mod Performing
 pub mod Outside
 pub mod Lodged
@@ -20,7 +20,7 @@ pub mod Duplicates
 pub mod Returning
 -- lemmas: each run of an inlined program is a run of the source program
 pub mod Runs
--- lemmas: the chosen calls may be inlined, and their numbers fit machine words
+-- lemmas: the chosen calls may be inlined, and the numbers in their instructions fit machine words
 pub mod ChoosingCalls
 -- lemmas: the code positions of the emitted pieces, and hence the emitted code
 pub mod EmissionPieces

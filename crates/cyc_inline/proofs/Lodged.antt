@@ -1,5 +1,6 @@
--- The relation of states during an inlined call. In the source program, the inlined call is a call of its own. In the inlined program,
--- its slots are extra slots of its caller, and the caller's code contains its code.
+-- The relation between the states of the source program and of the inlined program during an inlined call. In the source program, the
+-- inlined call is a call of its own. In the inlined program, the slots of the inlined callee are extra slots of its caller, and the
+-- caller's code contains the callee's code.
 use Rattle.std.proofs.Common.{◌≡◌, ℕ, suc, ◌+◌, Bool, true, false, List, [], ◌∷◌, length, Option, Some, None, refl, sym, ap, subst, ◌∙◌, arith, inr}
 use Rattle.std.specs.Prelude.{◌&&◌, ◌==◌, ◌*◌, ◌/◌, ◌-◌, if◌then◌else◌}
 use Rattle.cyc_store.specs.State.{StoreState, has_saved, word_at}
@@ -37,7 +38,7 @@ module _ (program inlined : Program) (origins : List (List Origin)) (are : AreOp
     pub calls : At (routine_at program waits.caller.function).code index (instructions.Call c.active.function arguments count waits.result)
     pub site : IsSite program (routine_at inlined waits.caller.function) (origins_of origins waits.caller.function) (slots_of program inlined origins are waits.caller.function) waits.caller.function index
         (place_in program inlined origins are waits.caller.function index) (place_in program inlined origins are waits.caller.function (index + 1)) c.active.function arguments count waits.result
-    -- The slots of the inlined call agree in both programs, and the call has no exception handler.
+    -- The slots of the inlined call agree in the source and the inlined program, and the call has no exception handler.
     pub slots : Agree (slots_of program inlined origins are c.active.function) c.active.slots (from_slot (slots_of program inlined origins are waits.caller.function) b.slots)
     pub handlers : c.active.handlers ≡ []
 
@@ -103,7 +104,8 @@ module _ (program inlined : Program) (origins : List (List Origin)) (are : AreOp
     Going (Ended ending output input) t = ⊥
     Going (Stuck output input) t = Unit {0}
 
-    -- The relation of an inlined call still holds after its slots and code position change correspondingly in both programs.
+    -- The relation of an inlined call still holds after its slots and code position change correspondingly in the source and
+    -- the inlined program.
     abbrev moved_on : (slots others : Words) (to other : ℕ) (globals : Words) (store : StoreState) (output input : List ℕ) → Agree leaf.slots slots (from_slot shift others) → Agree shift b.slots others
         → IsLodged (record c { active = record c.active { slots = slots; next = to }; globals = globals; store = store; output = output; input = input }) (record b { slots = others; next = other }) gs
     moved_on slots others to other globals store output input agree kept = record {
@@ -156,7 +158,7 @@ module _ (program inlined : Program) (origins : List (List Origin)) (are : AreOp
       by_store (Some old) = stays c.globals (has_saved c.store address word (Some old)) refl
       by_store None = stays c.globals c.store refl
 
-      -- A write to memory changes a slot of the caller, or of a call that waits for the caller.
+      -- During an inlined call, a write to the address of a slot changes a slot of the caller or of a call waiting for it.
       by_slot : (o : Option ℕ) → slot_at program f.caller address ≡ o
           → IsWritten (record c { frames = put_or o word f lodged.rest (with_waiting program lodged.rest address word) }) (with_slot inlined d o address word)
       by_slot (Some number) at = record {

@@ -25,12 +25,12 @@ pub step_is : (program : Program) (pages calls : ℕ) (choice : Choice) (c : Con
     → limited_step program pages calls choice (Running c) ≡ limited pages (limit_of (Some i) calls) (Running c) (performed program choice c i)
 step_is program pages calls choice c i at = ap (λ (o : Option Instruction). limited pages (limit_of o calls) (Running c) (executed program choice c o)) at
 
--- If instructions are made from an origin, the first of them has that origin.
+-- If consecutive instructions are made from one source instruction, the first of them is made from it too.
 pub made_first : (origins : List Origin) (from count : ℕ) (origin : Origin) → 0 < count → AreMadeOf origins from count origin → slice_get origins from ≡ Some origin
 made_first origins from count origin some made = ap (slice_get origins) (let e : from ≡ from + 0 = omega arith in e) ∙ made 0 some
 
 module _ (program inlined : Program) (origins : List (List Origin)) (are : AreOpened program inlined origins) where
-  -- Says that the states of both programs match inside an inlined call.
+  -- Says that the states of the source and the inlined program match inside an inlined call.
   pub record IsInside (c : Configuration) (t : State) : Type 0 where
     pub active : Activation
     pub frames : List Frame
@@ -58,7 +58,7 @@ module _ (program inlined : Program) (origins : List (List Origin)) (are : AreOp
   alike_if true e s t u v same first second = subst (λ (x : Bool). Alike s (if x then u else v)) (sym same) first
   alike_if false e s t u v same first second = subst (λ (x : Bool). Alike t (if x then u else v)) (sym same) second
 
-  -- If the states of both programs match outside inlined calls, both are within the limits or neither is.
+  -- If the states of both programs match outside inlined calls, both are within the limits of heap pages and active calls, or neither is.
   within_same : (pages calls : ℕ) (s u : State) → Outside program inlined origins are s u → is_within pages calls u ≡ is_within pages calls s
   within_same pages calls (Running c) u outside =
       ap (is_within pages calls) outside.is
@@ -82,7 +82,8 @@ module _ (program inlined : Program) (origins : List (List Origin)) (are : AreOp
       → instruction_at inlined (place_at b.function b.next) ≡ Some i
   finds a b next i slotted at there = ap (instruction_at inlined) (stands a b next slotted at) ∙ there
 
-  -- The code position of the active call in the inlined program is among the positions made from the call's origin.
+  -- If an instruction of the inlined program has a recorded source instruction, its code position is among the
+  -- positions made from this source instruction.
   pub owns : (a b : Activation) (next function index : ℕ) (i : Instruction) → AreSlotted program inlined origins are a b → b.next ≡ next → At (routine_at inlined a.function).code next i
       → slice_get (origins_of origins a.function) next ≡ Some (origin_at function index)
       → Contains (own inlined origins (place_at function index)) (place_at b.function b.next)

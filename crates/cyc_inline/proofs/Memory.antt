@@ -1,5 +1,5 @@
--- Lemmas: memory is the same in both programs. The same slots of the same calls have addresses, because no slot of an inlined
--- function has an address.
+-- Lemmas: memory is the same in the source and the inlined program. The same slots of the same calls have addresses, because
+-- no slot of an inlined function has an address.
 use Rattle.std.proofs.Common.{◌≡◌, ℕ, zero, suc, ◌+◌, ◌-◌, ◌*◌, ◌/◌, ◌<◌, Bool, true, false, ◌&&◌, ◌||◌, List, [], ◌∷◌, Option, Some, None, refl, sym, ap, subst, ◌∙◌, inl, inr}
 use Rattle.std.specs.Prelude.{◌==◌, if◌then◌else◌}
 use Rattle.std.specs.List.{AllByRecursion}
@@ -22,7 +22,7 @@ use Rattle.cyc_inline.proofs.Waiting.{each_opened, place_in, slots_of, AreSlotte
 
 -- ---- slots whose address is taken
 
--- If a slot of a function is pinned, an instruction of the function's code takes the slot's address.
+-- If a slot is pinned (its address is taken in its function), some instruction of the function's code takes the slot's address.
 pinned_there : (code : List Instruction) (slot : ℕ) → is_pinned code slot ≡ true → (p : ℕ) × (i : Instruction) × At code p i × (pins i slot ≡ true)
 pinned_there [] slot pinned = absurd (let e : false ≡ true = pinned in cc)
 pinned_there (i ∷ code) slot pinned = elim (or_cases (pins i slot) (is_pinned code slot) pinned) [
@@ -66,7 +66,7 @@ module _ (program inlined : Program) (origins : List (List Origin)) (are : AreOp
       below : is_pinned (routine_at program function).code slot ≡ true → is_pinned (routine_at inlined function).code slot ≡ true
       below pinned = let (p, i, at, names) = pinned_there (routine_at program function).code slot pinned in by p i at names
 
-  -- An address denotes the same slot in both programs.
+  -- An address denotes the same slot in the source and the inlined program.
   pub slot_same : (a b : Activation) (address : ℕ) → AreSlotted program inlined origins are a b → slot_at inlined b address ≡ slot_at program a address
   slot_same a b address slotted =
       ap (λ (function : ℕ). numbered (is_pinned (routine_at inlined function).code) b.base address) slotted.function

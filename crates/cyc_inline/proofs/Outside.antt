@@ -1,4 +1,5 @@
--- Simulation of an instruction outside inlined calls: an instruction that was not inlined has the same effect in both programs.
+-- Simulation of an instruction outside inlined calls: an instruction that was not inlined has the same effect in the source and
+-- the inlined program.
 use Rattle.std.proofs.Common.{◌≡◌, ℕ, suc, ◌+◌, ◌*◌, ◌≤◌, false, List, [], ◌∷◌, map, Option, Some, None, refl, sym, ap, subst, ◌∙◌, arith, inl, inr}
 use Rattle.std.specs.Prelude.{◌==◌, if◌then◌else◌}
 use Rattle.std.specs.List.{AllByRecursion}
@@ -39,11 +40,11 @@ module _ (program inlined : Program) (origins : List (List Origin)) (are : AreOp
   abbrev Match : State → State → Type 0
   Match = Outside program inlined origins are
 
-  -- Says that both programs continue with the next instruction.
+  -- Says that the source and the inlined program continue with the next instruction.
   abbrev Falls : Type 0
   Falls = b.next + 1 ≡ place (c.active.next + 1)
 
-  -- The active calls of both programs correspond after the step.
+  -- The active calls of the source and the inlined program correspond after the step.
   on : (slots others : Words) (to other : ℕ) → Agree r.slots slots others → other ≡ place to
       → AreCalls program inlined origins are (record c.active { slots = slots; next = to }) (record b { slots = others; next = other })
   on slots others to other agree next = record {
@@ -202,7 +203,7 @@ module _ (program inlined : Program) (origins : List (List Origin)) (are : AreOp
     waiting = waiting;
   }
 
-  -- If exception handlers are removed in both programs, the states still correspond.
+  -- If exception handlers are removed in the source and the inlined program, their states still correspond.
   left : (to other : ℕ) (handlers : List Handler) → AllByRecursion (HasRecord program inlined origins are c.active.function) handlers → other ≡ place to
       → Match (Running (record c { active = record c.active { next = to; handlers = handlers } })) (Running (record d { active = record b { next = other; handlers = map (moved_handler place) handlers } }))
   left to other handlers records next = record {
@@ -244,8 +245,7 @@ module _ (program inlined : Program) (origins : List (List Origin)) (are : AreOp
   finished value [] inside = returns_same value inside
   finished value (h ∷ handlers) inside = refl
 
-  -- If the handlers of the inlined program's call are those of the source call with moved targets,
-  -- a match for one implies a match for the other.
+  -- If states match with the source call's handlers, their targets moved, they match with the handlers of the inlined program's call.
   by_handlers : (s : State) (t : List Handler → State) → Match s (t (map (moved_handler place) c.active.handlers)) → Match s (t b.handlers)
   by_handlers s t matches = subst (λ (handlers : List Handler). Match s (t handlers)) (sym slotted.handlers) matches
 

@@ -39,11 +39,11 @@ module _ (program inlined : Program) (r : Routine) (shift : ℕ) (place : ℕ �
   abbrev pub gone : (d : Configuration) (slots : Words) (next : ℕ) (globals : Words) (output input : List ℕ) → Configuration
   gone d slots next globals output input = record d { active = record d.active { slots = slots; next = next }; globals = globals; output = output; input = input }
 
-  -- Says that both programs are at corresponding code positions, or that both are just after the instruction.
+  -- Says that the source and the inlined program are at corresponding code positions, or that both are just after the instruction.
   abbrev pub IsNext : (to other : ℕ) → Type 0
   IsNext to other = (other ≡ place to) ⊎ ((to ≡ c.active.next + 1) × (other ≡ b.next + 1) × Falls)
 
-  -- The closure conditions that a relation between states of both programs must satisfy.
+  -- The closure conditions that a relation between states of the source and the inlined program must satisfy.
   pub record Bears (Match : State → State → Type 0) : Type 0 where
     pub stuck : (output input : List ℕ) → Match (Stuck output input) (Stuck output input)
     pub goes : (slots others : Words) (to other : ℕ) (globals : Words) (output input : List ℕ) → Agree r.slots slots (from_slot shift others) → Agree shift b.slots others → IsNext to other
@@ -131,7 +131,7 @@ module _ (program inlined : Program) (r : Routine) (shift : ℕ) (place : ℕ �
         (subst (λ (o : Option ℕ). Match (saves_byte program c address byte (memory_at program c (word_of address))) (saves_byte inlined d address byte o)) (sym (bears.found (word_of address)))
         (saved_byte address byte (memory_at program c (word_of address)) falls)))
 
-    -- A load or store accesses the same address in both programs.
+    -- A load or store accesses the same address in the source and the inlined program.
     address_same : (base : Operand) (offset : ℕ) → IsOperand r base → add_of (operand_word b.slots (shifted_operand shift base)) offset ≡ add_of (operand_word c.active.slots base) offset
     address_same base offset inside = ap (λ (a : ℕ). add_of a offset) (word_of_operand base inside)
 

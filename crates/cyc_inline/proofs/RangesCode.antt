@@ -1,5 +1,5 @@
--- A property of each emitted instruction: everything that the instruction names exists, its numbers are words, and it takes
--- the address of no extra slot.
+-- Each emitted instruction names only existing slots, globals and functions, contains only numbers that fit machine words,
+-- and takes the address of no extra slot.
 use Rattle.std.proofs.Common.{◌≡◌, ℕ, zero, suc, ◌+◌, ◌<◌, ◌≤◌, Bool, true, false, List, [], ◌∷◌, length, Option, Some, None, refl, sym, ap, subst, ◌∙◌, arith, inl, inr, length-append}
 use Rattle.std.specs.Prelude.{All, ◌⊎◌, ◌==◌, ◌||◌, nat_le, if◌then◌else◌}
 use Rattle.std.specs.List.{AllByRecursion}
@@ -102,7 +102,7 @@ pinned_at (j ∷ code) (suc k) i slot at pinned = or_right (pins j slot) (is_pin
 
 -- ---- the out-of-line part of a callee's code
 
--- The replacement of an out-of-line instruction contains at least one instruction.
+-- If a callee's instruction is placed after the caller's code, its replacement contains at least one instruction.
 pub rest_some : (results line index : ℕ) (i : Instruction) → line ≤ index → 1 ≤ count_inside results line false index i
 rest_some results line index i past =
     let there : nat_le line index ≡ true = le-leb line index past in

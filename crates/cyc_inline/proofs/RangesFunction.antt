@@ -34,7 +34,7 @@ none_before : (count : ℕ → Instruction → ℕ) (code : List Instruction) �
 none_before count [] = refl
 none_before count (i ∷ code) = refl
 
--- The numbers of the instructions of a plain program fit machine words.
+-- The numbers in the instructions of a plain program fit machine words.
 pub function_words : (program : Program) (number : ℕ) → IsPlain program → number < length program.functions → All HasWord (routine_at program number).code
 function_words program number plain is_function = plain.words.functions number no_routine is_function
 
@@ -90,7 +90,7 @@ module _ (program : Program) (number : ℕ) (chosen : List ℕ) (front_at : ℕ 
     pinned = pinned program number chosen front_at places rests s origins is;
   }
 
-  -- The in-line code of a function does not run off its end, because it ends with the replacement of the last instruction.
+  -- A function's own code, placed before parts of its callees, does not run off its end, since the last instruction's replacement ends it.
   front_ends : EndsWell front
   front_ends k i at last =
       let some = has_code program r routine in
@@ -108,7 +108,7 @@ module _ (program : Program) (number : ℕ) (chosen : List ℕ) (front_at : ℕ 
       let is_it : moved 0 place j ≡ i = (let e : Some (moved 0 place j) ≡ Some i = sym here ∙ ap (slice_get s.code) same ∙ at_code in cc) in
       sym (ap leaves is_it) ∙ same_leaving 0 place j ∙ leaving
 
-  -- The out-of-line part of each inlined call does not run off its end.
+  -- The part of each inlined call that is placed after the caller's code does not run off its end.
   rest_part_ends : (k : ℕ) (i : Instruction) (call : Option Call) → At r.code k i → chosen_call i (place_in chosen k) ≡ call
       → EndsWell (part program number place rest false k i call (front_at k i))
   rest_part_ends k i (Some call) at chosen_is =

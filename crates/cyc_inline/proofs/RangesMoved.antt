@@ -1,4 +1,5 @@
--- If everything that an instruction names exists, everything that the moved instruction names exists.
+-- If everything that an instruction names exists, so does everything that it names after its slots
+-- are shifted and its jump targets are moved.
 use Rattle.std.proofs.Common.{◌≡◌, ℕ, ◌+◌, ◌^◌, ◌<◌, ◌≤◌, true, false, length, Option, Some, None, refl, sym, ap, ◌∙◌, arith}
 use Rattle.std.specs.Prelude.{not, ◌&&◌, nat_lt}
 use Rattle.std.proofs.lemmas.Bool.{false≢true}
@@ -45,7 +46,8 @@ module _ (program : Program) (t s : Routine) (shift : ℕ) (place : ℕ → ℕ)
   argument_still (Some operand) is = operand_still operand is
   argument_still None is = tt
 
-  -- A moved instruction names only existing slots, globals and functions, unless it is a return or opens a handler.
+  -- An instruction with shifted slots and moved jump targets names only existing slots, globals and functions,
+  -- unless it is a return or opens a handler.
   pub moved_in : (i : Instruction) → IsInRange program t i → ((value : ℕ) → is_end i ≡ Some value → HasSlots s value s.results)
       → ((first handler : ℕ) → i ≡ instructions.Try first handler → IsInRange program s (instructions.Try first (place handler))) → IsInRange program s (moved shift place i)
   moved_in (instructions.Move destination source) (first, second) ends tries = (slot_in destination first, operand_in source second)
@@ -95,7 +97,7 @@ word_moved : (shift : ℕ) (operand : Operand) → IsOfWord operand → IsOfWord
 word_moved shift (operands.Slot number) is = tt
 word_moved shift (operands.Word word) is = is
 
--- The numbers of a moved instruction fit machine words.
+-- The numbers in an instruction still fit machine words after its slots are shifted and its jump targets are moved.
 pub has_word : (shift : ℕ) (place : ℕ → ℕ) (i : Instruction) → HasWord i → HasWord (moved shift place i)
 has_word shift place (instructions.Move destination source) has = word_moved shift source has
 has_word shift place (instructions.Unary operator destination operand) has = word_moved shift operand has
@@ -118,7 +120,7 @@ pub same_leaving : (shift : ℕ) (place : ℕ → ℕ) (i : Instruction) → lea
 same_leaving shift place (instructions.Jump target) = refl
 same_leaving shift place i = refl
 
--- A moved instruction takes the addresses of the same slots as the original instruction.
+-- An instruction takes the addresses of the same slots after its slots are shifted and its jump targets are moved.
 pub same_pins : (shift : ℕ) (place : ℕ → ℕ) (i : Instruction) (slot : ℕ) → pins (moved shift place i) slot ≡ pins i slot
 same_pins shift place (instructions.Jump target) slot = refl
 same_pins shift place i slot = refl

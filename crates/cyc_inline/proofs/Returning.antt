@@ -138,7 +138,7 @@ module _ (program inlined : Program) (origins : List (List Origin)) (are : AreOp
       next = ap (place_in program inlined origins are f.caller.function) (sym lodged.following);
     }
 
-    -- After these steps the inlined call is over in both programs.
+    -- After the steps that replace the return of an inlined callee, the inlined call is over in both programs.
     arrives : (places : List CodePlace) (u : State) → u ≡ Running (below target) → IsMatchedStep (machine program pages calls) (machine inlined pages calls) (matching program inlined origins are plain fine pages calls) (Running c) places u
     arrives places u is = record {
       next = Running e;

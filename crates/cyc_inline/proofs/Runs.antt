@@ -124,7 +124,7 @@ module _ (program inlined : Program) (origins : List (List Origin)) (are : AreOp
   steps (Ended ending output input) t matches running never = absurd (running_ended ending (sym running))
   steps (Stuck output input) t matches running never = absurd (running_failed (sym running))
 
-  -- The initial states of both programs are related.
+  -- The initial states of the source and the inlined program are related.
   start_alike : (base : ℕ) (store : StoreState) (input : List ℕ) → Alike program inlined origins are (start program base store input) (start inlined base store input)
   start_alike base store input = inl (record {
     active = record { function = inlined.main; next = 0; base = base; slots = λ (slot : ℕ). 0; handlers = [] };

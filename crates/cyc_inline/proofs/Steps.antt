@@ -17,7 +17,7 @@ use Rattle.cyc_inline.proofs.Waiting.{each_opened, place_in, slots_of, AreCalls,
 use Rattle.cyc_inline.proofs.Outside.{call_same, performs_outside}
 use Rattle.cyc_inline.proofs.Matched.{step_is, made_first, Alike, limited_outside, finds, owns, Matches, matching, kept, words_kept}
 
--- Moving an instruction changes neither the function that the instruction calls nor the limit on active calls.
+-- Shifting an instruction's slots and moving its jump targets changes neither the function that it calls nor the limit on active calls.
 callee_same_moved : (shift : ℕ) (place : ℕ → ℕ) (i : Instruction) → callee_of (Some (moved shift place i)) ≡ callee_of (Some i)
 callee_same_moved shift place (instructions.Call function arguments count result) = refl
 callee_same_moved shift place (instructions.Enter function) = refl

@@ -1,4 +1,4 @@
--- Lemmas about active and waiting calls of both programs, and about exceptions that reach these calls.
+-- Lemmas about active and waiting calls of the source and the inlined program, and about exceptions that reach these calls.
 use Rattle.std.proofs.Common.{◌≡◌, ℕ, suc, ◌+◌, ◌≤◌, Bool, true, false, List, [], ◌∷◌, length, map, refl, sym, ap, subst, arith, inl, inr}
 use Rattle.std.specs.Prelude.{if◌then◌else◌}
 use Rattle.std.specs.List.{AllByRecursion}
@@ -14,7 +14,7 @@ use Rattle.cyc_inline.specs.declared.origin.Origin.{Origin}
 use Rattle.cyc_inline.specs.inside.Opened.{IsOpened, AreOpened, origins_of}
 use Rattle.cyc_inline.proofs.Agreeing.{Agree, put_agree, intact_agree}
 
--- For every function number the inlined code satisfies `IsOpened`, even for a number without a function.
+-- The inlined code satisfies `IsOpened` for every function index, even for an index at which the program has no function.
 nothing_opened : (program : Program) (function : ℕ) (origins : List Origin) → length origins ≡ 0 → IsOpened program function no_routine no_routine origins
 nothing_opened program function origins none = record {
   like = record { name = refl; parameters = refl; results = refl; slots = omega arith; frame = inl refl };
@@ -68,7 +68,8 @@ module _ (program inlined : Program) (origins : List (List Origin)) (are : AreOp
     pub slotted : AreSlotted a b
     pub next : b.next ≡ place_in a.function a.next
 
-  -- Says that the calls that wait for a call of the function correspond in both programs; the outermost call is a call of `main`.
+  -- Says that the calls waiting for a function's call correspond in the source and the inlined program; the outermost call is a
+  -- call of `main`.
   abbrev pub AreWaiting : (function : ℕ) → List Frame → List Frame → Type 0
   AreWaiting function [] [] = function ≡ program.main
   AreWaiting function (f ∷ fs) (g ∷ gs) = AreCalls f.caller g.caller × (g.result ≡ f.result) × AreWaiting f.caller.function fs gs
@@ -139,7 +140,7 @@ module _ (program inlined : Program) (origins : List (List Origin)) (are : AreOp
         })
         refl
 
-    -- An exception reaches corresponding handlers in both programs, or ends both runs.
+    -- An exception reaches corresponding handlers in the source and the inlined program, or ends both runs.
     pub thrown : (a b : Activation) (fs gs : List Frame) → AreSlotted a b → AreWaiting a.function fs gs → Outside (throws c tag value a fs) (throws d tag value b gs)
     thrown a b [] [] slotted waiting =
         subst (λ (hs : List Handler). Outside (throws c tag value a []) (lands d tag value b [] (Ended (Uncaught tag (signed value)) d.output d.input) hs)) (sym slotted.handlers)
@@ -151,8 +152,8 @@ module _ (program inlined : Program) (origins : List (List Origin)) (are : AreOp
         (landed a b (f ∷ fs) (g ∷ gs) (throws c tag value f.caller fs) (throws d tag value g.caller gs) slotted (calls, result, rest)
         (thrown f.caller g.caller fs gs calls.slotted rest) a.handlers slotted.records)
 
-    -- An exception raised in an inlined call reaches corresponding handlers. The source call has no handler, so the exception passes to
-    -- the caller, which is the active call of the inlined program.
+    -- An exception raised in an inlined call reaches corresponding handlers in both programs. The inlined call has no handler in the
+    -- source program, so the exception passes to its caller, the active call of the inlined program.
     pub thrown_inside : (leaf b : Activation) (f : Frame) (fs gs : List Frame) → leaf.handlers ≡ [] → AreSlotted f.caller b → AreWaiting f.caller.function fs gs
         → Outside (throws c tag value leaf (f ∷ fs)) (throws d tag value b gs)
     thrown_inside leaf b f fs gs none slotted waiting =

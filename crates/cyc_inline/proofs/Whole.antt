@@ -53,7 +53,7 @@ module _ (program : Program) (routines : List Routine) (origins : List (List Ori
     last = is.last;
   }
 
-  -- Each function of the new program is made from the given program's function with the same number.
+  -- Each function of the new program is made from the given program's function with the same index.
   each_made : (k : ℕ) (s : Routine) → slice_get routines k ≡ Some s → IsRoutine program s × All HasWord s.code
   each_made k s at =
       let is : IsMade program k (routine_at inlined k) _ = made.each k (let below = below_from_slice_get routines k s at in let many = made.as_many in omega (arith, below, many)) in

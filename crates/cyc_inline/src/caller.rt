@@ -24,12 +24,13 @@ use std::alloc::{AllocError, Global};
 #[derive(Clone, Copy)]
 pub(crate) struct Caller<'a> {
     pub(crate) plain: &'a Plain,
-    /// The number of the function in the program.
+    /// The index of the function in the program.
     pub(crate) number: usize,
     pub(crate) choice: &'a Choice,
     /// The code position of each instruction's replacement, and the position after the last.
     pub(crate) places: &'a [usize],
-    /// The code position of the out-of-line part of each instruction's replacement, and the position after the last.
+    /// For each instruction, the code position of the part of its replacement placed after the caller's code, and
+    /// the position after the last part.
     pub(crate) rests: &'a [usize],
 }
 
@@ -40,7 +41,8 @@ pub(crate) struct Places {
     pub(crate) end: usize,
 }
 
-/// Returns the number of instructions in an instruction's replacement, for the in-line or the out-of-line part.
+/// Returns the number of instructions in an instruction's replacement: in the part placed in line, or in the
+/// part placed after the caller's code.
 fn part_count(plain: &Plain, in_line: bool, call: Option<Call>, front: usize) -> usize
     requires plain { IsPlain plain.now }
     requires call { IfSome call (λ it. IsSmallCall plain.now it) }
@@ -89,7 +91,7 @@ pub(crate) fn opened_places(
 }
 
 impl Emission {
-    /// Appends the wanted instructions that may be hoisted before an instruction.
+    /// Appends those of the instructions requested for hoisting that may be hoisted before an instruction.
     fn push_all_hoisted(
         &mut self,
         globals: usize,
@@ -110,7 +112,7 @@ impl Emission {
         Ok(())
     }
 
-    /// Appends the instructions hoisted before an instruction, unless hoisting is not allowed there or too many are wanted.
+    /// Appends the instructions hoisted before an instruction, unless hoisting is not allowed there or too many are requested.
     fn push_all_hoisted_of(
         &mut self,
         globals: usize,
@@ -130,7 +132,7 @@ impl Emission {
         self.push_all_hoisted(globals, given_slots, slots, wanted, origin)
     }
 
-    /// Appends the hoisted instructions that the choice's table wants before an instruction.
+    /// Appends the hoisted instructions that the choice's table requests before an instruction.
     fn push_wanted(
         &mut self,
         plain: &Plain,
@@ -210,7 +212,7 @@ impl Emission {
     }
 
     /// Appends the replacement of an instruction: the code of an inlined call, or the instruction itself. If `in_line` is false, appends
-    /// only the out-of-line part of an inlined call's code.
+    /// only the part of an inlined call's code that is placed after the caller's code.
     fn push_part(
         &mut self,
         alloc: Global,
@@ -249,7 +251,8 @@ impl Emission {
         }
     }
 
-    /// Appends the replacements of all instructions of a function: the in-line code or the out-of-line code.
+    /// Appends the replacements of all instructions of a function: the code in their place, or the parts of
+    /// inlined callees placed after that code.
     pub(crate) fn push_parts(
         &mut self,
         alloc: Global,

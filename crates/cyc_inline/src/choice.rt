@@ -20,21 +20,21 @@ use std::alloc::{AllocError, Global};
 /// The resources that the caller needs to inline a call.
 #[derive(Clone, Copy)]
 pub(crate) struct Need {
-    /// The number of slots that the caller then has.
+    /// The number of slots that the caller has after the call is inlined.
     pub(crate) slots: usize,
     /// The number of instructions that replace the call.
     pub(crate) size: usize,
-    /// The number of the callee's instructions in the in-line part.
+    /// The number of the callee's instructions that are placed at the call.
     pub(crate) line: usize,
 }
 
 /// The calls of a function that are inlined, and the function's duplicated and hoisted instructions.
 #[derive(Drop)]
 pub(crate) struct Choice {
-    /// For each instruction, the number of the callee's in-line instructions if the instruction is an inlined call, else 0.
+    /// For each instruction, the number of the callee's instructions placed at the call if the instruction is an inlined call, else 0.
     pub(crate) chosen: Vec<usize>,
-    /// For each instruction, the slot wanted for its duplicate. The duplicate is made only if the slot is an extra slot and the instruction
-    /// may be duplicated.
+    /// For each instruction, the slot requested for its duplicate. A duplicate is made only if its slot is an extra slot and the
+    /// instruction may be duplicated.
     pub(crate) duplicates: Vec<usize>,
     /// For each instruction, the instructions that should be hoisted before it.
     pub(crate) all_hoisted: Vec<Vec<Instruction>>,
@@ -44,7 +44,7 @@ pub(crate) struct Choice {
     pub(crate) growth: usize,
 }
 
-/// Returns the number of instructions that replace an inlined call: in the call's place, or out of line.
+/// Returns the number of instructions that replace an inlined call: in the call's place, or after the caller's code.
 pub(crate) fn call_size(plain: &Plain, in_line: bool, call: Call) -> usize
     requires plain { IsPlain plain.now }
     requires call { IsSmallCall plain.now call }
@@ -56,7 +56,7 @@ pub(crate) fn call_size(plain: &Plain, in_line: bool, call: Call) -> usize
     if in_line { call.count + 1 + size } else { size }
 }
 
-/// Returns the number of the callee's in-line instructions if the instruction is a call of a leaf, else 0.
+/// Returns the number of the callee's instructions placed at the call if the instruction is a call of a leaf function, else 0.
 fn line_of(leafs: &[usize], instruction: Instruction) -> usize
     ensures { (call : Call) → chosen_call instruction result ≡ Some call → result ≡ place_in leafs.now call.callee }
 {

@@ -1,5 +1,5 @@
-//! Decides about duplicates and hoisted instructions. An instruction may be duplicated into an extra slot just before it. Hoisted
-//! instructions, which write extra slots, may be put before an instruction.
+//! Decides which instructions may be duplicated and which may be hoisted. An instruction may be duplicated into an extra slot
+//! just before it. Hoisted instructions, which write extra slots, may be put before an instruction.
 ghost use Rattle.std.specs.Prelude.{◌≡◌, ◌≤◌, length};
 ghost use Rattle.cyc_inline.specs.declared.limits.TheConstants as limits;
 ghost use Rattle.cyc_inline.specs.inside.Emission as emission;
@@ -25,7 +25,7 @@ pub(crate) fn may_have_duplicate(instruction: Instruction) -> bool
     }
 }
 
-/// Returns the slot of an instruction's duplicate: `wanted` if that is an extra slot and the instruction may be duplicated.
+/// Returns the slot of an instruction's duplicate: `wanted`, if the source function lacks this slot and the instruction may be duplicated.
 pub(crate) fn duplicate_slot(
     given_slots: usize,
     slots: usize,
@@ -79,7 +79,7 @@ fn fits_in(slots: usize, operand: Operand) -> bool
     }
 }
 
-/// Returns true if an instruction may be hoisted: it writes an extra slot and cannot fail.
+/// Returns true if an instruction may be hoisted: it writes a slot that the source function lacks, and it cannot fail.
 pub(crate) fn may_hoisted(
     globals: usize,
     given_slots: usize,
@@ -112,7 +112,7 @@ pub(crate) fn may_hoisted(
     }
 }
 
-/// Returns the number of wanted instructions that may be hoisted before an instruction.
+/// Returns how many of the instructions requested for hoisting may be hoisted before an instruction.
 pub(crate) fn hoisted_count(
     globals: usize,
     given_slots: usize,

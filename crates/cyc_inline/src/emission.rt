@@ -1,4 +1,4 @@
-//! Emitted code and the origins of its instructions.
+//! Emitted code, with the source instruction from which each emitted instruction is made.
 ghost use Rattle.std.specs.Prelude.{◌≡◌, ◌+◌, ◌<◌, ◌^◌, [], ◌∷◌, replicate};
 ghost use Rattle.cyc_inline.specs.inside.Emission.{AddsCode, AddsOrigins};
 ghost use Rattle.cyc_inline.specs.inside.Opened.{passing};
@@ -7,7 +7,7 @@ use crate::origin::Origin;
 use cyc_plain::{Instruction, Operand};
 use std::alloc::{AllocError, Global};
 
-/// The code of a function emitted so far, with the origin of each instruction.
+/// The code of a function emitted so far, with the source instruction from which each instruction is made.
 #[derive(Drop)]
 pub(crate) struct Emission {
     pub(crate) code: Vec<Instruction>,

@@ -99,7 +99,7 @@ fn first_return(code: &[Instruction]) -> usize
     code.len()
 }
 
-/// Returns the instruction at an index of a code, if the index is not the end.
+/// Returns the instruction at an index of a code, if the index is below the code's length.
 fn instruction_in(code: &[Instruction], place: usize) -> Option<Instruction>
     ensures { result ≡ slice_get code.now place }
 {
@@ -109,7 +109,7 @@ fn instruction_in(code: &[Instruction], place: usize) -> Option<Instruction>
     }
 }
 
-/// Returns the origin of the instruction at an index of a function.
+/// Returns the source instruction from which the instruction at an index of a function is made.
 fn origin_of(opened: &Option<Opened>, number: usize, index: usize) -> Origin {
     if let Some(opened) = opened {
         if let Some(origin) = opened.origins.get(index) {
@@ -122,7 +122,7 @@ fn origin_of(opened: &Option<Opened>, number: usize, index: usize) -> Origin {
     }
 }
 
-/// Returns a function reduced to one instruction, `stub`, with the instruction's origin in the source function.
+/// Returns a function reduced to one instruction, `stub`, with the source instruction from which it is made.
 fn emptied(
     alloc: Global,
     function: Function,
@@ -155,7 +155,7 @@ fn emptied(
     })
 }
 
-/// Returns the function with number `number`, reduced to a return if no code calls it. A function without a return keeps its code.
+/// Returns the function with index `number`, reduced to a return if no code calls it. A function without a return keeps its code.
 fn keep(
     alloc: Global,
     function: Function,

@@ -8,8 +8,8 @@ use crate::inlining::{Inlined, Work, remake};
 use cyc_plain::Plain;
 use std::alloc::{AllocError, Global};
 
-/// Returns the program with duplicated instructions, which store the values of repeated expressions in extra slots. The program's size is
-/// at most `room` words, or at most its former size.
+/// Returns the program with duplicated instructions, which store the values of repeated expressions in extra slots. The new program's
+/// size is at most `room` words, or at most the size of the given program.
 pub fn name_expressions(alloc: Global, plain: Plain, room: usize) -> Result<Inlined, AllocError>
     ensures inlined { IfOk result (λ made. IsInlined plain made.plain) }
     ensures size { IfOk result (λ made. sum_by size made.plain.functions ≤ max (sum_by size plain.functions) room) }

@@ -7,8 +7,8 @@ use crate::shapes::{COMPARED, LOAD_GLOBAL, Value};
 use cyc_plain::{Instruction, Operand};
 use std::alloc::{AllocError, Global};
 
-/// A candidate for hoisting: the number of its expression, the instruction that computes it, and the instruction before which it
-/// would be hoisted, if there is one.
+/// A candidate for hoisting: the index of its expression, the instruction that computes it, and the instruction before which it
+/// would be hoisted, if any.
 #[derive(Clone, Copy)]
 pub(crate) struct Candidate {
     pub(crate) number: usize,
@@ -38,7 +38,7 @@ struct Kept {
 }
 
 impl Search {
-    /// Returns true if a kept candidate computes the expression with the given number.
+    /// Returns true if one of the candidates that remain candidates for the enclosing loop computes the expression with the given index.
     fn is_kept(&self, number: usize, kept: Kept) -> bool {
         for at in kept.first..kept.end {
             if let Some(candidate) = self.candidates.get(at) {
@@ -75,7 +75,7 @@ impl Search {
         }
     }
 
-    /// Decides about a candidate. If the candidate is invariant in some loop, it is hoisted before that loop.
+    /// Decides if a candidate is hoisted. If the candidate is invariant in some loop, it is hoisted before that loop.
     fn settle(&mut self, candidate: Candidate) -> Result<(), AllocError> {
         if candidate.front.is_some() {
             self.need(candidate.number);
@@ -84,7 +84,7 @@ impl Search {
         Ok(())
     }
 
-    /// Closes the loops whose last back jump is the given instruction.
+    /// Ends the loops whose last backward jump is the given instruction.
     pub(crate) fn close(
         &mut self,
         code: &[Instruction],
@@ -98,7 +98,7 @@ impl Search {
         }
     }
 
-    /// Closes a loop: moves the candidates that stay invariant to the front of the list and removes the others.
+    /// Ends a loop: moves the candidates that stay invariant in it to the front of the list and removes the others.
     fn close_loop(&mut self, code: &[Instruction], head: usize) -> Result<(), AllocError> {
         let front = front_of(code, head);
         let first = self.first_from(head);

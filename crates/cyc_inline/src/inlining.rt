@@ -15,20 +15,20 @@ use crate::sizes::spare_of;
 use cyc_plain::Plain;
 use std::alloc::{AllocError, Global};
 
-/// The result of inlining: the new program and the origins of its functions.
+/// The result of inlining: the new program, and the source instructions from which the code of its functions is made.
 #[derive(Drop)]
 pub struct Inlined {
     /// The inlined program, which behaves as the source program.
     pub plain: Plain,
-    /// For each function, the source function and instruction origins if the function was replaced.
+    /// For each replaced function, the source function and the source instructions from which the new code is made.
     pub opened: Vec<Option<Opened>>,
 }
 
 /// The kind of change made to the functions of a program.
 #[derive(Clone, Copy)]
 pub(crate) enum Work<'a> {
-    /// Calls of leaf functions are inlined. `leafs` gives, for each function, the number of its in-line instructions if it
-    /// is a leaf, else 0.
+    /// Calls of leaf functions are inlined. `leafs` gives, for each function, the number of its instructions placed at an
+    /// inlined call, or 0 if it may not be inlined.
     Calls { leafs: &'a [usize] },
     /// Duplicate instructions.
     Duplicates,
@@ -43,7 +43,7 @@ fn has_any(leafs: &[usize]) -> bool {
     false
 }
 
-/// Returns the number of the first function that may change, or the number of functions.
+/// Returns the index of the first function that may change, or the number of functions if none may.
 fn first_of(search: &mut Search, plain: &Plain, work: Work) -> Result<usize, AllocError> {
     match work {
         Work::Calls { leafs } => {
@@ -78,7 +78,7 @@ fn left_of(change: &Option<Made>, spare: usize) -> usize
     }
 }
 
-/// Returns the replacement of the function with number `number`, if there is one. Functions before the first changed function
+/// Returns the replacement of the function with index `number`, if there is one. Functions before the first changed function
 /// have no replacement.
 fn change_of(
     alloc: Global,
@@ -149,7 +149,7 @@ pub(crate) fn remake(
 }
 
 /// Returns the program with calls of small leaf functions inlined; functions that are then never called are reduced to a return. The
-/// program's size is at most `room` words, or at most its former size.
+/// new program's size is at most `room` words, or at most the size of the given program.
 pub fn inline(alloc: Global, plain: Plain, room: usize) -> Result<Inlined, AllocError>
     ensures inlined { IfOk result (λ made. IsInlined plain made.plain) }
     ensures size { IfOk result (λ made. sum_by size made.plain.functions ≤ max (sum_by size plain.functions) room) }

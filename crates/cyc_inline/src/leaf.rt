@@ -11,7 +11,8 @@ use crate::limits::MOST_LEAF_CODE;
 use cyc_plain::{Function, Instruction, Plain};
 use std::alloc::{AllocError, Global};
 
-/// Returns true if a leaf may contain the instruction. A jump back is not allowed in a leaf, because a loop costs much more than the call.
+/// Returns true if a leaf function, which may be inlined, may contain the instruction. A backward jump is not allowed in a leaf function,
+/// because a loop costs much more than the call.
 fn is_of_leaf(instruction: Instruction, index: usize) -> bool
     ensures { result ≡ true → is_of_leaf instruction ≡ true }
 {
@@ -83,8 +84,9 @@ fn is_target(code: &[Instruction], place: usize) -> bool {
     false
 }
 
-/// Returns the number of a leaf's in-line instructions: all up to the last reachable return, which then falls through to the code after
-/// the call. Instructions that raise exceptions and unreachable instructions are placed out of line.
+/// Returns how many of a leaf function's instructions are placed at an inlined call: all up to the last reachable return. This last
+/// return then falls through to the code after the call. Instructions that raise exceptions and unreachable instructions are placed
+/// after the caller's code.
 pub fn line_of(code: &[Instruction]) -> usize
     ensures { result ≤ length code.now }
 {
@@ -100,7 +102,7 @@ pub fn line_of(code: &[Instruction]) -> usize
     line
 }
 
-/// Returns the number of the function's in-line instructions if the function is a leaf, else 0.
+/// Returns the number of the function's instructions that are placed at an inlined call if the function may be inlined, else 0.
 fn leaf_line(function: &Function) -> usize
     ensures { 0 < result → IsLeaf (routine_of function.now) result }
 {
@@ -115,7 +117,7 @@ fn leaf_line(function: &Function) -> usize
     }
 }
 
-/// Returns `leaf_line` of the function with number `number`. The function `main` is never a leaf.
+/// Returns `leaf_line` of the function with index `number`. The function `main` never counts as a leaf function, which may be inlined.
 fn line_at(plain: &Plain, number: usize) -> usize
     requires { number < length plain.now.functions }
     ensures { 0 < result → IsLeaf (routine_at plain.now number) result }
@@ -127,7 +129,7 @@ fn line_at(plain: &Plain, number: usize) -> usize
     }
 }
 
-/// Returns, for each function, the number of its in-line instructions if the function is a leaf, else 0.
+/// Returns, for each function, the number of its instructions that are placed at an inlined call if the function may be inlined, else 0.
 pub(crate) fn leafs_of(alloc: Global, plain: &Plain) -> Result<Vec<usize>, AllocError>
     ensures { IfOk result (λ lines. AreLeafs plain.now lines.items) }
 {

@@ -1,4 +1,4 @@
-//! The limits of inlining: code sizes and hoisted expressions.
+//! The limits of inlining: the greatest code sizes, and the most expressions hoisted before one loop.
 
 /// The maximum number of instructions of a function that is inlined.
 pub(crate) const MOST_LEAF_CODE: usize = 32;

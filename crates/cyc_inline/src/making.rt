@@ -16,11 +16,12 @@ use crate::tables::place_in;
 use cyc_plain::{Function, Instruction, LAYOUT_WORDS, MOST_SIZE, Plain};
 use std::alloc::{AllocError, Global};
 
-/// A replacement of a function: the new function, the origins of its instructions, and the growth left.
+/// A replacement of a function: the new function, the origins of its instructions, and the number of
+/// words by which later functions may grow.
 #[derive(Drop)]
 pub(crate) struct Made {
     pub(crate) function: Function,
-    /// The origin of each of the replacement's instructions.
+    /// For each instruction of the replacement, the source instruction from which it is made.
     pub(crate) origins: Vec<Origin>,
     /// The number of words by which the functions after the replaced function may grow.
     pub(crate) spare: usize,

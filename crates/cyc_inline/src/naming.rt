@@ -18,9 +18,10 @@ pub(crate) struct Expression {
     pub(crate) shape: Shape,
     /// The first instruction that computes the expression.
     pub(crate) index: usize,
-    /// The number plus 1 of the previous expression in the same hash bucket, or 0.
+    /// One more than the index of the previous expression in the same hash bucket, or 0 if there is none.
     before: usize,
-    /// The time at which the expression was last computed, and the time since which the expression has had its present value.
+    /// The time (instruction index plus 1) at which the expression was last computed, and the time since which the expression
+    /// has had its present value.
     seen_at: usize,
     since: usize,
     /// The slot into which the expression was last computed.
@@ -34,7 +35,7 @@ pub(crate) struct Expression {
 /// The facts known about a slot.
 #[derive(Clone, Copy)]
 struct Held {
-    /// The time of the last write to the slot, and the value that the slot has had since then.
+    /// The time (instruction index plus 1) of the last write to the slot, and the value that the slot has had since then.
     written: usize,
     value: Value,
     /// True if the slot's address is taken.
@@ -51,12 +52,12 @@ const UNWRITTEN: Held = Held {
 /// The facts known about an instruction.
 #[derive(Clone, Copy)]
 pub(crate) struct Place {
-    /// The number plus 1 of the last instruction that jumps back to this instruction, or 0 if none does.
+    /// One more than the index of the last instruction that jumps back to this instruction, or 0 if none does.
     end: usize,
-    /// The number plus 1 of the expression that the instruction computes, or 0.
+    /// One more than the index of the expression that the instruction computes, or 0 if it computes none.
     pub(crate) seen: usize,
-    /// The number plus 1 of the newest expression in the hash bucket with this index, or 0. The table has as many buckets as the
-    /// function has instructions.
+    /// One more than the index of the newest expression in the hash bucket with this index, or 0 if the bucket is empty. The
+    /// hash table has as many buckets as the function has instructions.
     newest: usize,
 }
 
@@ -76,18 +77,18 @@ pub(crate) struct Search {
     /// The candidates for hoisting out of loops that have not ended yet, and the hoisted expressions.
     pub(crate) candidates: Vec<Candidate>,
     pub(crate) all_hoisted: Vec<Candidate>,
-    /// The time of the last change of memory, and the time since which the known values are valid.
+    /// The time (instruction index plus 1) of the last change of memory, and the time since which the known values are valid.
     pub(crate) stored: usize,
     begun: usize,
     /// The last instruction at which an expression is worth a slot: the last instruction of the loops so far, or of a small function.
     worth: usize,
-    /// The number plus 1 of the last instruction of the loops so far, or 0.
+    /// One more than the index of the last instruction of the loops found so far, or 0.
     looped: usize,
-    /// The first instruction after which no expression can become needed; it follows every loop and any small function.
+    /// The first instruction after which no expression can turn out to need an extra slot; it follows every loop and any small function.
     pub(crate) decided: usize,
-    /// True if some expression is needed.
+    /// True if some expression needs an extra slot.
     pub(crate) has_needed: bool,
-    /// The number plus 1 of the function that these facts describe, or 0 if they describe none.
+    /// One more than the index of the function that these facts describe, or 0 if they describe none.
     pub(crate) reported: usize,
 }
 
@@ -171,7 +172,7 @@ impl Search {
         }
     }
 
-    /// Returns the number plus 1 of the last instruction that jumps back to the given one, or 0 if none does.
+    /// Returns one more than the index of the last instruction that jumps back to the given one, or 0 if none does.
     pub(crate) fn end_of(&self, index: usize) -> usize {
         match self.places.get(index) {
             Some(place) => place.end,
@@ -186,7 +187,7 @@ impl Search {
         }
     }
 
-    /// Returns the time of the last write to a slot.
+    /// Returns the time (instruction index plus 1) of the last write to a slot.
     pub(crate) fn written(&self, slot: usize) -> usize {
         match self.held.get(slot) {
             Some(held) => held.written,
@@ -196,7 +197,7 @@ impl Search {
 
     // ---- values
 
-    /// Returns the time of the last change of what a value denotes.
+    /// Returns the time (instruction index plus 1) at which the word that a value stands for last changed.
     fn changed(&self, value: Value) -> usize {
         match value {
             Value::Word { .. } => 0,
@@ -273,7 +274,7 @@ impl Search {
         }
     }
 
-    /// Returns the time at which an operand of an expression last changed.
+    /// Returns the time (instruction index plus 1) at which an operand of an expression last changed.
     fn made(&self, shape: Shape) -> usize {
         if shape.kind == LOAD_GLOBAL {
             return self.stored;
@@ -288,7 +289,7 @@ impl Search {
 
     // ---- computed expressions
 
-    /// Returns the number plus 1 of the first known expression with the given shape in a hash bucket, or 0.
+    /// Returns one more than the index of the first known expression in a hash bucket with the given shape (operation and operands), or 0.
     fn find(&self, shape: Shape, newest: usize) -> usize {
         let mut at = newest;
         for _ in 0..MOST_COMPARED {
@@ -331,7 +332,7 @@ impl Search {
         self.has_needed = self.has_needed || is_needed;
     }
 
-    /// Records that an expression is computed into a slot. Returns the expression's number plus 1.
+    /// Records that an expression is computed into a slot. Returns one more than the expression's index.
     fn see(&mut self, shape: Shape, index: usize, slot: usize) -> Result<usize, AllocError> {
         let time = index.wrapping_add(1);
         let bucket = bucket_of(shape, self.places.len());
@@ -386,7 +387,7 @@ impl Search {
         Ok(())
     }
 
-    /// Marks the expression with the given number as needed.
+    /// Marks the expression with the given index as one that needs an extra slot.
     pub(crate) fn need(&mut self, number: usize) {
         if let Some(expression) = self.expressions.get_mut(number) {
             expression.is_needed = true;

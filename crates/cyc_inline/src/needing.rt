@@ -28,7 +28,8 @@ fn has_loop(code: &[Instruction]) -> bool {
 }
 
 impl Search {
-    /// Scans a function until no further expression can become needed. Returns true if the function needs an extra slot for an expression.
+    /// Scans a function until no further expression can turn out to need an extra slot. Returns true if the function needs an extra slot
+    /// for an expression.
     fn look_at(&mut self, plain: &Plain, function: &Function) -> Result<bool, AllocError> {
         if function.frame_count > MOST_FRAME_WORDS {
             return Ok(false);
@@ -50,8 +51,8 @@ impl Search {
         Ok(self.has_needed)
     }
 
-    /// Returns the number of the first function that needs an extra slot for an expression, or the number of functions. The facts about
-    /// the returned function are kept.
+    /// Returns the index of the first function that needs an extra slot for an expression, or the number of functions if none does. The
+    /// facts about the returned function are kept.
     pub(crate) fn first_needing(&mut self, plain: &Plain) -> Result<usize, AllocError> {
         let functions = plain.functions();
         for (number, function) in functions.iter().enumerate() {
@@ -63,7 +64,8 @@ impl Search {
         Ok(functions.len())
     }
 
-    /// Assigns extra slots to needed expressions while the frame has space. Returns the function's number of slots after the assignment.
+    /// Assigns extra slots to the expressions that need them while the frame has space. Returns the function's number of slots after the
+    /// assignment.
     fn give_slots(&mut self, slots: usize) -> usize {
         let mut next = slots;
         for number in 0..self.expressions.len() {

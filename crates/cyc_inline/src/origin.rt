@@ -1,10 +1,10 @@
-//! The origins of the instructions of an inlined program.
+//! For the instructions of an inlined program, the source instructions from which they are made.
 
 /// An instruction of the source program, as the origin of one or more instructions.
 #[derive(Clone, Copy, Debug, PartialEq, Eq)]
 pub struct Origin {
-    /// The number of the function that contains the origin.
+    /// The index of the function that contains this source instruction.
     pub function: usize,
-    /// The index of the origin in the code of its function.
+    /// The index of this source instruction in the code of its function.
     pub index: usize,
 }

@@ -9,23 +9,23 @@ use cyc_plain::Function;
 use std::alloc::{AllocError, Global};
 use std::vec::IntoIter;
 
-/// The source of a replaced function: the source function and the origins of the new instructions.
+/// For a replaced function, the function before its replacement, and the source instructions from which the new instructions are made.
 #[derive(Drop)]
 pub struct Opened {
     /// The source function, before its replacement.
     pub given: Function,
-    /// The origin of each instruction in the replacement.
+    /// For each instruction of the replacement, the source instruction from which it is made.
     pub origins: Vec<Origin>,
 }
 
-/// A function of the program, and its source if the function was replaced.
+/// A function of the program; if it was replaced, also the function before its replacement and the origin of each new instruction.
 #[derive(Drop)]
 pub(crate) struct Placed {
     pub(crate) function: Function,
     pub(crate) opened: Option<Opened>,
 }
 
-/// The functions of the program, and the source of each function that was replaced.
+/// The functions of the program; for each replaced one, also the function before its replacement and the origin of each new instruction.
 #[derive(Drop)]
 pub(crate) struct Replaced {
     pub(crate) functions: Vec<Function>,

@@ -1,13 +1,13 @@
 //! The operation and operands of an instruction, by which expressions are compared.
 use cyc_plain::BinaryOperator;
 
-/// The kind number of the first comparison operator; the kinds of loads follow those of the comparisons.
+/// The number that identifies the first comparison operator among the kinds of expressions; loads have greater numbers than comparisons.
 pub(crate) const COMPARED: usize = 10;
 
-/// The kind number of a load from an address, after the kinds of the operators.
+/// The number that identifies a load from an address among the kinds of expressions, after the numbers of the operators.
 pub(crate) const LOAD: usize = 16;
 
-/// The kind number of a load of a global.
+/// The number that identifies a load of a global among the kinds of expressions.
 pub(crate) const LOAD_GLOBAL: usize = 17;
 
 /// The known value of an operand: a word, a slot, or an expression.
@@ -48,7 +48,7 @@ pub(crate) fn is_same_shape(one: Shape, other: Shape) -> bool {
     one.kind == other.kind && is_same(one.left, other.left) && is_same(one.right, other.right)
 }
 
-/// Returns true if a value is the content of the given slot.
+/// Returns true if a value is the word in the given slot.
 pub(crate) fn is_slot(value: Value, slot: usize) -> bool {
     match value {
         Value::Slot { number } => number == slot,
@@ -65,7 +65,7 @@ fn sum_of(value: Value) -> usize {
     }
 }
 
-/// Returns the hash bucket, out of `count`, for a shape.
+/// Returns the hash bucket, out of `count`, for an expression with the given shape (operation and operands).
 pub(crate) fn bucket_of(shape: Shape, count: usize) -> usize {
     if count == 0 {
         return 0;
@@ -75,7 +75,7 @@ pub(crate) fn bucket_of(shape: Shape, count: usize) -> usize {
     left.wrapping_add(right).wrapping_add(shape.kind) % count
 }
 
-/// Returns the kind number of an operator, or `None` if the operator may not be duplicated.
+/// Returns the number that identifies an operator among the kinds of expressions, or `None` if the operator may not be duplicated.
 pub(crate) fn kind_of(operator: BinaryOperator) -> Option<usize> {
     match operator {
         BinaryOperator::Add => Some(0),

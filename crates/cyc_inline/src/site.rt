@@ -16,7 +16,7 @@ use std::alloc::{AllocError, Global};
 /// An inlined call, with the operands of its call instruction.
 #[derive(Clone, Copy)]
 pub(crate) struct Call {
-    /// The number of the called function.
+    /// The index of the called function.
     pub(crate) callee: usize,
     /// The first of the caller's slots that hold the arguments.
     pub(crate) arguments: usize,
@@ -24,7 +24,8 @@ pub(crate) struct Call {
     pub(crate) count: usize,
     /// The first of the caller's slots that receive the results.
     pub(crate) result: usize,
-    /// The number of the callee's in-line instructions. The caller continues after the last of these instructions.
+    /// The number of the callee's instructions that are placed at the call. The caller continues after the last of
+    /// the callee's instructions that are placed at the call.
     pub(crate) line: usize,
 }
 
@@ -38,11 +39,11 @@ pub(crate) struct Site {
     pub(crate) results: usize,
     /// The code position at which the caller continues after the call.
     pub(crate) following: usize,
-    /// The code position of the out-of-line part of the callee's code.
+    /// The code position of the part of the callee's code that is placed after the caller's code.
     pub(crate) rest: usize,
 }
 
-/// Returns the call that the instruction makes, if the call is chosen for inlining with `line` in-line instructions of the callee.
+/// Returns the call that the instruction makes, if it is chosen for inlining with `line` of the callee's instructions placed at the call.
 pub(crate) fn chosen_call(instruction: Instruction, line: usize) -> Option<Call>
     ensures { result ≡ sites.chosen_call instruction line }
 {
@@ -69,7 +70,7 @@ pub(crate) fn chosen_call(instruction: Instruction, line: usize) -> Option<Call>
     }
 }
 
-/// Returns true if an instruction of the callee belongs to the requested part: the in-line or the out-of-line part.
+/// Returns true if an instruction of the callee belongs to the requested part: the one at the call, or the one after the caller's code.
 fn stands_in(in_line: bool, line: usize, index: usize) -> bool
     ensures { result ≡ sites.stands_in in_line line index }
 {
@@ -106,7 +107,8 @@ fn inside_count(results: usize, line: usize, index: usize, instruction: Instruct
     }
 }
 
-/// Returns the number of instructions that a callee's instruction contributes to the requested part, in line or out of line.
+/// Returns the number of instructions that a callee's instruction contributes to the part placed at the call, or to the part
+/// after the caller's code.
 fn count_in(
     results: usize,
     line: usize,
@@ -126,7 +128,7 @@ fn count_in(
     }
 }
 
-/// Returns the number of instructions that replace the callee's code, in line or out of line.
+/// Returns the number of instructions that replace the callee's code at the call, or in the part placed after the caller's code.
 pub(crate) fn inside_size(results: usize, line: usize, in_line: bool, code: &[Instruction]) -> usize
     requires results { results ≤ GREATEST_VALUE }
     requires few { length code.now ≤ MOST_LEAF_CODE }
@@ -140,14 +142,15 @@ pub(crate) fn inside_size(results: usize, line: usize, in_line: bool, code: &[In
     size
 }
 
-/// Returns the next code position for a callee's instruction: `here` if the instruction is in line, `there` if it is out of line.
+/// Returns the next code position for a callee's instruction: `here` if it belongs at the call, `there` if it belongs after the
+/// caller's code.
 fn next_place(line: usize, index: usize, here: usize, there: usize) -> usize
     ensures { result ≡ (if nat_lt index line then here else there) }
 {
     if index < line { here } else { there }
 }
 
-/// Returns the code position of each of the callee's instructions, from the positions where the in-line and the out-of-line part begin.
+/// Returns the code position of each callee instruction, given where the part at the call and the part after the caller's code begin.
 fn inside_places(
     alloc: Global,
     site: &Site,
@@ -207,7 +210,8 @@ impl Emission {
         }
     }
 
-    /// Appends the replacement of a callee's instruction if it belongs to the requested part, in line or out of line.
+    /// Appends the replacement of a callee's instruction if it belongs to the requested part: placed at the call, or
+    /// after the caller's code.
     fn push_inside_in(
         &mut self,
         site: &Site,
@@ -232,7 +236,7 @@ impl Emission {
         }
     }
 
-    /// Appends the replacement of the callee's code: its in-line part, or its out-of-line part.
+    /// Appends the replacement of the callee's code: the part placed at the call, or the part placed after the caller's code.
     fn push_body(
         &mut self,
         site: &Site,
@@ -251,8 +255,8 @@ impl Emission {
         Ok(())
     }
 
-    /// Appends the replacement of an inlined call: moves of the arguments, the check of stack space, and the in-line part of the
-    /// callee's code. If `in_line` is false, appends the out-of-line part of the callee's code instead.
+    /// Appends the replacement of an inlined call: moves of the arguments, the check of stack space, and the callee's instructions placed
+    /// at the call. If `in_line` is false, appends the callee's instructions placed after the caller's code instead.
     pub(crate) fn push_site(
         &mut self,
         alloc: Global,

@@ -1,4 +1,4 @@
-//! Tables that are indexed by function numbers or by code positions.
+//! Tables that are indexed by functions or by code positions.
 ghost use Rattle.std.specs.Prelude.{◌≡◌};
 ghost use Rattle.cyc_inline.specs.inside.Sites as sites;
 

@@ -1,4 +1,4 @@
--- Lemmas about the quantifier `Any` over the parts of a list.
+-- Lemmas about the quantifier `Any` (some element has a property) over lists that are composed of groups.
 use Rattle.std.proofs.Common.{List, [], ◌∷◌, Any, inl, inr, arith}
 use Rattle.cyc_words.proofs.Members.{Any-cons, Any-append, Any-append_left, Any-append_right}
 use Rattle.cyc_isa.specs.Table.{joined}

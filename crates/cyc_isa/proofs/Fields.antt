@@ -1,4 +1,4 @@
--- If a word is composed from the numbers of its format, its fields contain these numbers.
+-- If an instruction word is composed from numbers for the fields of its format, its fields contain these numbers.
 use Rattle.std.proofs.Common.{◌≡◌, ℕ, ◌+◌, ◌*◌, ◌^◌, ◌<◌, [], ◌∷◌, arith}
 use Rattle.cyc_isa.specs.Field.{Opcode, Rs, Rt, Rd, Sa, Function, Half, Target, Trap, HasFields}
 

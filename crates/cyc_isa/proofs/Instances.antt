@@ -1,4 +1,4 @@
--- The words that decode to an instruction are exactly the instances of the rows of the instruction table.
+-- The words that decode to an instruction are exactly those that match a row of the instruction table in the row's fixed fields.
 use Rattle.std.proofs.Common.{◌≡◌, ℕ, Some, arith, eq-eqb}
 use Rattle.cyc_words.proofs.Members.{Any-one_to, Any-map_to}
 use Rattle.cyc_isa.specs.Table.{Row, groups, immediate_row, load_upper_row, memory_row, branch_row, branch_zero_row, jump_row, shift_row, shift_variable_row, jump_register_row, jump_register_link_row, exception_row}

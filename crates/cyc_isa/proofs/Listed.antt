@@ -1,4 +1,4 @@
--- Each operation is in its list, so each instruction's row is a row of the table.
+-- Each operation is in the list of operations of its format, so each instruction's row is a row of the instruction table.
 use Rattle.std.proofs.Common.{ℕ, ◌<◌, ◌^◌, ◌++◌, List, [], ◌∷◌, Contains, Any, refl, lit<, arith}
 use Rattle.cyc_words.proofs.Members.{Any-first, Any-map_from}
 use Rattle.cyc_isa.specs.Field.{Field, HasFields}
@@ -103,7 +103,7 @@ IsInstance-word_of i fits = record {
   fields = HasFields-first (row_of i).fixed (operands_of i) (word_of i) (fields-word_of i fits);
 }
 
--- If a property holds for an instruction's row, it holds for some row of the table.
+-- If a property holds for the row of an instruction, it holds for some row of the instruction table.
 in_table : (P : Row → Type 0) (i : Instr) → P (row_of i) → Any (Any P) groups
 in_table P (Immediate op t s h) p = (0, _, lit< tt, refl, Any-map_from P immediate_row immediate_ops op (immediate-listed op) p)
 in_table P (LoadUpper t h) p = (1, _, lit< tt, refl, Any-first P load_upper_row [] p)
@@ -120,7 +120,7 @@ in_table P (MoveFrom op d) p = (11, _, lit< tt, refl, Any-map_from P move_from_r
 in_table P (MultiplyDivide op l r) p = (12, _, lit< tt, refl, Any-map_from P multiply_divide_row multiply_divide_ops op (multiply_divide-listed op) p)
 in_table P (Arithmetic op d l r) p = (13, _, lit< tt, refl, Any-map_from P arithmetic_row arithmetic_ops op (arithmetic-listed op) p)
 
--- The word that encodes an instruction is an instance of a row of the table.
+-- The word that encodes an instruction matches a row of the instruction table in the row's fixed fields.
 pub IsInstruction-word_of : (i : Instr) → IsEncodable i → IsInstruction (word_of i)
 IsInstruction-word_of i fits =
     let P : Row → Type 0 = λ row. IsInstance row (word_of i) in

@@ -1,4 +1,4 @@
--- The number of each operation fits the field that contains it.
+-- The code number of each operation fits the field of the instruction word that contains it.
 use Rattle.std.proofs.Common.{◌<◌, lit<}
 use Rattle.cyc_isa.specs.Table.{immediate, memory, branch, branch_zero, jump, shift, shift_variable, exception, move_from, multiply_divide, arithmetic}
 use Rattle.cyc_isa.specs.declared.instr.ImmediateOp.{ImmediateOp}

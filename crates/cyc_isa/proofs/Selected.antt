@@ -1,4 +1,4 @@
--- Looking up a row's numbers in the encoding tables finds the row's operation.
+-- Looking up the numbers of an instruction's table row in the tables for decoding finds the row's operation.
 use Rattle.std.proofs.Common.{◌≡◌, ℕ, ◌==◌, false, Some, refl}
 use Rattle.cyc_isa.specs.Field.{Opcode, Rt, Function, field_of}
 use Rattle.cyc_isa.specs.Table.{immediate, memory, branch, branch_zero, jump, shift, shift_variable, exception, move_from, multiply_divide, arithmetic}

@@ -9,7 +9,7 @@ use Rattle.cyc_isa.proofs.Instances.{Decodes-from_instruction}
 use Rattle.cyc_isa.proofs.Listed.{IsInstruction-word_of}
 use Rattle.cyc_isa.specs.declared.instr.Instr.{Instr}
 
--- Says that each entry of a table yields an instruction whose operands fit their fields.
+-- Says that each entry of a decoding table yields an instruction whose operands fit their fields.
 abbrev AllEncodable : List Entry → ℕ → Type 0
 AllEncodable [] w = Unit {0}
 AllEncodable (e ∷ rest) w = IsEncodable (e.1 w) × AllEncodable rest w
@@ -64,7 +64,7 @@ word_of-decoded w i e = (confirmed-some w (selected_of w) i e).1
 pub IsEncodable-decoded : (w : ℕ) (i : Instr) → decode_of w ≡ Some i → IsEncodable i
 IsEncodable-decoded w i e = selected_of-encodable w i (confirmed-some w (selected_of w) i e).0
 
--- A word decodes to an instruction exactly if it is an instance of a row.
+-- A word decodes to an instruction exactly if it matches a row of the instruction table in the row's fixed fields.
 pub IsSome-decode_of : (w : ℕ) → IsSome (decode_of w) ↔ IsInstruction w
 IsSome-decode_of w = (go (decode_of w) refl, λ h. let found = Decodes-from_instruction w h in rw found.1 refl) where
   go : (o : Option Instr) → decode_of w ≡ o → IsSome o → IsInstruction w

@@ -7,8 +7,8 @@ use Rattle.cyc_isa.specs.declared.instr.MemoryOp.TheVariants.{LoadWord, StoreWor
 use Rattle.cyc_isa.specs.declared.instr.JumpOp.TheVariants.{Plain, AndLink}
 use Rattle.cyc_isa.specs.declared.instr.ExceptionOp.TheVariants.{Syscall, Break}
 
--- Returns true if an instruction reads a register. `syscall` passes a service's number, in register 2, and its arguments, in registers
--- 4 and 5, to the system: this project's own choice.
+-- Returns true if an instruction reads a register. `syscall` passes a system call's number, in register 2, and its arguments, in
+-- registers 4 and 5, to the system: this project's own choice.
 abbrev pub reads : Instr → ℕ → Bool
 reads (Immediate op target source immediate) number = source.number == number
 reads (LoadUpper target immediate) number = false

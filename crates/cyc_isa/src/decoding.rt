@@ -279,7 +279,8 @@ fn selected(word: u32) -> Option<Instr>
 
 /// Returns the instruction that a word encodes.
 ///
-/// Returns `None` if the word is not an instance of a row of the table: its operation does not exist, or an unused field is not 0.
+/// Returns `None` if the word is not an instance of a row of the instruction table: its operation does not exist, or an unused
+/// field is not 0.
 pub fn decode(word: u32) -> Option<Instr>
     ensures instruction { IsSome result ↔ IsInstruction word }
     ensures encodes { IfSome result (λ instr. word_of instr ≡ word) }

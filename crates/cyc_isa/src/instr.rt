@@ -53,7 +53,7 @@ pub enum ShiftOp {
     RightArithmetic,
 }
 
-/// An instruction that transfers control to the system: a service call or a breakpoint.
+/// An instruction that transfers control to the system: a system call or a breakpoint.
 #[derive(Clone, Copy, Debug, PartialEq, Eq)]
 pub enum ExceptionOp {
     Syscall,

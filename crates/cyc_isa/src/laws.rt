@@ -18,8 +18,8 @@ ghost use Rattle.cyc_isa.specs.declared.instr.ArithmeticOp.{ArithmeticOp};
 ghost use Rattle.cyc_isa.specs.declared.instr.ShiftOp.{ShiftOp};
 ghost use Rattle.cyc_isa.specs.declared.instr.MultiplyDivideOp.{MultiplyDivideOp};
 
-/// If the operands of an instruction fit their fields, the instruction has exactly one word. The word is an instance
-/// of the instruction's row and encodes no other instruction.
+/// If the operands of an instruction fit their fields, exactly one word encodes the instruction. The word is an
+/// instance of the instruction's table row and encodes no other instruction.
 pub fn words_of_instructions()
     ensures is_word { (i : Instr) → IsEncodable i → word_of i < 2 ^ 32 }
     ensures fields { (i : Instr) → IsEncodable i → HasFields ((row_of i).fixed ++ operands_of i) (word_of i) }
@@ -28,7 +28,7 @@ pub fn words_of_instructions()
     ensures distinct { (i j : Instr) → IsEncodable i → IsEncodable j → word_of i ≡ word_of j → i ≡ j }
 {}
 
-/// A word decodes to an instruction exactly if it is an instance of a row of the table; the instruction encodes to the word.
+/// A word decodes to an instruction exactly if it is an instance of a row of the instruction table; the instruction encodes to the word.
 pub fn instructions_of_words()
     ensures instruction { (w : ℕ) → IsSome (decode_of w) ↔ IsInstruction w }
     ensures encodes { (w : ℕ) (i : Instr) → decode_of w ≡ Some i → word_of i ≡ w }

@@ -66,7 +66,8 @@ pub fn branch(op: BranchOp) -> Code
     }
 }
 
-/// Returns the name of a branch that compares a register with zero, and its primary opcode. Two of these branches share one opcode.
+/// Returns the name of a branch that compares a register with zero, and its primary opcode. Two of the branches that compare a
+/// register with zero share one opcode.
 pub fn branch_zero(op: BranchZeroOp) -> Code
     ensures name { result.name.now ≡ (branch_zero op).0.name }
     ensures number { result.number ≡ (branch_zero op).0.number }

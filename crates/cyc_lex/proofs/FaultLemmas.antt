@@ -32,14 +32,14 @@ begins_nothing m begins = by begins.0 begins.2 begins.3.spelled
     by [] e spelled = piece_nonempty m spelled
     by (b ∷ bs) e spelled = cc
 
--- A fault that holds for the rest of the text holds for any number of tokens before it.
+-- A fault code that holds for the rest of a text holds there with any number of tokens before it.
 holds_here : (code : Code) (count : ℕ) (text : List ℕ) → FailsHere code text → Holds code count text
 holds_here codes.UnknownByte count text fails = fails
 holds_here codes.UnclosedComment count text fails = fails
 holds_here codes.NumberTooLarge count text fails = fails
 holds_here _ count text fails = absurd fails
 
--- The lowest fault code that holds at a position of the text.
+-- These lemmas are about the lowest fault code that holds at a position of the text.
 
 least_unknown : (other : Code) (count : ℕ) (text : List ℕ) → Holds other count text → 1 ≤ number_of other
 least_unknown codes.UnknownByte count text h = omega arith
@@ -173,7 +173,7 @@ holds_nothing codes.NumberTooLarge count h = begins_nothing (Lexeme (Number h.0)
 holds_nothing codes.TooManyTokens count h = begins_nothing (Lexeme h.0) h.1
 holds_nothing _ count h = h
 
--- If a division of a text into pieces cannot be extended by another division, then the two are equal.
+-- If a division of a text into pieces (tokens, spaces, comments) cannot be extended by another division, then the two are equal.
 end_of : (ps qs more : List Part) (r s : List ℕ) → qs ≡ ps ++ more → IsCut more r s → more ≡ [] → (qs ≡ ps) × (r ≡ s)
 end_of ps qs more r s e cut none = (e ∙ ap (λ l. ps ++ l) none ∙ append-nil ps, subst (λ l. IsCut l r s) none cut)
 

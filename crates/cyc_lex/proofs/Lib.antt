@@ -4,7 +4,7 @@ pub mod FaultLemmas
 pub mod LexLemmas
 pub mod LineLemmas
 pub mod ShapeLemmas
--- These modules have lemmas that the piece that is read is the longest one.
+-- These modules have lemmas that the piece (token, space or comment) that is read is the longest one.
 pub mod CommentLemmas
 pub mod NameReading
 pub mod NumberLemmas

@@ -13,14 +13,14 @@ use Rattle.cyc_syntax.proofs.PieceLemmas.{AtName, AtRegion, start_of}
 use Rattle.cyc_lex.specs.inside.Found.{IsFound}
 use Rattle.cyc_lex.proofs.ShapeLemmas.{Shape, read_at}
 
--- a name consists of name bytes
+-- a name consists only of name bytes (letters, digits and `_`)
 pub name_bytes : (name : List ℕ) → is_name name ≡ true → list_all is_name_byte name ≡ true
 name_bytes [] named = absurd (true≢false (sym named))
 name_bytes (b ∷ bs) named =
     let parts = and_parts (is_letter b) (list_all is_name_byte bs) named in
     and_from _ _ (or_left _ _ parts.0) parts.1
 
--- If the first byte of a text is a letter, then the run of name bytes at the start of the text is a name.
+-- If a text begins with a letter, then the longest run of letters, digits and `_` at its start is a name.
 name_run : (text : List ℕ) → is_letter (get_or text 0 0) ≡ true → 0 < length text → is_name (take (prefix_len is_name_byte text) text) ≡ true
 name_run [] letter within = absurd (omega arith)
 name_run (b ∷ bs) letter within =
@@ -37,21 +37,21 @@ module _ (text : List ℕ) (n : ℕ) (len : n ≡ prefix_len is_name_byte text) 
   inside : n ≤ length text
   inside = rw len (prefix_len-le-length is_name_byte text)
 
-  -- a run of name bytes that is not a keyword is read as an identifier
+  -- a run of name bytes (letters, digits and `_`) that is not a keyword is read as an identifier
   pub found_identifier : ((k : Keyword) → take n text ≢ keyword_text k) → IsFound text (Some kinds.Identifier) n
   found_identifier fresh = record {
     within = inside;
     piece = (read_at (Lexeme (Identifier (take n text))) AtName text n (cond-true _ _ _ letter) inside (refl, named, fresh) bound, tt);
   }
 
-  -- a run of name bytes that spells a keyword is read as that keyword
+  -- a run of name bytes (letters, digits and `_`) that spells a keyword is read as that keyword
   pub found_keyword : (k : Keyword) → take n text ≡ keyword_text k → IsFound text (Some (kinds.Keyword k)) n
   found_keyword k spelled = record {
     within = inside;
     piece = (read_at (Lexeme (Word k)) AtName text n (cond-true _ _ _ letter) inside spelled bound, tt);
   }
 
--- a backquote and a run of name bytes are read as a region name
+-- a backquote and a run of name bytes (letters, digits and `_`) are read as a region name
 region_bound : (text front rest : List ℕ) → text ≡ front ++ rest → Shape AtRegion front → length front ≤ 1 + prefix_len is_name_byte (drop 1 text)
 region_bound text front rest whole shape =
     let tail : drop 1 text ≡ shape.0 ++ rest = ap (drop 1) (whole ∙ ap (λ l. l ++ rest) shape.1) in

@@ -36,7 +36,7 @@ hexadecimal_from : (b c : ℕ) (digits : List ℕ) → b ≡ 48 → (eqb c 120 |
 hexadecimal_from b c [] zero_first x digits some = absurd (omega arith)
 hexadecimal_from b c (d ∷ ds) zero_first x digits some = and_from _ _ (and_from _ _ (eq-eqb b 48 zero_first) x) digits
 
--- The parts of which a hexadecimal number consists.
+-- A hexadecimal number consists of `0`, then `x` or `X`, and then hexadecimal digits.
 record IsHex (bytes : List ℕ) : Type 0 where
   first : get_or bytes 0 0 ≡ 48
   second : (eqb (get_or bytes 1 0) 120 || eqb (get_or bytes 1 0) 88) ≡ true

@@ -41,7 +41,7 @@ shape Space bytes h = ap length h.1
 shape Comment bytes h = ⊎_elim (λ line. inr (inl line)) (λ block. inr (inr (inl block))) h
 shape OpenComment bytes h = inr (inr (inr h))
 
--- If a prefix of a text is a piece, then the prefix has the form that the text's first byte determines.
+-- If a prefix of a text is a piece (token, space or comment), then it has the form that the text's first byte determines.
 front_shape : (m : Piece) (text front rest : List ℕ) → text ≡ front ++ rest → Spells m front → Shape (start_of (get_or text 0 0)) front
 front_shape m text front rest e spelled = by front (piece_starts m front spelled) (shape m front spelled) e
   where
@@ -50,7 +50,7 @@ front_shape m text front rest e spelled = by front (piece_starts m front spelled
     by (b ∷ bs) start shaped e =
         subst (λ s. Shape s (b ∷ bs)) (sym (ap (λ l. start_of (get_or l 0 0)) e ∙ start)) shaped
 
--- If a piece has the form of a text's first byte and no longer prefix has this form, then the lexer reads the piece.
+-- If a piece (token, space or comment) has the form of the text's first byte and no longer prefix has, then the lexer reads the piece.
 pub read_at : (m : Piece) (s : Start) (text : List ℕ) (n : ℕ) → start_of (get_or text 0 0) ≡ s → n ≤ length text → Spells m (take n text)
     → ((front rest : List ℕ) → text ≡ front ++ rest → Shape s front → length front ≤ n) → IsRead m (take n text) (drop n text)
 read_at m s text n start within spelled bound = record {

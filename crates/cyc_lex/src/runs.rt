@@ -1,4 +1,4 @@
-//! This file finds the length of a run of bytes of one class at the start of a text, and the value of its digits.
+//! This file finds the length of a run of bytes of one class (such as digits) at a text's start, and the value of digits.
 ghost use Rattle.std.specs.Prelude.{◌≡◌, ◌≤◌, ◌<◌, ◌-◌, ◌++◌, true, not, length, take, codes, All, MatchOption, IfSome, IfNone};
 ghost use Rattle.std.specs.List.{prefix_len};
 ghost use Rattle.cyc_syntax.specs.Spelling as spec;

@@ -30,8 +30,9 @@ pub few_locals : (f : FunctionCode) → frame_count (view_function f) ≤ most_f
     → (words_of_all (view_function f).parameters ≤ most_frame_count) × (first_temporary (view_function f) + kept_by_items (view_function f).body ≤ most_locals)
 few_locals f small = (omega (arith, small), omega (arith, small, slots-few (view_function f)))
 
--- The body of a function is emitted with far targets for the blocks that raise exceptions. Once these targets are replaced, the body's
--- jumps go to the blocks after it. A return comes before the blocks, and only blocks that are jump targets are kept.
+-- The body of a function is emitted with provisional jump targets far after its code, which stand for the blocks that raise
+-- exceptions. Once the provisional targets are replaced, the body's jumps go to the exception blocks after the body. A return comes
+-- before the exception blocks, and only the blocks up to the last one that is a jump target are kept.
 pub function_made : (structs : List StructType) (globals : List ℕ) (scopes : Option ℕ) (h : Function) (locals : List ℕ) (slot free far raises end : ℕ) (count kept : ℕ) (first body ended all code : List Instruction) → locals ≡ starts_from 0 (slot_types h) → slot ≡ tag_slot h → free ≡ first_temporary h
     → first ≡ items_code (record { locals = locals; tag_slot = slot; structs = structs; raises = far; counters = []; globals = globals; scopes = scopes }) h.body 0 outside_loops free → raises ≡ length first
     → AreTurned far raises first body → IsClose structs globals scopes h → raises + 7 ≤ far

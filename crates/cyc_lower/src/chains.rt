@@ -1,4 +1,4 @@
-//! Emits chains of operators. Each operator is applied to the value of the preceding part and to its right operand.
+//! Emits chains of operators. Each operator is applied to the value of the chain before it and to its right operand.
 ghost use Rattle.std.specs.Prelude.{◌+◌, ◌≤◌, length};
 ghost use Rattle.cyc_types.specs.TypedTreeView.{view_expression, operations_of};
 ghost use Rattle.cyc_plain.specs.declared.instruction.Operand.TheVariants as operands;
@@ -143,8 +143,8 @@ impl Emitter {
         self.apply_pointer(operator, left, right, slot)
     }
 
-    /// Emits an operator on pointers. The operator compares the first words, or changes the index and moves the first two words to
-    /// the slots before the index.
+    /// Emits an operator on pointers. The emitted code compares pointers by their first words, or changes a fat pointer's index,
+    /// moving its other words to the slots before the index.
     fn apply_pointer(
         &mut self,
         operator: PointerOperator,

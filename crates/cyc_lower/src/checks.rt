@@ -28,8 +28,8 @@ fn raising(tag: u32) -> Instruction
 }
 
 impl Emitter {
-    /// Emits the code that raises the exception of an access through a fat pointer. The slot contains 0 if the pointer is null,
-    /// otherwise 1.
+    /// Emits the code that raises the exception of a failed access through a fat pointer. In the emitted code, `slot` contains
+    /// 0 if the pointer is null, otherwise 1.
     fn lower_telling(&mut self, slot: usize) -> Result<(), AllocError>
         ensures { Appends result self.old self.new (telling slot) }
     {
@@ -48,8 +48,9 @@ impl Emitter {
         self.emit_both(number, throw)
     }
 
-    /// Emits the blocks after the body of a function. The first block is for failed accesses and tests this slot. After the first block
-    /// comes one block for each exception of the language, in the order of tags.
+    /// Emits the exception blocks after the body of a function. The first exception block is for failed accesses through fat pointers
+    /// and tests a slot that says if the pointer is null. After the first block comes one block for each exception of the language, in
+    /// the order of tags.
     pub(crate) fn lower_blocks(&mut self, slot: usize) -> Result<(), AllocError>
         ensures { Appends result self.old self.new (blocks slot) }
     {

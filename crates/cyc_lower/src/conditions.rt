@@ -25,7 +25,8 @@ pub(crate) struct Pending {
     pub(crate) condition: Condition,
 }
 
-/// The condition of a branch before the jump over its first statement, and the inner jumps that will have the same target as this jump.
+/// The condition of a branch before the jump over its first statement, and the condition's inner jumps, which get the same target as
+/// that jump.
 #[derive(Drop)]
 pub(crate) struct Tested {
     pub(crate) last: Condition,
@@ -41,7 +42,7 @@ fn is_same(operator: LogicalOperator, other: LogicalOperator) -> bool
     }
 }
 
-/// Returns the logical operator that negated tests by this operator have: `&&` for `||`, and `||` for `&&`.
+/// Returns the logical operator that the negation of a logical operator has: `&&` for `||`, and `||` for `&&`.
 fn turned_test(operator: LogicalOperator) -> LogicalOperator
     ensures { result ≡ turned_test operator }
 {
@@ -51,7 +52,7 @@ fn turned_test(operator: LogicalOperator) -> LogicalOperator
     }
 }
 
-/// Returns true if an operator of a chain is a test by this logical operator.
+/// Returns true if an operator of a chain is the given logical operator.
 fn is_test(operator: LogicalOperator, operation: &Operation) -> bool
     ensures { result ≡ is_test operator operation.now }
 {
@@ -64,7 +65,7 @@ fn is_test(operator: LogicalOperator, operation: &Operation) -> bool
     }
 }
 
-/// Returns true if all operators of a chain are tests by this logical operator.
+/// Returns true if all operators of a chain are the given logical operator.
 fn all_test(operator: LogicalOperator, operations: &[Operation]) -> bool
     ensures { result ≡ all_test operator (operations_of operations.now) }
 {
@@ -76,7 +77,7 @@ fn all_test(operator: LogicalOperator, operations: &[Operation]) -> bool
     true
 }
 
-/// Returns true if a chain has at least one operator, and all of them are tests by this logical operator.
+/// Returns true if a chain has at least one operator, and all of them are the given logical operator.
 fn are_tests(operator: LogicalOperator, operations: &[Operation]) -> bool
     ensures { result ≡ are_tests operator (operations_of operations.now) }
 {
@@ -126,7 +127,8 @@ impl Emitter {
         })
     }
 
-    /// Emits the first of two compared operands. The first operand is used without code only if the second operand is simple.
+    /// Emits the first of two compared operands. The first operand is used without code only if evaluating the second operand
+    /// has no side effect.
     fn lower_first(
         &mut self,
         starts: &Starts,
@@ -170,7 +172,8 @@ impl Emitter {
         })
     }
 
-    /// Emits a condition that is a chain of operators. If the only operator is a comparison, the jump performs it.
+    /// Emits a condition that is a chain of operators. If the only operator is a comparison, the conditional jump
+    /// after it performs the comparison.
     fn compare_chain(
         &mut self,
         starts: &Starts,
@@ -224,7 +227,7 @@ impl Emitter {
         }
     }
 
-    /// Emits the right operand of a test, after a jump that is taken if the condition of the left operand decides the test.
+    /// Emits the right operand of a logical operator, after a jump that is taken if the condition of the left operand decides the result.
     fn lower_other(
         &mut self,
         starts: &Starts,
@@ -247,8 +250,8 @@ impl Emitter {
         }
     }
 
-    /// Emits the operands of a chain of tests. If an operand before the last one decides, a jump goes to the position `following`. Returns
-    /// the condition of the last operand.
+    /// Emits the operands of a chain of one logical operator. If an operand before the last one decides, a jump goes to the position
+    /// `following`. Returns the condition of the last operand.
     fn lower_tests(
         &mut self,
         starts: &Starts,
@@ -271,7 +274,7 @@ impl Emitter {
         Ok(condition)
     }
 
-    /// Emits the operands of a chain of tests while the target of the jumps is unknown.
+    /// Emits the operands of a chain of one logical operator while the target of its deciding jumps is unknown.
     fn lower_early(
         &mut self,
         starts: &Starts,
@@ -295,8 +298,8 @@ impl Emitter {
         Ok(Tested { last, early })
     }
 
-    /// Emits the operands of a chain of tests, with jumps to the position after the jump that follows. The position after the jump
-    /// that follows is known only after the code was emitted once.
+    /// Emits the operands of a chain of one logical operator, whose inner jumps go to the position after the conditional jump that
+    /// ends the condition. The target of the inner jumps is known only after the code of the chain was emitted once.
     fn lower_chain(
         &mut self,
         starts: &Starts,
@@ -319,7 +322,7 @@ impl Emitter {
         self.lower_tests(starts, operator, first, rest, following, free)
     }
 
-    /// Emits a condition that is a chain of operators, which may be tests or not.
+    /// Emits a condition that is a chain of operators, which may be logical operators or others.
     fn choose_chain(
         &mut self,
         starts: &Starts,
@@ -340,8 +343,8 @@ impl Emitter {
         self.lower_condition(starts, value, free)
     }
 
-    /// Emits a condition before a jump. A chain of tests by this operator is emitted operand by operand: if one operand decides, control
-    /// continues after the jump.
+    /// Emits a condition before a jump. A chain of the given logical operator is emitted operand by operand: if one operand decides,
+    /// control continues after the jump.
     pub(crate) fn lower_choice(
         &mut self,
         starts: &Starts,
@@ -369,7 +372,7 @@ impl Emitter {
         }
     }
 
-    /// Emits the condition of a branch whose tests are by the other logical operator, so that all of its jumps have their targets.
+    /// Emits the condition of a branch as for the other logical operator, so that no jump of the condition waits for its target.
     fn lower_settled(
         &mut self,
         starts: &Starts,
@@ -389,7 +392,7 @@ impl Emitter {
         })
     }
 
-    /// Emits the condition of a branch that is a chain of operators, which may be tests by this logical operator or not.
+    /// Emits the condition of a branch that is a chain of operators, which may be the given logical operator or others.
     fn branch_chain(
         &mut self,
         starts: &Starts,
@@ -409,8 +412,8 @@ impl Emitter {
         self.lower_settled(starts, operator, value, free)
     }
 
-    /// Emits the condition of a branch before the jump over its first statement. In tests by this logical operator, each deciding jump goes
-    /// to the other statement.
+    /// Emits the condition of a branch before the jump over its first statement. In a chain of the given logical operator, each deciding
+    /// jump goes to the other statement of the branch.
     pub(crate) fn lower_branch(
         &mut self,
         starts: &Starts,

@@ -59,7 +59,7 @@ impl Emitter {
         self.thin(starts, conversion.to, span, value)
     }
 
-    /// Emits the move of a value of a kind to a slot, unless the value is already there.
+    /// Emits the move of a value to a slot, unless the value is already there; its representation kind gives its number of words.
     pub(crate) fn copy(
         &mut self,
         kind: Kind,

@@ -165,7 +165,7 @@ impl Emitter {
         Ok(())
     }
 
-    /// Appends two instructions, so that a caller has one exit for lack of memory instead of two.
+    /// Appends two instructions in one call, so that a caller handles lack of memory once instead of twice.
     pub(crate) fn emit_both(
         &mut self,
         first: Instruction,

@@ -24,7 +24,7 @@ pub(crate) fn nothing_opened() -> Opened
     }
 }
 
-/// Returns the slot of the outermost opened handler or region: this slot if nothing was opened before.
+/// Returns the slot of the outermost opened handler or region: the given slot if nothing was opened before.
 fn outermost(opened: Option<usize>, slot: usize) -> Option<usize>
     ensures { result ≡ outermost opened slot }
 {
@@ -44,7 +44,8 @@ fn with_handler(opened: Opened, slot: usize) -> Opened
     }
 }
 
-/// Returns the record of opened handlers and regions, extended by a lexical region whose closing number is in this slot.
+/// Returns the record of opened handlers and regions, extended by a lexical region for which this slot holds the number
+/// of regions open before.
 fn with_mark(opened: Opened, slot: usize) -> Opened
     ensures { result ≡ with_mark opened slot }
 {
@@ -66,7 +67,7 @@ pub(crate) fn inside_try(exits: Exits, slot: usize) -> Exits
     }
 }
 
-/// Returns the exits of a statement after the opening of a lexical region, whose closing number is in this slot.
+/// Returns the exits of a statement after the opening of a lexical region, for which this slot holds the number of regions open before.
 fn inside_region(exits: Exits, slot: usize) -> Exits
     ensures { result ≡ inside_region exits slot }
 {
@@ -78,7 +79,7 @@ fn inside_region(exits: Exits, slot: usize) -> Exits
     }
 }
 
-/// Returns the exits of the statements after an item of a block, before which the temporaries begin at this slot.
+/// Returns the exits of the statements after a declaration or statement of a block, before which the temporaries begin at this slot.
 pub(crate) fn exits_after(item: &Item, exits: Exits, free: usize) -> Exits
     ensures { result ≡ exits_after item.now exits free }
 {

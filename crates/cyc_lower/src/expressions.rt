@@ -244,7 +244,8 @@ impl Emitter {
         }
     }
 
-    /// Emits a fat pointer before its index. The pointer stays in its local if the index is simple, otherwise it is moved to slots.
+    /// Emits a fat pointer before its index. The pointer stays in its local if evaluating the index has no side effect, otherwise
+    /// it is moved to slots.
     #[cycle(expression)]
     fn lower_pointer(
         &mut self,
@@ -340,8 +341,8 @@ impl Emitter {
         }
     }
 
-    /// Emits the loop that fills a new array. The pointer is in the first free slots, with the counter as its index, and is moved to a slot
-    /// at the end.
+    /// Emits the loop that fills a new array. The pointer is in the first free slots, with the loop counter as its index, and is moved to a
+    /// slot at the end.
     #[cycle(expression)]
     fn lower_elements(
         &mut self,
@@ -497,7 +498,7 @@ impl Emitter {
         }
     }
 
-    /// Emits the left operand of a chain, which may need no code if the right operand is simple.
+    /// Emits the left operand of a chain, which may need no code if evaluating the right operand has no side effect.
     #[cycle(expression)]
     fn lower_left(
         &mut self,

@@ -31,10 +31,10 @@ use std::alloc::{AllocError, Global};
 /// The number of words of the largest value: a fat pointer has three.
 const SPARE_SLOTS: usize = 3;
 
-/// The number of slots after the locals that hold the tags of exceptions.
+/// A function's frame has this many slots for tags of exceptions, after the slots of its locals.
 const TAG_SLOTS: usize = 1;
 
-/// The words of a frame other than those of locals, of kept values and of temporaries.
+/// The number of machine words of a frame that hold neither locals, nor values kept across statements, nor temporaries.
 const KEPT_WORDS: usize = 24;
 
 /// A position beyond the end of any function's code and of the blocks after it.
@@ -54,7 +54,7 @@ fn results_of(of_type: &Option<Ty>) -> usize
 }
 
 /// Returns the number of instructions of the exception blocks that are kept, computed from the farthest jump target.
-/// The first two instructions belong to one block.
+/// The first two instructions of the exception blocks belong to one block.
 fn blocks_kept(farthest: usize) -> usize
     ensures { result ≡ blocks_kept farthest }
 {
@@ -83,9 +83,9 @@ fn lower_body(
     Ok(emitter)
 }
 
-/// Lowers a function. The slots of a function are those of the locals, the tags, the handler records, the temporaries and one more value.
-/// The body is emitted with far targets for the exception blocks, whose positions are known only afterwards. The far targets in the
-/// emitted body are then replaced. The exception blocks are kept up to the last one that is a jump target.
+/// Lowers a function. The slots of a function hold its locals, the tag of an exception, the handler records, the temporaries and one more
+/// value. The body is emitted with far targets for the exception blocks, whose positions are known only afterwards. The far targets in
+/// the emitted body are then replaced. The exception blocks are kept up to the last one that is a jump target.
 fn lower_function(
     alloc: Global,
     structs: &[StructType],
@@ -146,7 +146,8 @@ fn lower_functions(
     Ok(lowered)
 }
 
-/// Returns true if one of a function's locals is a region handle. Each lexical region that a function opens has one.
+/// Returns true if one of a function's locals is a region handle. Each lexical region that a function opens has a
+/// local for its region handle.
 fn has_handles(types: &[Ty]) -> bool
     ensures { result ≡ list_any is_handle (map view_ty types.now) }
 {
@@ -182,7 +183,7 @@ fn scopes_of(functions: &[typed::Function]) -> Option<usize>
     }
 }
 
-/// Returns the plain program of a typed tree, in which each function keeps its number.
+/// Returns the plain program of a typed tree, in which each function keeps its index.
 pub(crate) fn lower_tree(alloc: Global, tree: &TypedTree) -> Result<Plain, AllocError>
     requires few { HaveFewWords (map view_function tree.now.functions.items) }
     requires well_typed { IsWellTypedProgram (view_program tree.now) }

@@ -1,4 +1,4 @@
-//! Lowers globals. Each global has as many words as its type, and they follow each other in the order of their numbers.
+//! Lowers globals. Each global has as many machine words as its type, and the globals follow each other in the order of their indices.
 ghost use Rattle.std.specs.Prelude.{◌≡◌, ◌≤◌, ◌++◌, map, IfOk};
 ghost use Rattle.cyc_types.specs.TypedTreeView.{view_constant, view_global};
 ghost use Rattle.cyc_meaning.specs.FrameCount.{words_of_all};
@@ -16,7 +16,7 @@ use cyc_sizes::words_of;
 use cyc_types::typed::{self, Constant};
 use std::alloc::{AllocError, Global};
 
-/// Returns the number of the first word of the global with this number.
+/// Returns the index, among the words of all globals, of the first word of the given global.
 pub(crate) fn global_of(starts: &Starts, number: usize) -> usize
     ensures { result ≡ global_of (view_starts starts.now) number }
 {
@@ -26,7 +26,7 @@ pub(crate) fn global_of(starts: &Starts, number: usize) -> usize
     }
 }
 
-/// Returns the numbers of the first words of all globals.
+/// Returns, for each global, the index of its first word among the words of all globals.
 pub(crate) fn starts_of_globals(
     alloc: Global,
     globals: &[typed::Global],
@@ -81,7 +81,7 @@ pub(crate) fn words_of_globals(
 }
 
 impl Emitter {
-    /// Emits the load of words of a global into slots. The numbers of words and slots fit a machine word.
+    /// Emits the load of words of a global into slots. The indices of the loaded words and of the slots fit a machine word.
     pub(crate) fn load_global(
         &mut self,
         words: usize,
@@ -102,7 +102,7 @@ impl Emitter {
         Ok(())
     }
 
-    /// Emits the store of words in consecutive slots to the words of a global.
+    /// Emits the instructions that store the words of consecutive slots in the consecutive words of a global.
     fn save_words(&mut self, words: usize, first: usize, slot: usize) -> Result<(), AllocError>
         ensures { Appends result self.old self.new (word_by_word store_word words first slot) }
     {

@@ -1,4 +1,4 @@
-//! Emits the code of exceptions: throws, and the clauses of a `try`. Each method of this file appends code to the existing code.
+//! Emits the code of exceptions: throws, and the catch clauses of a `try`. Each method of this file appends code to the existing code.
 ghost use Rattle.std.specs.Prelude.{◌≡◌, ◌+◌, ◌≤◌, ◌<◌, [], ◌∷◌, ◌++◌, length, set, option_map, IfOk, OnOk};
 ghost use Rattle.cyc_types.specs.TypedTrees.{NoClauses};
 ghost use Rattle.cyc_types.specs.TypedTreeView.{view_expression, items_of, clauses_of, default_of};
@@ -17,7 +17,7 @@ use cyc_types::typed::{Body, Clause, Expr};
 use std::alloc::AllocError;
 
 impl Emitter {
-    /// Emits the throw of an exception with its value, or with 0 if the exception has no int.
+    /// Emits the throw of an exception with its value, or with 0 if the exception carries no int.
     pub(crate) fn lower_throw(
         &mut self,
         starts: &Starts,
@@ -39,7 +39,7 @@ impl Emitter {
         })
     }
 
-    /// Emits the move of the value of an exception to the local of a clause.
+    /// Emits the move of the value of an exception to the local of a catch clause.
     fn lower_caught(
         &mut self,
         starts: &Starts,
@@ -58,7 +58,7 @@ impl Emitter {
         })
     }
 
-    /// Emits a catch clause. The jump at its end goes to the jump over all clauses.
+    /// Emits a catch clause. The jump at the end of a catch clause goes to the jump over all catch clauses.
     #[cycle(statement)]
     fn lower_clause(
         &mut self,
@@ -82,7 +82,7 @@ impl Emitter {
         Ok(())
     }
 
-    /// Emits the clauses of a `try` that precede its default clause.
+    /// Emits the catch clauses of a `try` that precede its default clause.
     #[cycle(statement)]
     pub(crate) fn lower_clauses(
         &mut self,
@@ -102,7 +102,8 @@ impl Emitter {
         Ok(())
     }
 
-    /// Emits the default clause of a `try`. Without a default clause, an exception that no clause catches is thrown again.
+    /// Emits the default clause of a `try`. Without a default clause, an exception that no catch clause of the `try`
+    /// catches is thrown again.
     #[cycle(statement)]
     pub(crate) fn lower_default(
         &mut self,
@@ -121,8 +122,8 @@ impl Emitter {
         }
     }
 
-    /// Emits the end of the body of a `try`: it closes the handler and jumps over the clauses. Puts the instruction that opens the handler
-    /// at the reserved position.
+    /// Emits the end of the body of a `try`: it closes the handler and jumps over the catch clauses. Puts the instruction that opens the
+    /// handler at the reserved position.
     pub(crate) fn end_body(&mut self, opening: usize, free: usize) -> Result<usize, AllocError>
         requires { opening < length self.old.code.items }
         ensures { IfOk result (λ out. (out ≡ length self.old.code.items + 1)

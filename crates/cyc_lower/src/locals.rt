@@ -18,7 +18,7 @@ use cyc_types::Ty;
 use cyc_types::typed::{Function, Kind};
 use std::alloc::{AllocError, Global};
 
-/// Returns the first slot of the local with this number.
+/// Returns the first slot of the local with this index.
 pub(crate) fn slot_of(starts: &Starts, number: usize) -> usize
     ensures { result ≡ slot_of (view_starts starts.now) number }
 {
@@ -28,7 +28,7 @@ pub(crate) fn slot_of(starts: &Starts, number: usize) -> usize
     }
 }
 
-/// Returns the slot of the element counter of the enclosing array at this level.
+/// Returns the slot of the loop counter that fills the elements of the enclosing array at this nesting level.
 pub(crate) fn counter_of(starts: &Starts, level: usize) -> usize
     ensures { result ≡ counter_of (view_starts starts.now) level }
 {
@@ -38,7 +38,7 @@ pub(crate) fn counter_of(starts: &Starts, level: usize) -> usize
     }
 }
 
-/// Returns the slots of the counters for the elements of an array, whose own counter is in this slot.
+/// Returns the slots of the loop counters that fill the enclosing arrays, extended by this slot for the counter of one more array.
 pub(crate) fn with_counter(starts: &Starts, slot: usize) -> Result<Vec<usize>, AllocError>
     ensures { IfOk result (λ counters. counters.items ≡ starts.now.counters.now ++ slot ∷ []) }
 {
@@ -48,8 +48,8 @@ pub(crate) fn with_counter(starts: &Starts, slot: usize) -> Result<Vec<usize>, A
     Ok(counters)
 }
 
-/// Returns the offset of a cell of a kind that comes after this number of bytes. A char begins there, any other cell at the next multiple
-/// of 4.
+/// Returns the offset of a cell of the given representation kind, placed after this number of bytes. A char begins directly after the
+/// bytes before it, any other cell at the next multiple of 4.
 pub(crate) fn begins_word(kind: Kind, at: u32) -> u32
     ensures { result ≡ begins_word kind at }
 {
@@ -74,7 +74,7 @@ fn ends_at(of_type: &Ty, begin: u32) -> u32
     begin.wrapping_add(bytes_of_kind(kind_of(of_type)) as u32)
 }
 
-/// Returns the number of bytes from the beginning of a struct to the field with this number.
+/// Returns the number of bytes from the beginning of a struct to the field with this index.
 fn bytes_before(fields: &[Ty], field: usize) -> u32
     ensures { result ≡ field_from 0 (map view_ty fields.now) field }
 {
@@ -91,7 +91,7 @@ fn bytes_before(fields: &[Ty], field: usize) -> u32
     bytes
 }
 
-/// Returns the number of bytes from the beginning of the struct with this number to its field.
+/// Returns the number of bytes from the beginning of the struct with this index to its field.
 pub(crate) fn field_of(starts: &Starts, number: usize, field: usize) -> u32
     ensures { result ≡ field_of (view_starts starts.now) number field }
 {

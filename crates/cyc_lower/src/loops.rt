@@ -54,7 +54,8 @@ impl Emitter {
         }
     }
 
-    /// Emits a loop with a light condition and no `break`. If the first copy of the condition fails, it jumps to the end of the loop.
+    /// Emits a loop without a `break` whose condition is light (simple enough to be emitted twice). If the first copy of the
+    /// condition fails, it jumps to the end of the loop.
     #[cycle(statement)]
     pub(crate) fn lower_through(
         &mut self,

@@ -12,12 +12,12 @@ use cyc_types::typed::{Dereference, Expr, Item, Lvalue, Operation, Stmt};
 use cyc_words::Span;
 use std::alloc::{AllocError, Global};
 
-/// The source position of the instructions of a function from number `first` up to the next `Mark`. At this source position is a call, a
-/// `new`, an access through a pointer, an operator or a variable, or else the enclosing statement or declaration. If the code of a
-/// function body runs off its end, its source position is that of the function's name.
+/// The source position of the instructions of a function from index `first` up to the next `Mark`. A `Mark` has the source position of a
+/// call, `new`, pointer access, operator or variable, or of the enclosing statement or declaration. If the code of a function body runs
+/// off its end, its source position is that of the function's name.
 #[derive(Clone, Copy, Debug, PartialEq, Eq)]
 pub struct Mark {
-    /// The number of the first instruction with this source position.
+    /// The index of the first instruction with this source position.
     pub first: usize,
     pub span: Span,
 }
@@ -26,8 +26,8 @@ pub struct Mark {
 #[derive(Drop)]
 pub struct Marks {
     pub marks: Vec<Mark>,
-    /// The number of the first instruction of the blocks that raise exceptions for all failing checks of the function. The instructions of
-    /// these blocks have no source position of their own.
+    /// The index of the first instruction of the blocks that raise exceptions for all failing checks of the function. The instructions of
+    /// these exception blocks have no source position of their own.
     pub raises: usize,
 }
 
@@ -96,7 +96,7 @@ pub(crate) fn place_of_statement(statement: &Stmt) -> Option<Span> {
     }
 }
 
-/// Returns the source position of the declaration in an item of a block.
+/// Returns the source position of the declaration, if an element of a block is one.
 pub(crate) fn place_of_item(item: &Item) -> Option<Span> {
     match item {
         Item::Execute { .. } => None,

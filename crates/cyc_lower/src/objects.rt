@@ -46,7 +46,7 @@ fn most_elements(bytes: usize) -> u32
     }
 }
 
-/// Returns the kinds of the values that are passed for fields.
+/// Returns the representation kinds of the values that are passed for fields.
 pub(crate) fn kinds_passed(alloc: Global, values: &[Converted]) -> Result<Vec<Kind>, AllocError>
     ensures { IfOk result (λ kinds. kinds.items ≡ kinds_passed (arguments_of values.now)) }
 {
@@ -57,7 +57,7 @@ pub(crate) fn kinds_passed(alloc: Global, values: &[Converted]) -> Result<Vec<Ki
     Ok(kinds)
 }
 
-/// Returns the number of bytes of an object with cells of these kinds, up to the end of the last cell.
+/// Returns the number of bytes of an object with cells of these representation kinds (such as int), up to the end of the last cell.
 fn bytes_of_kinds(kinds: &[Kind]) -> u32
     requires { bytes_from 0 kinds.now ≤ 4000 }
     ensures { result ≡ bytes_from 0 kinds.now }
@@ -70,7 +70,7 @@ fn bytes_of_kinds(kinds: &[Kind]) -> u32
 }
 
 impl Emitter {
-    /// Emits the allocation of an object with one cell, which receives a value of this kind from the slots from `free` on.
+    /// Emits the allocation of an object with one cell, which receives a value of this representation kind from the slots from `free` on.
     pub(crate) fn make_cell(
         &mut self,
         handle: Operand,
@@ -84,8 +84,9 @@ impl Emitter {
         self.make_object(handle, &[kind], words_of_kind(kind), slot, free)
     }
 
-    /// Emits the allocation of a block in the region of a handle, with a cell for each of these kinds. The cells receive the values in the
-    /// slots from `free` on, and the block's address is moved to a slot. No object has more words than a block.
+    /// Emits the allocation of a block in the region of a handle, with a cell for each of these representation kinds. The cells of the new
+    /// block receive the values in the slots from `free` on, and the block's address is moved to a slot. No object has more words than a
+    /// block.
     pub(crate) fn make_object(
         &mut self,
         handle: Operand,
@@ -117,7 +118,7 @@ impl Emitter {
         })
     }
 
-    /// Emits the stores of values of these kinds, in consecutive slots, to the cells of the object at an address.
+    /// Emits the stores of values of these representation kinds, in consecutive slots, to the cells of the object at an address.
     fn store_cells(
         &mut self,
         kinds: &[Kind],
@@ -139,7 +140,8 @@ impl Emitter {
         Ok(())
     }
 
-    /// Emits the store of a value of a kind, whose words are in consecutive slots, to memory at an address plus a number of bytes.
+    /// Emits the store of a value of this representation kind, with its words in consecutive slots, to memory at an address plus a
+    /// byte offset.
     pub(crate) fn store_cell(
         &mut self,
         kind: Kind,
@@ -166,7 +168,7 @@ impl Emitter {
     }
 
     /// Emits the move of the length of an array, in the slot `free`, to one slot, and of the index 0 to another. If the length is too
-    /// large for elements of this kind, the emitted code raises an exception.
+    /// large for elements of this representation kind, the emitted code raises an exception.
     fn measure_array(
         &mut self,
         starts: &Starts,
@@ -268,8 +270,8 @@ impl Emitter {
         self.emit_three(is_none, sum, ask)
     }
 
-    /// Emits the beginning of a new array of elements of this kind, with its length in the slot `free`. The address is moved to
-    /// `free`, and the length and the index to the slots after it.
+    /// Emits the beginning of a new array of elements of this representation kind, with its length in the slot `free`. The
+    /// array's address is moved to `free`, and the length and the index to the slots after it.
     pub(crate) fn begin_array(
         &mut self,
         starts: &Starts,

@@ -25,11 +25,11 @@ use cyc_types::typed::{
 };
 use std::alloc::AllocError;
 
-/// The greatest slot number that the lowering of a function accepts.
+/// The greatest slot index that the lowering of a function accepts.
 pub(crate) const MOST_SLOTS: usize = 4_294_967_000;
 
-/// Returns the operand of an expression that needs no code: a number, null, the handle of the heap, a local, or a counter. A char that is
-/// used as an int keeps its operand.
+/// Returns the operand of an expression that needs no code: a number, null, the heap's handle, a local, or an enclosing array's loop
+/// counter. A char that is used as an int keeps its operand.
 pub(crate) fn operand_of(starts: &Starts, value: &Expr) -> Option<Operand>
     ensures { result ≡ operand_of (view_starts starts.now) (view_expression value.now) }
 {
@@ -75,7 +75,7 @@ pub(crate) fn value_slot(starts: &Starts, value: &Expr, free: usize) -> usize
     }
 }
 
-/// Returns true if the right operands of all these operators need no code.
+/// Returns true if no right operand of all these operators needs code.
 fn are_simple(starts: &Starts, operations: &[Operation]) -> bool
     ensures { result ≡ are_simple (view_starts starts.now) (operations_of operations.now) }
 {
@@ -91,7 +91,7 @@ fn are_simple(starts: &Starts, operations: &[Operation]) -> bool
     true
 }
 
-/// Returns true if a chain of these operators is simple, provided that its first operand is.
+/// Returns true if a chain of these operators is simple (evaluated without side effects), provided that its first operand is.
 fn is_simple_chain(starts: &Starts, rest: &[Operation]) -> bool
     ensures { result ≡ is_simple_chain (view_starts starts.now) (operations_of rest.now) }
 {
@@ -114,7 +114,7 @@ pub(crate) fn is_simple(starts: &Starts, value: &Expr) -> bool
     }
 }
 
-/// Returns true if a memory access is light: it accesses an element at a simple index, through a pointer that needs no code.
+/// Returns true if a memory access is light: it accesses an element at an index without side effects, through a pointer that needs no code.
 fn is_light_place(starts: &Starts, place: &Dereference) -> bool
     ensures { result ≡ is_light_place (view_starts starts.now) (view_dereference place.now) }
 {
@@ -125,7 +125,7 @@ fn is_light_place(starts: &Starts, place: &Dereference) -> bool
     }
 }
 
-/// Returns true if an expression is light: it is simple, or a load at a simple index through a pointer that needs no code.
+/// Returns true if an expression is light: without side effects, or a load at such an index through a pointer that needs no code.
 fn is_light(starts: &Starts, value: &Expr) -> bool
     ensures { result ≡ is_light (view_starts starts.now) (view_expression value.now) }
 {
@@ -139,14 +139,14 @@ fn is_light(starts: &Starts, value: &Expr) -> bool
     }
 }
 
-/// Returns true if an operator compares two light expressions.
+/// Returns true if an operator compares two light expressions, which are simple enough to be emitted twice.
 fn is_light_comparison(starts: &Starts, operator: Operator, left: &Expr, right: &Expr) -> bool
     ensures { result ≡ is_light_comparison (view_starts starts.now) operator (view_expression left.now) (view_expression right.now) }
 {
     failing_comparison(operator).is_some() && is_light(starts, left) && is_light(starts, right)
 }
 
-/// Returns true if a chain is a comparison of light operands that a branch can perform.
+/// Returns true if a chain is a comparison of light operands (simple enough to be emitted twice) that a branch can perform.
 fn compares_light(starts: &Starts, first: &Expr, rest: &[Operation]) -> bool
     ensures { result ≡ compares_light (view_starts starts.now) (view_expression first.now) (operations_of rest.now) }
 {
@@ -180,8 +180,8 @@ pub(crate) fn is_guard(starts: &Starts, condition: &Expr) -> bool
     }
 }
 
-/// Returns the operand of a fat pointer while its index is evaluated. The pointer stays in its local if the index is simple, since then
-/// no code in between can assign the local.
+/// Returns the operand of a fat pointer while its index is evaluated. The pointer stays in its local if evaluating the index has no
+/// side effect, since then no code in between can assign the local.
 pub(crate) fn pointer_of(starts: &Starts, pointer: &Expr, index: &Expr) -> Option<Operand>
     ensures { result ≡ pointer_of (view_starts starts.now) (view_expression pointer.now) (view_expression index.now) }
 {
@@ -191,8 +191,8 @@ pub(crate) fn pointer_of(starts: &Starts, pointer: &Expr, index: &Expr) -> Optio
     None
 }
 
-/// Returns the operand of the cell address that an access through a fat pointer has computed. For a struct, it is the first
-/// word of the pointer.
+/// Returns the operand of the cell address that an access through a fat pointer has computed. If the pointer refers to a
+/// struct, this address is the first word of the pointer.
 pub(crate) fn reached_operand(span: Option<usize>, first: usize, slot: usize) -> Operand
     ensures { result ≡ reached_operand span first slot }
 {
@@ -202,7 +202,7 @@ pub(crate) fn reached_operand(span: Option<usize>, first: usize, slot: usize) ->
     }
 }
 
-/// Returns true if the first of these operators has a simple right operand.
+/// Returns true if the first of these operators has a simple right operand, whose evaluation has no side effect.
 pub(crate) fn takes_operand(starts: &Starts, operations: &[Operation]) -> bool
     ensures { result ≡ takes_operand (view_starts starts.now) (operations_of operations.now) }
 {
@@ -240,7 +240,7 @@ pub(crate) fn converts_there(from: Kind, to: Kind) -> bool
     }
 }
 
-/// Returns true if a pointer of this kind is thin (has one word).
+/// Returns true if a value of this representation kind is a thin pointer (of one word).
 pub(crate) fn is_thin(kind: Kind) -> bool
     ensures { result ≡ is_thin kind }
 {
@@ -250,7 +250,8 @@ pub(crate) fn is_thin(kind: Kind) -> bool
     }
 }
 
-/// Returns the kind of a cell (memory for one value) of this type. No cell has a struct type.
+/// Returns the representation kind (int, char, pointer, ..) of a cell, which is memory for one
+/// value of this type. No cell has a struct type.
 pub(crate) fn kind_of(of_type: &Ty) -> Kind
     ensures { result ≡ kind_of (view_ty of_type.now) }
 {
@@ -267,7 +268,7 @@ pub(crate) fn kind_of(of_type: &Ty) -> Kind
     }
 }
 
-/// Returns the number of bytes of a cell of this kind.
+/// Returns the number of bytes of a cell of this representation kind.
 pub(crate) fn bytes_of_kind(kind: Kind) -> usize
     ensures bytes { result ≡ bytes_of_kind kind }
     ensures few { result ≤ 12 }
@@ -304,7 +305,7 @@ fn span_after(of_type: &Ty) -> Option<usize>
     }
 }
 
-/// Returns the kind of a variable of a type; for a struct, the kind of ints.
+/// Returns the representation kind (int, char, pointer, ..) of a variable of this type; for a struct, the kind of ints.
 fn kind_in(of_type: &Ty) -> Kind
     ensures { result ≡ unwrap_or (target_of (view_ty of_type.now)) Kind.Int }
 {
@@ -321,7 +322,7 @@ fn kind_in(of_type: &Ty) -> Kind
     }
 }
 
-/// Returns the kind of the variable that a value of this type points to.
+/// Returns the representation kind (int, char, pointer, ..) of the variable that a value of this type points to.
 pub(crate) fn kind_after(of_type: &Ty) -> Kind
     ensures { result ≡ kind_after (view_ty of_type.now) }
 {
@@ -331,7 +332,7 @@ pub(crate) fn kind_after(of_type: &Ty) -> Kind
     }
 }
 
-/// Returns the kind of the value to which a dereferenced pointer refers.
+/// Returns the representation kind (int, char, pointer, ..) of the value to which a dereferenced pointer refers.
 pub(crate) fn kind_at(place: &Dereference) -> Kind
     ensures { result ≡ kind_of (type_of_place (view_dereference place.now)) }
 {
@@ -400,7 +401,7 @@ pub(crate) fn span_of(value: &Expr) -> Option<usize>
     }
 }
 
-/// Returns the slot after a value of a kind. Slot numbers fit a machine word.
+/// Returns the slot after a value of the given representation kind. Slot indices fit a machine word.
 pub(crate) fn slot_after(slot: usize, kind: Kind) -> Result<usize, AllocError>
     ensures { IfOk result (λ following. (following ≡ slot + words_of_kind kind) × (following ≤ most_locals)) }
 {

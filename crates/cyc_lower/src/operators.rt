@@ -76,7 +76,7 @@ pub(crate) fn binary_operator(operator: typed::Operator) -> BinaryOperator
     }
 }
 
-/// Returns a kind with as many words as the left operand of an operator on pointers.
+/// Returns a representation kind with as many words as the left operand of an operator on pointers.
 pub(crate) fn left_kind(operator: typed::PointerOperator) -> Kind
     ensures { result ≡ left_kind operator }
 {
@@ -286,7 +286,7 @@ pub(crate) fn scale_of(bytes: usize, destination: usize, index: usize) -> Instru
     }
 }
 
-/// Returns the instruction that loads a word of a cell of a kind, or the byte of a char, into a slot.
+/// Returns the instruction that loads a word of a cell into a slot, or only the byte if the cell's representation kind is char.
 pub(crate) fn load_of(kind: Kind, destination: usize, address: Operand, offset: u32) -> Instruction
     ensures { result ≡ load_of kind destination address offset }
 {
@@ -305,7 +305,7 @@ pub(crate) fn load_of(kind: Kind, destination: usize, address: Operand, offset: 
     }
 }
 
-/// Returns the instruction that stores a word of a cell of a kind, or the byte of a char.
+/// Returns the instruction that stores a word of a cell, or only the byte if the cell's representation kind is char.
 pub(crate) fn store_of(kind: Kind, address: Operand, offset: u32, source: Operand) -> Instruction
     ensures { result ≡ store_of kind address offset source }
 {
@@ -359,7 +359,7 @@ pub(crate) fn negated_condition(condition: Condition) -> Condition
     }
 }
 
-/// Returns the condition that fails if the left operand of a test decides the test's result.
+/// Returns the condition that fails if the left operand of a logical operator decides the result.
 pub(crate) fn deciding_condition(
     operator: typed::LogicalOperator,
     condition: Condition,
@@ -372,7 +372,7 @@ pub(crate) fn deciding_condition(
     }
 }
 
-/// Returns the jump that is taken if the left operand of a test decides the test's result.
+/// Returns the jump that is taken if the left operand of a logical operator decides the result.
 pub(crate) fn deciding_jump(
     operator: typed::LogicalOperator,
     condition: Condition,
@@ -418,7 +418,7 @@ pub(crate) fn test_jump(operator: typed::LogicalOperator, slot: usize, target: u
     }
 }
 
-/// Returns the operand with the tag of an exception, which is less than 2 ^ 32 in every text.
+/// Returns the operand with the tag of an exception, which is less than 2 ^ 32 in every source text.
 pub(crate) fn tag_operand(tag: usize) -> Operand
     ensures { result ≡ tag_operand tag }
 {

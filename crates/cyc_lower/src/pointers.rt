@@ -26,7 +26,8 @@ use cyc_sizes::words_of_kind;
 use cyc_types::typed::{Kind, Lvalue};
 use std::alloc::AllocError;
 
-/// Returns the number of instructions that compare an index and compute the address of its cell, which a jump skips.
+/// Returns the number of instructions that a jump must skip to leave out the comparison of an index and the
+/// computation of its cell's address.
 fn past_bounded(span: Option<usize>) -> usize
     ensures same { result ≡ past_bounded span }
     ensures few { result ≤ 4 }
@@ -37,7 +38,7 @@ fn past_bounded(span: Option<usize>) -> usize
     }
 }
 
-/// Returns the address of a global of this kind whose first word has this number.
+/// Returns the address of a global of this representation kind whose first word has this index among the words of all globals.
 fn address_of_global(kind: Kind, first: usize) -> u32
     ensures { result ≡ address_of_global kind first }
 {
@@ -66,7 +67,7 @@ impl Emitter {
         }
     }
 
-    /// Emits the move of the address of a variable of a kind to a slot.
+    /// Emits the move of the address of a variable of this representation kind to a slot.
     pub(crate) fn address_variable(
         &mut self,
         starts: &Starts,
@@ -338,9 +339,9 @@ impl Emitter {
         Ok(pointer)
     }
 
-    /// Emits the load of a cell of a kind into slots, from an address in an operand plus a number of bytes. If the cell has several words,
-    /// the address is moved to the first free slot, not to a local, because a local may be the destination. The first word is loaded last,
-    /// since its slot may contain the address.
+    /// Emits the load of a cell of this representation kind into slots, from an address in an operand plus a number of bytes. If the cell
+    /// has several words, its address is moved to the first free slot, not to a local, which may be the destination. The first word of a
+    /// cell is loaded last, since its slot may contain the address.
     pub(crate) fn load_cell(
         &mut self,
         kind: Kind,
@@ -375,7 +376,7 @@ impl Emitter {
         self.emit_three(third, second, word)
     }
 
-    /// Emits the store of a value of a kind in the cell whose address is in a slot. A constant operand has one word.
+    /// Emits the store of a value of this representation kind in the cell whose address is in a slot. A constant operand has one word.
     pub(crate) fn save(
         &mut self,
         kind: Kind,

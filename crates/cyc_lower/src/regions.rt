@@ -1,5 +1,5 @@
-//! Emits the code of regions. Handles are words. For each lexical region, a slot contains the
-//! number of regions open before, with which the region is closed.
+//! Emits the code of regions. A region handle is one machine word. For each lexical region, a slot
+//! contains the number of regions open before, with which the region is closed.
 ghost use Rattle.std.specs.Prelude.{◌≡◌, ◌+◌, ◌≤◌, IfOk, length};
 ghost use Rattle.cyc_lower_proof.specs.inside.ControlCode.{after_record, closed_code, closing_code, dynamic_code, kept_code, named_code, opened_code};
 ghost use Rattle.cyc_lower_proof.specs.inside.ControlCode.{restored_code};

@@ -23,8 +23,8 @@ use cyc_types::Ty;
 use cyc_types::typed::{Converted, Expr, Item, Kind, LogicalOperator, Stmt};
 use std::alloc::AllocError;
 
-/// Returns the first slot for temporaries after an item of a block. After the opening of a lexical region, it
-/// is the slot after the number that closes the region.
+/// Returns the first slot for temporaries after a declaration or statement of a block. After a lexical region
+/// is opened, the temporaries begin after the slot with the number of regions open before.
 fn free_after(item: &Item, free: usize) -> usize
     requires { free + kept_by_item item.now ≤ most_locals }
     ensures { result ≡ free_after item.now free }
@@ -193,7 +193,7 @@ impl Emitter {
         }
     }
 
-    /// Emits one item of a block.
+    /// Emits one declaration or statement of a block.
     #[cycle(statement)]
     fn lower_item(
         &mut self,
@@ -212,7 +212,7 @@ impl Emitter {
         made
     }
 
-    /// Emits an item of a block whose source position is already set.
+    /// Emits a declaration or statement of a block whose source position is already set.
     #[cycle(statement)]
     fn lower_entry(
         &mut self,
@@ -256,7 +256,8 @@ impl Emitter {
         }
     }
 
-    /// Emits the items of a block. At the end of the block, each lexical region that the block opened is closed, newest first.
+    /// Emits the declarations and statements of a block. At the end of the block, each lexical region that the block opened is
+    /// closed, newest first.
     #[cycle(statement)]
     pub(crate) fn lower_items(
         &mut self,

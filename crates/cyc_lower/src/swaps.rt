@@ -1,4 +1,4 @@
-//! Emits the code of swaps. Each side of a swap is a variable or a cell, and the address of a cell is in a slot.
+//! Emits the code of swaps. Each operand of a swap is a variable or a memory cell, and the address of a cell is in a slot.
 ghost use Rattle.std.specs.Prelude.{◌≡◌, ◌+◌, ◌^◌, ◌<◌, ◌≤◌, length};
 ghost use Rattle.cyc_types.specs.typing.Expressions.{type_of_side};
 ghost use Rattle.cyc_types.specs.TypedTreeView.{view_side};
@@ -19,7 +19,7 @@ use cyc_sizes::words_of_kind;
 use cyc_types::typed::{Kind, Lvalue, Side};
 use std::alloc::AllocError;
 
-/// Returns the kind of the value of one side of a swap.
+/// Returns the representation kind of the value of one operand of a swap.
 fn kind_of_side(side: &Side) -> Kind
     ensures { result ≡ kind_of (type_of_side (view_side side.now)) }
 {
@@ -30,7 +30,7 @@ fn kind_of_side(side: &Side) -> Kind
 }
 
 impl Emitter {
-    /// Emits the loads of the words of a cell of a kind into slots; the cell's address is in a slot.
+    /// Emits the loads of the words of a cell of this representation kind into slots; the cell's address is in a slot.
     fn load_words(&mut self, kind: Kind, address: usize, slot: usize) -> Result<(), AllocError>
         requires { slot + words_of_kind kind < 2 ^ 64 }
         ensures { Appends result self.old self.new (word_by_word (load_at kind address) (words_of_kind kind) 0 slot) }
@@ -47,7 +47,7 @@ impl Emitter {
         Ok(())
     }
 
-    /// Emits the loads of the words of one side of a swap into consecutive slots.
+    /// Emits the loads of the words of one operand of a swap into consecutive slots.
     fn read_side(
         &mut self,
         starts: &Starts,
@@ -76,7 +76,7 @@ impl Emitter {
         }
     }
 
-    /// Emits the stores of words in consecutive slots to one side of a swap.
+    /// Emits the stores of words in consecutive slots to one operand of a swap.
     fn write_side(
         &mut self,
         starts: &Starts,
@@ -103,7 +103,7 @@ impl Emitter {
         }
     }
 
-    /// Returns the slot for the address of the right side of a swap, after that of the left side.
+    /// Returns the slot for the address of the right operand of a swap, after that of the left operand.
     fn right_slot(&self, left: &Side, free: usize) -> usize
         requires { free ≤ most_locals + length self.now.code.items }
         ensures { result ≡ right_slot (view_side left.now) free }
@@ -114,7 +114,8 @@ impl Emitter {
         }
     }
 
-    /// Emits the move of the address of one side of a swap, if it is a cell, to a slot. A side that is a variable needs no code.
+    /// Emits the move of the address of one operand of a swap, if it is a memory cell, to a slot. An operand of a swap that is a
+    /// variable needs no code.
     fn lower_side(&mut self, starts: &Starts, side: &Side, free: usize) -> Result<(), AllocError>
         requires { free ≤ most_locals + length self.old.code.items }
         ensures { Appends result self.old self.new (side_code (view_starts starts.now) (view_side side.now) (length self.old.code.items) free) }
@@ -125,7 +126,7 @@ impl Emitter {
         }
     }
 
-    /// Emits the exchange of both sides of a swap: they are read, the left one first, and then written.
+    /// Emits the exchange of the operands of a swap: both are read, the left one first, and then written.
     fn exchange(
         &mut self,
         starts: &Starts,
@@ -146,7 +147,7 @@ impl Emitter {
         self.write_side(starts, right, kind, following, free + 2)
     }
 
-    /// Emits a swap: the addresses of both sides are computed before either side is written.
+    /// Emits a swap: the addresses of both operands are computed before either operand is written.
     pub(crate) fn lower_swap(
         &mut self,
         starts: &Starts,

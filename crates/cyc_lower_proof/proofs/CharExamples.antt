@@ -28,7 +28,7 @@ use Rattle.cyc_lower_proof.proofs.Examples.{nowhere, int, local, two, all, retur
 
 -- ---- trees
 
--- The expression `a` of type int converted to a char, which keeps the low byte; below it, the conversion of a char to an int.
+-- The expression `a` of type int converted to a char, which keeps the low byte. The next definition converts a char to an int.
 abbrev low : Expression → Converted
 low a = Convert kinds.Int kinds.Char a
 

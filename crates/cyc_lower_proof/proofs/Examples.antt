@@ -206,7 +206,7 @@ arguments_in_order = refl
 
 -- ---- comparison with the source
 
--- The status with which the source program ends under the limits and the input of the lowered run.
+-- The status with which the source program ends, given the page limit, the call limit and the input of the lowered run.
 abbrev source_ends : ℕ → Program → List ℕ → Status
 source_ends steps p input = status_in (status_of_source (limited_run p 3 9 input steps))
 
@@ -250,7 +250,8 @@ stops_at_line_feed = refl
 abbrev thrower : Function
 thrower = function (Int ∷ []) [] (all (Throw 5 (Some (local 0)) ∷ []))
 
--- An exception thrown by a callee reaches the `catch` clause for its number, and a local receives the int of the exception.
+-- An exception that a callee throws reaches the `catch` clause for the index of this exception, and a local receives the
+-- int of the exception.
 abbrev catching : Program
 catching =
     program (all (
@@ -456,7 +457,8 @@ wide_globals = refl
 
 -- ---- lexical regions
 
--- Each of five loop iterations opens a region, and the examples leave it by every kind of exit; the store has room for two regions at once.
+-- Each of five loop iterations opens a region, and the examples leave it by every kind of exit. The heap store has pages for only two
+-- regions at once.
 abbrev with_handle : Items → List Function → Program
 with_handle body others = record {
   structs = [];
@@ -516,7 +518,7 @@ source_throws_from_region : source_ends 600 (calling_out (in_region (Throw 5 Non
 unfolding slt_of
 source_throws_from_region = refl
 
--- The first temporary holds the region's mark, which is the number of lexical regions that were open before.
+-- The first temporary holds the region's mark: the number of lexical regions that were open before this region was opened.
 region_code : function_code [] [] (Some 4) (function [] (Int ∷ Handle Heap ∷ []) (all (in_region [] ∷ []))) ≡
     instructions.Ask (requests.OpenLexical 4) ∷ Move 3 (Slot 5)
     ∷ Move 1 (Slot 4)

@@ -1,4 +1,4 @@
--- This module proves the steps that begin an expression, and the steps that pass a value on.
+-- This module proves the steps that begin an expression, and the steps that pass a value to the newest continuation frame.
 pub mod Assignments
 pub mod Beginnings
 pub mod Conversions

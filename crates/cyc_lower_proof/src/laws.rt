@@ -12,7 +12,7 @@ ghost use Rattle.cyc_lower_proof.specs.inside.Lowering.{lower_program};
 ghost use Rattle.cyc_lower_proof.specs.inside.Lowered.{CanBeLowered, IsLowered};
 
 /// The slots of locals are disjoint and in order; no slot is unused between locals, before the first temporary, or after the parameters.
-/// If each local has one word, then a local's slot is its number.
+/// If each local has one word, then a local's slot is its index.
 pub fn slots_are_apart()
     ensures below { (types : List Ty) (number : ℕ) (t : Ty) → slice_get types number ≡ Some t → slot_in types number + words_of t ≤ words_of_all types }
     ensures apart { (types : List Ty) (number other : ℕ) (t u : Ty) → number < other → slice_get types number ≡ Some t → slice_get types other ≡ Some u

@@ -1,4 +1,4 @@
 -- the operations of the fast loop, used only by the crate's own functions
 pub mod Operations
--- the heap services that the fast loop performs
+-- the system calls of the heap that the fast loop performs
 pub mod Serving

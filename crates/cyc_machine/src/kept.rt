@@ -48,7 +48,7 @@ fn keep_last(kept: &mut Vec<u32>, count: usize)
     kept.rotate_right(more);
 }
 
-/// Returns the word of the data range with the given number.
+/// Returns the word of the data range with the given index.
 pub fn global_word(kept: &[u32], number: usize) -> u32
     requires { number < DATA_WORDS }
     ensures { result ≡ slice_index (all_globals kept.now) number }
@@ -56,7 +56,7 @@ pub fn global_word(kept: &[u32], number: usize) -> u32
     if number < kept.len() { kept[number] } else { 0 }
 }
 
-/// Writes the word of the data range with the given number.
+/// Writes the word of the data range with the given index.
 pub fn set_global_word(kept: &mut Vec<u32>, number: usize, word: u32)
     requires inside { number < DATA_WORDS }
     requires short { length kept.old.items ≤ DATA_WORDS }
@@ -70,7 +70,7 @@ pub fn set_global_word(kept: &mut Vec<u32>, number: usize, word: u32)
     kept[number] = word;
 }
 
-/// Extends the stored part of the data range up to the word with the given number, which is about to be accessed.
+/// Extends the stored part of the data range up to the word with the given index, which is about to be accessed.
 pub fn keep_global_word(kept: &mut Vec<u32>, number: usize)
     requires inside { number < DATA_WORDS }
     requires short { length kept.old.items ≤ DATA_WORDS }
@@ -84,7 +84,7 @@ pub fn keep_global_word(kept: &mut Vec<u32>, number: usize)
     keep_first(kept, next);
 }
 
-/// Returns a word of a stack of `count` words, by its number counted from the lowest word.
+/// Returns a word of a stack of `count` words, by its index from the lowest word on.
 pub fn stack_word(kept: &[u32], count: usize, number: usize) -> u32
     requires inside { number < count }
     requires short { length kept.now ≤ count }
@@ -98,7 +98,7 @@ pub fn stack_word(kept: &[u32], count: usize, number: usize) -> u32
     }
 }
 
-/// Writes a word of a stack of `count` words, by its number counted from the lowest word.
+/// Writes a word of a stack of `count` words, by its index from the lowest word on.
 pub fn set_stack_word(kept: &mut Vec<u32>, count: usize, number: usize, word: u32)
     requires inside { number < count }
     requires short { length kept.old.items ≤ count }
@@ -114,7 +114,7 @@ pub fn set_stack_word(kept: &mut Vec<u32>, count: usize, number: usize, word: u3
     kept[next - wanted] = word;
 }
 
-/// Extends the stored part of a stack of `count` words down to the word with the given number, which is about to be accessed.
+/// Extends the stored part of a stack of `count` words down to the word with the given index, which is about to be accessed.
 pub fn keep_stack_word(kept: &mut Vec<u32>, count: usize, number: usize)
     requires inside { number < count }
     requires short { length kept.old.items ≤ count }

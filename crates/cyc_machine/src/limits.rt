@@ -27,7 +27,7 @@ impl Model for Limits {
 }
 
 impl Limits {
-    /// Returns the limits, or `None` exactly if one of the two numbers is out of its range.
+    /// Returns the limits, or `None` exactly if the number of pages or the number of calls is out of its range.
     pub fn new(pages: u32, calls: u32) -> Option<Limits>
         ensures allowed { IsSome result ↔ AreAllowed pages calls }
         ensures values { IfSome result (λ l. l ≡ record { pages = pages; calls = calls }) }

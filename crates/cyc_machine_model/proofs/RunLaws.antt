@@ -15,7 +15,7 @@ Goes-over w w' end ended (event, s, step, is) =
     let stays = subst (λ (p : Phase). StepIn p w.machine event s) ended step in
     is ∙ (ap (λ e. reported w e s) stays.0 ∙ ap (λ m. reported w (Ended end) m) stays.1)
 
--- A world that has ended can step to itself.
+-- If a run has ended, the state of machine, input and output can step to itself.
 pub Goes-rests : (w : World) (end : End) → w.machine.phase ≡ Over end → Goes w w
 Goes-rests w end over = (Ended end, w.machine, subst (λ (p : Phase). StepIn p w.machine (Ended end) w.machine) (sym over) (refl, refl), refl)
 

@@ -7,7 +7,7 @@ pub record Bounds : Type 0 where
   pub pages : ℕ
   pub calls : ℕ
 
--- `AreAllowed` says that both limits of a run have allowed values.
+-- `AreAllowed` says that the number of the store's pages and the limit of active calls have allowed values.
 pub record AreAllowed (pages calls : ℕ) : Type 0 where
   pub enough_pages : MIN_PAGES ≤ pages
   pub few_pages : pages ≤ MAX_PAGES

@@ -19,11 +19,11 @@ status_in phases.Running = Running
 status_in phases.Waiting = Running
 status_in (phases.Over end) = status_at (ending_of end)
 
--- Returns the output of a world so far, and its remaining input.
+-- Returns the output of a run so far, and its remaining input.
 abbrev pub seen_of : World → Seen
 seen_of w = showing w.output w.input
 
--- The transition system of the machine in its world, where the place of a state is the address of the next instruction.
+-- The transition system of the machine with its input and output. The code position of a state is the address of the next instruction.
 abbrev pub world_machine : Machine
 world_machine = record {
   State = World;

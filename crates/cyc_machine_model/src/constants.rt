@@ -1,5 +1,5 @@
-//! The constants of the machine: its memory map, its services, its special registers, and the limits of a run. All constants of this file
-//! are this project's own choice, except `RETURN_ADDRESS`, which MIPS32 fixes.
+//! The constants of the machine: its memory map, the numbers of its system calls, its special registers, and the limits of a run. All
+//! constants of this file are this project's own choice, except `RETURN_ADDRESS`, which MIPS32 fixes.
 
 /// The first address of the text range.
 pub const TEXT_BASE: u32 = 0x40_0000;
@@ -37,50 +37,50 @@ pub const MIN_CALLS: u32 = 1;
 /// The highest allowed limit of active calls.
 pub const MAX_CALLS: u32 = 4096;
 
-/// The service that reads a byte of the input.
+/// The number of the system call that reads a byte of the input.
 pub const GET_BYTE: u32 = 1;
 
-/// The service that prints a byte.
+/// The number of the system call that prints a byte.
 pub const PUT_BYTE: u32 = 2;
 
-/// The service that ends a run because the program has returned.
+/// The number of the system call that ends a run because the program has returned.
 pub const END_RETURNED: u32 = 3;
 
-/// The service that ends a run because no handler has caught an exception.
+/// The number of the system call that ends a run because no handler has caught an exception.
 pub const END_UNCAUGHT: u32 = 4;
 
-/// The service that opens a lexical region. The service returns the region's handle and the number of lexical regions that
-/// were open before.
+/// The number of the system call that opens a lexical region. The call returns the region's handle and the number of
+/// lexical regions that were open before.
 pub const OPEN_LEXICAL: u32 = 5;
 
-/// The service that closes the newest lexical regions until only the requested number is open.
+/// The number of the system call that closes the newest lexical regions until only the requested number is open.
 pub const CLOSE_LEXICAL: u32 = 6;
 
-/// The service that opens a dynamic region and returns its handle.
+/// The number of the system call that opens a dynamic region and returns its handle.
 pub const OPEN_DYNAMIC: u32 = 7;
 
-/// The service that closes a dynamic region.
+/// The number of the system call that closes a dynamic region.
 pub const CLOSE_DYNAMIC: u32 = 8;
 
-/// The service that allocates a block of a requested number of words in a region and returns the block's address.
+/// The number of the system call that allocates a block of a requested number of words in a region and returns the block's address.
 pub const ALLOCATE: u32 = 9;
 
-/// The service that frees a block to which the program has a unique pointer.
+/// The number of the system call that frees a block to which the program has a unique pointer.
 pub const FREE: u32 = 10;
 
-/// The service that ends a run because the stack has no space for another call.
+/// The number of the system call that ends a run because the stack has no space for another call.
 pub const END_FULL: u32 = 11;
 
-/// The register that holds the number of the requested service, and later the first word of its result.
+/// The register that holds the number of the requested system call, and later the first word of its result.
 pub const SERVICE: u8 = 2;
 
-/// The register that holds the second word of a service's result.
+/// The register that holds the second word of a system call's result.
 pub const SECOND_ANSWER: u8 = 3;
 
-/// The register that holds the first argument of a service. At the start of a run it holds the call limit.
+/// The register that holds the first argument of a system call. At the start of a run it holds the call limit.
 pub const ARGUMENT: u8 = 4;
 
-/// The register that holds the second argument of a service.
+/// The register that holds the second argument of a system call.
 pub const SECOND_ARGUMENT: u8 = 5;
 
 /// The register that holds the lowest used address of the stack. At the start of a run it holds the end of the stack.

@@ -21,7 +21,7 @@ pub enum Cause {
     WriteToText,
     /// A `break` instruction.
     Break,
-    /// A `syscall` whose number is that of no service, or whose request the service refused.
+    /// A `syscall` whose number is that of no system call, or whose request was refused.
     BadService,
 }
 
@@ -56,8 +56,8 @@ pub enum Event {
 /// The exchange of data between an instruction and the input and output devices.
 #[derive(Clone, Copy, Debug, PartialEq, Eq)]
 pub enum Exchange {
-    /// The instruction exchanges no data, or its event is one that only `step` reports. No instruction was
-    /// executed, and the machine's state is unchanged.
+    /// The next instruction exchanges no data, or it has an event that only `step` reports. The
+    /// instruction was not executed, and the machine's state is unchanged.
     Nothing,
     /// The program requests a byte of input. The machine waits until the byte is supplied.
     Wants,

@@ -188,7 +188,7 @@ set number t c = Assign (typed.Local here number) c (Value t)
 abbrev pub new : Placement → Ty → Expression → Expression
 new placement t a = New placement (Plain kinds.Int a) t
 
--- `{for i < n : e}` as an initial value, with the counter of the outermost level
+-- `{for i < n : e}` as an initial value, with the loop counter of the outermost array `for`
 abbrev pub array : Placement → Ty → Expression → Expression → Expression
 array placement t n a = New placement (Array here 0 n kinds.Int a) t
 

@@ -558,7 +558,7 @@ open_in (Wrong output input) = []
 abbrev two_blocks : Program
 two_blocks = program (Execute (block []) ∷ Execute (block (while (Number 1) Empty ∷ [])) ∷ return (Number 0) ∷ [])
 
--- The open regions are the heap, the region of the globals, the region of `main`, and that of the second block. The first block's region
--- is closed, and its number is not reused.
+-- In this example the open regions are the heap, the region of the globals, the region of `main`, and that of the second block. The
+-- first block's region is closed, and its number is not reused.
 second_block_is_open : open_in (run two_blocks [] 50) ≡ 0 ∷ 1 ∷ 2 ∷ 4 ∷ []
 second_block_is_open = refl

@@ -54,7 +54,7 @@ goes_on_printed : printed goes_on ≡ 65 ∷ []
 goes_on_printed = refl
 
 -- try { putchar(65); throw new B(7); putchar(66); } catch { case &A: return 1; case &B(v): v = v + 1; return v; default: return 2; }
--- The second clause catches the exception; its local can be assigned like any other.
+-- The second `catch` clause catches the exception; the local that receives its int can be assigned like any other local.
 second_clause : long_end (program (
     try_to (block (execute (print (Number 65)) ∷ throw 6 (Some (Number 7)) ∷ execute (print (Number 66)) ∷ []))
     (case 5 (return (Number 1) ∷ [])

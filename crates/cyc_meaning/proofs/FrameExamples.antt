@@ -1,4 +1,4 @@
--- Examples of needs (bounds on temporary words) and of frame counts, each proved by computation; each comment shows the sum.
+-- Examples of needs (bounds on temporary words of the frame) and of frame counts, each proved by computation; each comment shows the sum.
 use Rattle.std.proofs.Common.{◌≡◌, ℕ, zero, suc, List, [], ◌∷◌, None, refl}
 use Rattle.cyc_types.specs.declared.region.Region.TheVariants.{Heap}
 use Rattle.cyc_types.specs.declared.typed.PointerOperator.TheVariants as pointers
@@ -11,11 +11,11 @@ use Rattle.cyc_meaning.proofs.ExampleTrees.{here, local, assign, procedure, at, 
 
 -- ---- expressions
 
--- `a = 1` needs the words of the assigned place, of its value, and of the result: 3 + 1 + 1
+-- `a = 1` needs temporary words for a pointer to the assigned variable, for the value, and for the result: 3 + 1 + 1
 of_assignment : expression_need (assign 0 (Number 1)) ≡ 5
 of_assignment = refl
 
--- `*p` for a thin pointer needs one word for the pointer and one for the int; a cell that is only read adds nothing.
+-- `*p` for a thin pointer needs one temporary word for the pointer and one for the int; a cell that is only read adds nothing.
 of_read : expression_need (Load (target at (variable 0 at))) ≡ 2
 of_read = refl
 
@@ -23,7 +23,7 @@ of_read = refl
 of_element : expression_need (Load (element (variable 0 fat) (local 1))) ≡ 5
 of_element = refl
 
--- `p[i] = 1`: evaluating the assigned cell needs 3 words after its operands, 3 + 1 + 3, which is more than 3 + 1 + 1
+-- `p[i] = 1`: a pointer to the assigned cell needs 3 words beside p and i: 3 + 1 + 3, more than the 3 + 1 + 1 of the assignment
 of_element_assigned : expression_need (put (element (variable 0 fat) (local 1)) (Number 1)) ≡ 7
 of_element_assigned = refl
 
@@ -81,11 +81,11 @@ of_char_as_int = refl
 of_free_key : expression_need (FreeKey (move 0 (Key Heap))) ≡ 1
 of_free_key = refl
 
--- `p[i] :=: x` needs the larger of 3 + 3 for its two sides and 3 + 1 + 3 for the left side with its operands.
+-- `p[i] :=: x` needs the larger of 3 + 3 words for both operands and 3 + 1 + 3 for the left operand with p and i.
 of_swap : statement_need (Swap (CellSide (element (variable 0 fat) (local 1))) (side 2 Int)) ≡ 7
 of_swap = refl
 
--- `x :=: p[i]` evaluates the right side after the left one, so it needs 3 + 3 + 1 + 3 words.
+-- `x :=: p[i]` evaluates its right operand after the left one, so it needs 3 + 3 + 1 + 3 words.
 of_swap_right : statement_need (Swap (side 2 Int) (CellSide (element (variable 0 fat) (local 1)))) ≡ 10
 of_swap_right = refl
 
@@ -100,7 +100,7 @@ ints (suc n) = Int ∷ ints n
 of_ints : frame_count (record (procedure [] []) { locals = ints 232 }) ≡ 256
 of_ints = refl
 
--- The item `region<`a> h;` counts two words for its handle, and `region<`k> h = open(k);` counts one: 24 + 1 + 1
+-- The declaration `region<`a> h;` counts two words for its handle, and `region<`k> h = open(k);` counts one: 24 + 1 + 1
 of_lexical : frame_count (record (procedure [] (DeclareRegion 1 0 ∷ [])) { locals = Handle Heap ∷ [] }) ≡ 26
 of_lexical = refl
 

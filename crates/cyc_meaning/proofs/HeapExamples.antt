@@ -74,7 +74,7 @@ struct_fields : end (with_struct (program (
     ∷ []))) ≡ HasEnded (Returned (pos 7))
 struct_fields = refl
 
--- The tree states a struct, but `new 4` makes an object of another shape, so the program is wrong.
+-- The tree states a struct, but the cells of the object that `new 4` makes differ from the struct's fields, so the program is wrong.
 other_shape : end (with_struct (program (
     define 0 p (convert p p (new OnHeap p (Number 4)))
     ∷ return (Load x)
@@ -101,7 +101,7 @@ field_of_null_prints = refl
 
 -- struct S { int a; int ?p; int b; }; struct S @s = new S{1, new {for i < 2 : i + 7}, 3}; s->p[1] = s->p[1] + 1; return s->b * 100 +
 -- s->p[1] * 10 + s->a;
--- The struct has fields of one word and of three.
+-- The struct of this example has fields of one machine word and a field of three machine words.
 abbrev second : typed.Dereference
 second = element (Load (Member kinds.NonNull (variable 0 p) 0 1 fat)) (Number 1)
 

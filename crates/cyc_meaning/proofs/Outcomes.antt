@@ -38,8 +38,8 @@ use Rattle.cyc_meaning.specs.inside.Effects.{Changes, Keeps, Opens, Closes, Make
 use Rattle.cyc_meaning.specs.inside.Nesting.{IsScoped, IsFound, IsNested, is_access_of, is_access_in, is_access}
 use Rattle.cyc_meaning.proofs.NestingLemmas.{home_found, nested_opened, nested_lexical, nested_dynamic, nested_closed, nested_closed_lexical, nested_closed_dynamic, nested_made_in, nested_call, nested_return}
 
--- The outcome of a step: the run goes on with the stated number of calls and stays nested, or it is over, with nothing printed or read.
--- From a nested state, only an access can be dead (use freed memory).
+-- The outcome of a step: the run goes on with the stated number of active calls and nested regions, or it is over, with nothing printed
+-- or read. From a state with nested regions, only an access can be dead (use freed memory).
 pub data Outcome (nested : Type 0) (w : World) : (access : Bool) → (printed : List ℕ) → (count calls : ℕ) → State → Type 0 where
   Goes : {access : Bool} {printed : List ℕ} {count calls : ℕ} {focus : Focus} {stack : List Entry} {e : Environment} {new : World}
       → calls_in stack ≡ calls → Changes w printed count new → (nested → IsNested stack e new) → Outcome nested w access printed count calls (Running focus stack e new)
@@ -119,7 +119,7 @@ getchar_reads : {access : Bool} (arguments : List Value) (stack : List Entry) (e
 getchar_reads [] stack e w = Goes refl Reads (λ h. h)
 getchar_reads (value ∷ arguments) stack e w = Fails
 
--- Says that a step from the given focus and stack has one of the possible outcomes.
+-- Says that a step from the given focus (the next action) and control stack has one of the possible outcomes.
 abbrev pub Seen : Focus → List Entry → Environment → World → State → Type 0
 Seen focus stack e w s = Outcome (IsNested stack e w) w (is_access focus stack) (printed_by focus) (read_by focus) (calls_after focus stack) s
 

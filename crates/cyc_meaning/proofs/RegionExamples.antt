@@ -175,7 +175,7 @@ thrown_beside_a_key = refl
 
 -- try { region<`k> h = open(k); throw new E; } catch { case &E: return *p; }
 -- A throw does not close a dynamic region even if it leaves the block that opened it. (The checker rejects this text, since the region is
--- not known to be open in the clause.)
+-- not known to be open in the catch clause.)
 thrown_past_a_key : long_end (program (
     DeclareKey 1 0
     ∷ define 1 star (null_as star)

@@ -119,7 +119,7 @@ within_where_over pages calls (Wrong output input) over = and_from _ _ (le-leb 0
 
 -- ---- limits
 
--- A step whose new state is within the limits is unchanged, and any other step ends the run.
+-- A step whose new state is within the limits is the same in the limited run, and any other step ends the limited run.
 pub limited-within : (pages calls : ℕ) (old new : State) → is_within pages calls new ≡ true → limited pages calls old new ≡ new
 limited-within pages calls old new within = ap (λ (b : Bool). if b then new else Ended Full (output_of old) (input_of old)) within
 
@@ -202,7 +202,7 @@ limited_agrees program pages calls (suc n) s within =
     ap (limited_steps program pages calls n) (limited-within pages calls s (step program s) (within 1 (omega arith)))
     ∙ limited_agrees program pages calls n (step program s) (λ j less. within (suc j) (omega (arith, less)))
 
--- If a step exceeds the limits, then from that step on the limited run has ended as full.
+-- If a step exceeds the limits on pages or calls, then from that step on the limited run has ended with `Full`.
 pub limited_is_full : (program : Program) (pages calls k n : ℕ) (s : State) → ((j : ℕ) → j ≤ k → is_within pages calls (steps program j s) ≡ true) → is_within pages calls (steps program (suc k) s) ≡ false → k < n → limited_steps program pages calls n s ≡ Ended Full (output_of (steps program k s)) (input_of (steps program k s))
 limited_is_full program pages calls k zero s within past less = absurd (omega (arith, less))
 limited_is_full program pages calls zero (suc n) s within past less =

@@ -21,7 +21,7 @@ returns_sum = typed.Return (Some (Convert kinds.Int kinds.Int sum))
 abbrev of_main : List typed.Item
 of_main = Execute returns_sum ∷ []
 
--- Returns the focus after a given number of steps, and the waiting stack entries, newest first.
+-- Returns the focus (the next action) after a given number of steps, and the waiting stack entries, newest first.
 abbrev focus_of : State → Option Focus
 focus_of (Running focus stack e w) = Some focus
 focus_of s = None
@@ -36,8 +36,8 @@ at n = (focus_of (run (program of_main) [] n), stack_of (run (program of_main) [
 abbrev int : ℕ → Operand
 int n = record { kind = kinds.Int; value = values.Int n }
 
--- The stack entries around the `return` are the rest of the body, and the end of its region. The region around the `return` has number 2,
--- after the heap and the region of the globals.
+-- The control-stack entries below the `return` are the rest of the body of `main`, and the end of the body's region. The region around
+-- the `return` has number 2, after the heap and the region of the globals.
 abbrev outside : List Entry
 outside = Rest NoItems ∷ CloseRegion 2 1 ∷ Main ∷ []
 

@@ -96,7 +96,7 @@ swapped_with_itself_in_a_cell = refl
 
 -- int @`U @eat(int @`U u, int @`U @q){ ufree(u); return q; } int @`U u = rnew(unique_region) 1; int @`U @q = new rnew(unique_region) 2; u
 -- :=: *eat(u, q); return *u;
--- A swap evaluates both sides before it reads either. A pointer to a freed object may be moved.
+-- A swap evaluates its left and its right operand before it reads either cell. A pointer to a freed object may be moved.
 abbrev at_own : Ty
 at_own = Pointer marks.NonNull own Heap
 
@@ -112,7 +112,7 @@ swapped_after_a_free : long_end (program_with (function (own ∷ at_own ∷ []) 
     ∷ [])) ≡ HasEnded (Returned (pos 2))
 swapped_after_a_free = refl
 
--- `*n :=: p[putchar(65)]` for a null pointer n: the left side is checked before the right side is evaluated
+-- `*n :=: p[putchar(65)]` for a null pointer n: the left operand is checked before the right operand is evaluated
 swap_checks_left_first : printed (program (
     define 0 star (null_as star)
     ∷ define 1 fat (null_as fat)
@@ -138,7 +138,7 @@ aliased = refl
 
 -- ---- demand
 
--- The world with one more unique block of 512 words, and the world with the first such block freed again.
+-- The heap state with one more unique block of 512 words, and the heap state with one such block freed again.
 abbrev more : World → World
 more w = made_unique w (blanks 512 kinds.Int)
 

@@ -125,7 +125,7 @@ one_page_of_blocks = refl
 one_block_more : pages_for 2 257 ≡ 2
 one_block_more = refl
 
--- Pages are kept when unique blocks are freed.
+-- Pages stay in use when the unique blocks in them are freed.
 greatest_so_far : class_pages 10 (0 ∷ 1 ∷ 2 ∷ 1 ∷ 0 ∷ []) ≡ 2
 greatest_so_far = refl
 

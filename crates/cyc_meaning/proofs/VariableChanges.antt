@@ -1,4 +1,5 @@
--- The effect of each change on the names of variables: opening and leaving blocks, calling and returning, allocating, writing and freeing.
+-- The effect of each change of the state on the invariant that each live variable is a global or a local of an active call. The changes
+-- are opening and leaving blocks, calling and returning, allocating, writing and freeing.
 use Rattle.std.proofs.Common.{◌≡◌, ℕ, zero, suc, Bool, true, false, List, [], ◌∷◌, ◌++◌, set, length, Some, None, refl, sym, ap, subst, ◌∙◌, inl, inr, arith, length-append}
 use Rattle.std.specs.Prelude.{◌⊎◌, ◌<◌, if◌then◌else◌, slice_get}
 use Rattle.std.proofs.lemmas.Bool.{cases_eq}
@@ -12,7 +13,7 @@ use Rattle.cyc_meaning.proofs.NestingLemmas.{region_found}
 use Rattle.cyc_meaning.proofs.WorldLaws.{cell_found}
 use Rattle.cyc_meaning.proofs.VariableLemmas.{lives_once, lives_more, lives_newest, lives_same, shut_open, shut_more, region_below, region_before, set_region_there, shut_set, Passes, passes}
 
--- The invariant that the variables of blocks have names, for a given world.
+-- The invariant that each live variable of a block is a local of an active call, for a given heap state (regions and objects).
 abbrev AllNamed : (globals : ℕ) → List Entry → Locals → World → Type 0
 AllNamed globals stack locals w = AreNamed globals stack locals w.objects w.regions
 
@@ -33,8 +34,8 @@ pub named_opened : (sort : Sort) (globals : ℕ) (stack : List Entry) (locals : 
 named_opened sort globals stack locals w h =
     passes w.objects w.regions (opened_as sort w).objects (opened_as sort w).regions (opened_passes sort w h.6) globals stack locals h
 
--- A region may be replaced by one that no longer contains live variables; every live variable then
--- lived in another region or still has its name.
+-- A region may be replaced by one without live variables; every live variable then was in another
+-- region or is still a local of an active call.
 set_back : (objects : List Object) (regions : List Region) (number : ℕ) (s : Region) → (HasVariables s → ⊥)
     → (object region : ℕ) (r : Region) → LivesIn objects object region → slice_get (set regions number s) region ≡ Some r → HasVariables r
     → LivesIn objects object region × ((q : Region) × (slice_get regions region ≡ Some q) × HasVariables q)
@@ -133,7 +134,8 @@ pub named_made_unique : (cells : List Cell) (globals : ℕ) (stack : List Entry)
 named_made_unique cells globals stack locals w h =
     passes w.objects w.regions (made_unique w cells).objects (made_unique w cells).regions (unique_passes cells w h.6) globals stack locals h
 
--- Replacing an object by another one with the same owner keeps the invariant of variable names.
+-- Replacing an object by another one with the same owner keeps the invariant that each live
+-- variable is a global or a local of an active call.
 same_passes : (number : ℕ) (x y : Object) (w : World) → slice_get w.objects number ≡ Some x → region_of y.owner ≡ region_of x.owner → LiveInRegions w.objects w.regions → Passes w.objects w.regions (set w.objects number y) w.regions
 same_passes number x y w there same inside = record {
   lives = λ object region lives. lives_same w.objects number object x y there same ∙ lives;

@@ -1,5 +1,5 @@
--- The effect of declaring a local on the names of variables. The declared local is a new object, and the former object of its number can no
--- longer be reached.
+-- The effect of declaring a local on the invariant that each live variable is a global or a local of an active call. The declared local is
+-- a new object, and the object that its number denoted before can no longer be reached.
 use Rattle.std.proofs.Common.{◌≡◌, ℕ, zero, suc, Bool, List, [], ◌∷◌, ◌++◌, length, Option, Some, None, refl, sym, ap, subst, ◌∙◌, inl, inr, arith}
 use Rattle.std.specs.Prelude.{◌≢◌, ◌⊎◌, ◌<◌, ◌==◌, if◌then◌else◌, slice_get}
 use Rattle.std.proofs.lemmas.Bool.{eq-eqb, eqb-true, false_from_ne_true, cases_eq}
@@ -34,7 +34,7 @@ home_of_call (CloseLexical ending ∷ stack) home here is = home_of_call stack h
 home_of_call (EndLoan lent ∷ stack) home here is = home_of_call stack home here is
 home_of_call (entry ∷ stack) home here is = absurd here
 
--- The former object of a local that is declared next is in no open block.
+-- The object that a local denoted before the next declaration of this local is in no open block.
 pub former_left : (number : ℕ) (stack : List Entry) (locals : Locals) (objects : List Object) (regions : List Region) → AreLow number stack locals objects → LiveInBlocks stack locals objects regions
     → (object region : ℕ) → locals number ≡ Some object → LivesIn objects object region → IsShut regions region
 former_left number stack locals objects regions low live object region is lives =
@@ -56,7 +56,7 @@ module _ (number : ℕ) (locals : Locals) (x : Object) (objects : List Object) (
   abbrev then_objects : List Object
   then_objects = objects ++ x ∷ []
 
-  -- After a declaration, the object of a local is the new one or was its object before.
+  -- After a declaration of a local, the object of any local is the new object or the object that it had before.
   pub then_local : (other object : ℕ) → then_locals other ≡ Some object → ((other ≡ number) × (object ≡ length objects)) ⊎ ((other ≢ number) × (locals other ≡ Some object))
   then_local other object is = elim (cases_eq other number) [
     | inl same ↦
@@ -71,14 +71,14 @@ module _ (number : ℕ) (locals : Locals) (x : Object) (objects : List Object) (
   pub then_here : then_locals number ≡ Some (length objects)
   then_here = ap (λ (b : Bool). if b then Some (length objects) else locals number) (eq-eqb number number refl)
 
-  -- Declaring a local leaves the locals of enclosing blocks numbered below their bounds.
+  -- Declaring a local keeps the bounds on the numbers of the locals of enclosing blocks.
   low_around : (m : ℕ) (stack : List Entry) → (IsOfCall home stack → ⊥) → AreLow m stack locals objects → AreLow m stack then_locals then_objects
   low_around m stack around low other object is = elim (then_local other object is) [
     | inl new ↦ (home, subst (λ (o : ℕ). LivesIn then_objects o home) (sym new.1) owns, λ of_call. absurd (around of_call))
     | inr old ↦ (let (region, lives, less) = low other object old.1 in (region, lives_more objects x object region lives, less))
   ]
 
-  -- After a declaration, the locals of its block have numbers below the next number.
+  -- After a declaration, the locals of its block have numbers below that of the next local to be declared.
   pub low_after : (stack : List Entry) → AreLow number stack locals objects → AreLow (suc number) stack then_locals then_objects
   low_after stack low other object is = elim (then_local other object is) [
     | inl new ↦ (home, subst (λ (o : ℕ). LivesIn then_objects o home) (sym new.1) owns, λ of_call. (let e : other ≡ number = new.0 in omega (arith, e)))
@@ -159,7 +159,7 @@ module _ (globals number : ℕ) (kind : Kind) (content : Option Value) (stack : 
     | inr old ↦ (let (region, lives, where_it_is) = h.1 other object old.1 in (region, lives_more w.objects x object region lives, where_it_is))
   ]
 
-  -- The name of a live object stays its name when another local is declared.
+  -- A live object that is a local of an active call stays that local when another local is declared.
   stays : (call other object region : ℕ) (q : Region) → LivesIn w.objects object region → slice_get w.regions region ≡ Some q → HasVariables q
       → IsLocal (e.locals ∷ waiting stack) call other object → IsLocal (new ∷ waiting stack) call other object
   stays zero other object region q lives there has is =
@@ -180,7 +180,7 @@ module _ (globals number : ℕ) (kind : Kind) (content : Option Value) (stack : 
     | inr newest ↦ inr (0, number, (new, refl, then_here number e.locals x w.objects e.home owns ∙ ap (λ (o : ℕ). Some o) (sym newest.0)))
   ]
 
-  -- After a declaration, the object of a local of any active call is the new one or was its object before.
+  -- After a declaration, the object of a local of any active call is the new object or the object that it had before.
   split : (call other object : ℕ) → IsLocal (new ∷ waiting stack) call other object → ((call ≡ 0) × (other ≡ number) × (object ≡ length w.objects)) ⊎ IsLocal (e.locals ∷ waiting stack) call other object
   split zero other object is = elim (then_local number e.locals x w.objects e.home owns other object (local_here new (waiting stack) other object is)) [
     | inl newest ↦ inl (refl, newest.0, newest.1)

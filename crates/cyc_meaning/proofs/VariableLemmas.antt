@@ -1,5 +1,5 @@
--- Each variable of a block has a name; the lemmas cover each change of the world, opening and leaving blocks, calls and returns, and
--- declaring a local.
+-- Each live variable of a block is a local of an active call. The lemmas that prove this cover each change of the heap state,
+-- opening and leaving blocks, calls and returns, and declaring a local.
 use Rattle.std.proofs.Common.{◌≡◌, ℕ, zero, suc, Bool, true, List, [], ◌∷◌, ◌++◌, set, length, Some, None, refl, sym, ap, ◌∙◌, inl, inr, arith}
 use Rattle.std.specs.Prelude.{◌⊎◌, ◌<◌, if◌then◌else◌, slice_get}
 use Rattle.cyc_types.specs.TypedTrees.{Statement}
@@ -76,7 +76,7 @@ shut_set (q ∷ regions) (suc number) (suc region) r s there keep shut = shut_se
 
 -- ---- changes of the world
 
--- Says that after a change objects stay in their regions, closed regions stay closed, and no further variable is live.
+-- Says that after a change of the heap state objects stay in their regions, closed regions stay closed, and no further variable is live.
 pub record Passes (objects : List Object) (regions : List Region) (more : List Object) (others : List Region) : Type 0 where
   pub lives : (object region : ℕ) → LivesIn objects object region → LivesIn more object region
   pub shut : (region : ℕ) → IsShut regions region → IsShut others region

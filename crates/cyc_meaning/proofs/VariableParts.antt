@@ -1,4 +1,5 @@
--- Variables of blocks have names in every state of a run: the possible outcomes of a step, and the parts of steps.
+-- Each live variable of a block is a local of an active call: the possible outcomes of a step, and the reads,
+-- writes and allocations in steps.
 use Rattle.std.proofs.Common.{◌≡◌, ℕ, suc, Bool, true, false, List, ◌∷◌, Option, Some, None, refl, arith}
 use Rattle.std.specs.Prelude.{◌≤◌, ◌<◌, if◌then◌else◌}
 use Rattle.cyc_words.specs.Ending.{Ending}
@@ -14,14 +15,16 @@ use Rattle.cyc_meaning.specs.inside.Variables.{Locals, AreLow, DeclareNow, AreNa
 use Rattle.cyc_meaning.proofs.VariableChanges.{named_closed, named_written, named_left, is_shut}
 use Rattle.cyc_meaning.proofs.VariableDeclared.{low_declared, named_declared}
 
--- Says that a step keeps the invariant of variable names: if the run goes on and the invariant held before, it still holds.
+-- Says that a step keeps the invariant that live variables are globals or locals of active calls: if it held before and the
+-- run goes on, it still holds.
 pub data Stays (globals : ℕ) (known : Type 0) : State → Type 0 where
   Goes : {focus : Focus} {stack : List Entry} {e : Environment} {w : World} → (known → HasNames globals (Running focus stack e w)) → Stays globals known (Running focus stack e w)
   Ends : {ending : Ending} {output input : List ℕ} → Stays globals known (Ended ending output input)
   Dies : {output input : List ℕ} → Stays globals known (Dead output input)
   Fails : {output input : List ℕ} → Stays globals known (Wrong output input)
 
--- Says that a step keeps the invariant of variable names, either if its focus declares no local, or if its focus may declare one.
+-- Says that a step keeps the invariant that live variables are globals or locals of active calls; the next action declares no
+-- local, or may declare one.
 abbrev pub Silent : (globals : ℕ) → List Entry → Environment → World → State → Type 0
 Silent globals stack e w s = Stays globals (IsNested stack e w × (AreNamed globals stack e.locals w.objects w.regions)) s
 
@@ -73,7 +76,8 @@ pub named_storing_at : {globals : ℕ} (place : Value) (v : Operand) (focus : Fo
 named_storing_at (Thin object offset) v focus stack e w plain = named_storing (cell_at w object offset) object offset v focus stack e w refl plain
 named_storing_at place v focus stack e w plain = Fails
 
--- Declaring the next local of a block keeps the invariant of variable names, and the rest of the block follows.
+-- Declaring the next local of a block keeps the invariant that live variables are globals or locals of active
+-- calls; then the rest of the block follows.
 pub names_local : {globals : ℕ} (a : Access Region) (number : ℕ) (given kind : Kind) (content : Option Value) (items : Items) (stack : List Entry) (e : Environment) (w : World) → region_at w e.home ≡ a
     → Silent globals (Needs (Initialise number given items) ∷ stack) e w (declared a Proceeding number kind content (Rest items ∷ stack) e w)
 names_local {globals} (Found r) number given kind content items stack e w found = Goes (λ h.

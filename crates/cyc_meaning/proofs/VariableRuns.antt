@@ -1,4 +1,4 @@
--- Variables of blocks have names in every state of a run, if the numbers of locals increase along the program's text.
+-- In every state of a run, each live variable of a block is a local of an active call, if local numbers increase along the text.
 use Rattle.std.proofs.Common.{◌≡◌, ℕ, zero, suc, ◌≤◌, Bool, true, false, List, [], ◌∷◌, length, map, Option, Some, None, refl, sym, subst, inl, inr, arith}
 use Rattle.std.specs.Prelude.{◌==◌, ◌<◌, if◌then◌else◌, slice_get}
 use Rattle.std.proofs.lemmas.Bool.{cases_lt}
@@ -57,12 +57,12 @@ names_step globals program rise (Ended ending output input) nests h = tt
 names_step globals program rise (Dead output input) nests h = tt
 names_step globals program rise (Wrong output input) nests h = tt
 
--- Each step of a limited run keeps the invariant of variable names.
+-- Each step of a limited run keeps the invariant that each live variable is a global or a local of an active call.
 pub names_kept : (globals : ℕ) (program : Program) → FunctionsRise program → (pages calls : ℕ) (old new : State) → Nests old → HasNames globals old → new ≡ limited_step program pages calls old → HasNames globals new
 names_kept globals program rise pages calls old new nests h is =
     subst (HasNames globals) (sym is) (limited_cases (HasNames globals) pages calls old (step program old) (λ within. names_step globals program rise old nests h) (λ full. tt))
 
--- The invariant that regions nest, together with the invariant of variable names.
+-- The invariant that regions nest, together with the invariant that each live variable is a global or a local of an active call.
 abbrev pub NestsAndNames : (globals : ℕ) → State → Type 0
 NestsAndNames globals s = Nests s × HasNames globals s
 

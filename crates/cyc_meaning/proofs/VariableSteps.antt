@@ -1,4 +1,4 @@
--- Variables of blocks have names in every state of a run: the steps that call functions and execute statements.
+-- Each live variable of a block is a local of an active call: the steps that call functions and execute statements keep this invariant.
 use Rattle.std.proofs.Common.{◌≡◌, ℕ, suc, List, [], ◌∷◌, length, reverse, Option, Some, None, refl, arith}
 use Rattle.std.specs.Prelude.{◌≤◌, ◌+◌, ◌==◌, slice_get}
 use Rattle.cyc_types.specs.declared.typed.Kind.TheVariants as kinds
@@ -46,7 +46,7 @@ named_calling program callees.Putchar arguments stack e w rise = named_printing 
 named_calling program callees.Getchar arguments stack e w rise = named_reading (values_of arguments) stack e w
 named_calling program (callees.Function number) arguments stack e w rise = named_calling_function (slice_get program.functions number) (reverse arguments) stack e w (rise number)
 
--- Opening the region of a call keeps the invariant of variable names.
+-- Opening the region of a call keeps the invariant that each live variable is a global or a local of an active call.
 pub named_entering : {globals : ℕ} (h : Function) (arguments : List Operand) (stack : List Entry) (e : Environment) (w : World) → Begins globals (Entering h arguments) stack e w (step_entering h arguments stack e w)
 named_entering {globals} h arguments stack e w = Goes (λ known.
     let (now, all) = known.1 in (
@@ -83,7 +83,7 @@ named_throwing_new : {globals : ℕ} (tag : ℕ) (o : Option Expression) (stack 
 named_throwing_new tag None stack e w = Goes (λ h. (tt, h.1))
 named_throwing_new tag (Some a) stack e w = Goes (λ h. (tt, h.1))
 
--- Entering a block keeps the invariant of variable names.
+-- Entering a block keeps the invariant that each live variable is a global or a local of an active call.
 opens_block : {globals : ℕ} (region : ℕ) (items : Items) (stack : List Entry) (e : Environment) (w : World)
     → Begins globals (Executing (Block region items)) stack e w (Running Proceeding (Rest items ∷ region_end e w ∷ stack) (inside e w) (opened w))
 opens_block {globals} region items stack e w = Goes (λ h.

@@ -1,4 +1,4 @@
--- Variables of blocks have names in every state of a run: the steps that evaluate cells and values.
+-- Each live variable of a block is a local of an active call: the steps that evaluate cells and values keep this invariant.
 use Rattle.std.proofs.Common.{◌≡◌, ℕ, suc, Bool, true, false, List, [], ◌∷◌, length, reverse, Option, Some, None, refl}
 use Rattle.std.specs.Prelude.{◌==◌, ◌*◌, ◌&&◌, nat_le, if◌then◌else◌, slice_get}
 use Rattle.cyc_types.specs.declared.typed.Kind.{Kind}

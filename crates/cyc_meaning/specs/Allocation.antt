@@ -71,8 +71,8 @@ abbrev pub step_beginning : Owner → (count level : ℕ) → Kind → (element 
 step_beginning owner count level kind element stack e w =
     begun (created w owner (blanks count kind)) (length w.objects) count level kind element stack e w
 
--- The elements of a new array are evaluated with the counter at 0, 1 and so on; each is written as soon as it is evaluated. The resulting
--- fat pointer has the length of the array and the index 0.
+-- The elements of a new array are evaluated with the loop counter at 0, 1 and so on; each is written as soon as it is evaluated. The fat
+-- pointer to a new array has the length of the array and the index 0.
 abbrev pub step_repeating : (object count index level : ℕ) → Kind → (element : Expression) → List Entry → Environment → World → State
 step_repeating object count index level kind element stack e w =
     if index == count

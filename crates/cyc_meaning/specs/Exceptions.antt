@@ -25,7 +25,7 @@ throws_value tag value stack e w = wrong w
 abbrev pub tries : Statement → Clauses → List Entry → Environment → World → State
 tries s handler stack e w = Running (Executing s) (Handler handler ∷ stack) e w
 
--- The items of a catch clause form a block, which contains the local that receives the exception's int.
+-- The declarations and statements of a catch clause form a block, which contains the local that receives the exception's int.
 abbrev pub catches : (value : ℕ) → (number : Option ℕ) → Items → List Entry → Environment → World → State
 catches value None items stack e w = Running Proceeding (Rest items ∷ region_end e w ∷ stack) (inside e w) (opened w)
 catches value (Some number) items stack e w =

@@ -22,16 +22,16 @@ operand_words Void = 1
 operand_words Null = 1
 operand_words (Value t) = words_of t
 
--- Returns the words of a converted operand: the larger of its sizes before and after the conversion.
+-- Returns the number of words of a converted operand: the larger of its sizes before and after the conversion.
 abbrev pub converted_words : Converted → ℕ
 converted_words (Convert from to a) = max (words_of_kind from) (words_of_kind to)
 
--- The number of words for a pointer to an assigned cell, an operand of `&`, or a side of a swap. A cell that is only
--- read needs no such words.
+-- The number of frame words for a pointer to an assigned cell, to an operand of `&`, or to an operand of a swap. A
+-- cell that is only read needs no such words.
 abbrev pub place_words : ℕ
 place_words = 3
 
--- The number of words that an array's `for` keeps while its element is evaluated.
+-- The number of frame words that an array's `for` occupies while its element is evaluated.
 abbrev pub array_words : ℕ
 array_words = 4
 
@@ -39,14 +39,14 @@ abbrev pub argument_words : Arguments → ℕ
 argument_words NoArguments = 0
 argument_words (MoreArguments c cs) = converted_words c + argument_words cs
 
--- Returns the words of the handle of `rnew`; `unique_region` counts like a handle.
+-- Returns the number of words of the handle of `rnew`; `unique_region` counts like a handle.
 abbrev pub handle_words : Placement → ℕ
 handle_words OnHeap = 0
 handle_words AsUnique = 1
 handle_words (ByHandle a) = operand_words (type_of a)
 
--- Returns the need (the bound on temporary words) of a unary operator, given the words and the need of its operand. The conversion of a
--- char to an int is not written in the text, so it has no words of its own.
+-- Returns the need (the bound on temporary words) of a unary operator, given the words and the need of its operand. No token of the
+-- text spells the conversion of a char to an int, so this conversion adds no words of the frame.
 abbrev pub unary_need : UnaryOperator → (words need : ℕ) → ℕ
 unary_need unary.Negate words need = max (words + 1) need
 unary_need unary.Not words need = max (words + 1) need
@@ -54,9 +54,9 @@ unary_need unary.Complement words need = max (words + 1) need
 unary_need unary.Widen words need = need
 unary_need unary.LowByte words need = max (words + 1) need
 
--- The need of an expression is the maximum of two kinds of sums: the words of all its operands plus those of its result, and, for each
--- operand, the words of the operands before it plus its own need. In a chain of operators, everything before an operator is its left
--- operand. Unless the left operand is the first operand alone, it has the type of the chain.
+-- The need (bound on temporary words) of an expression is the maximum of two kinds of sums: the words of all its operands plus those
+-- of its result, and, for each operand, the words of the operands before it plus its own need. In a chain of operators, everything
+-- before an operator is its left operand. Unless the left operand in a chain is the first operand alone, it has the type of the chain.
 abbrev mutual
   pub expression_need : Expression → ℕ
   expression_need (Number n) = 1
@@ -80,7 +80,7 @@ abbrev mutual
       max (dereference_need d place_words) (max (place_words + converted_words c + result_words t) (place_words + converted_need c))
   expression_need (New w i t) = max (handle_need w) (initial_value_need i (handle_words w) (words_of t))
 
-  -- Returns the need of evaluating a pointer's target (`*e`, `e->f` or `e[i]`), where the target itself takes `own` words.
+  -- Returns the need (the bound on temporary words) of evaluating a cell `*e`, `e->f` or `e[i]`, where the cell itself takes `own` words.
   pub dereference_need : Dereference → (own : ℕ) → ℕ
   dereference_need (Target k a t) own = max (operand_words (type_of a) + own) (expression_need a)
   dereference_need (Member k a s f t) own = max (operand_words (type_of a) + own) (expression_need a)
@@ -92,23 +92,23 @@ abbrev mutual
   handle_need AsUnique = 1
   handle_need (ByHandle a) = expression_need a
 
-  -- Returns the need of an initial value after a handle of `handle` words; the pointer to the object has `own` words.
+  -- Returns the need of temporary words of an initial value after a handle of `handle` words; the pointer to the object has `own` words.
   pub initial_value_need : Initial → (handle own : ℕ) → ℕ
   initial_value_need (Plain k a) handle own = max (handle + words_of_kind k + own) (handle + expression_need a)
   initial_value_need (Fields cs) handle own = max (handle + argument_words cs + own) (arguments_need cs handle)
   initial_value_need (Array p l n k a) handle own =
       max (handle + expression_need n) (max (handle + array_words + expression_need a) (handle + array_words + words_of_kind k + own))
 
-  -- Returns the need of a converted expression; a conversion adds nothing to the need.
+  -- Returns the need of temporary words of a converted expression; a conversion adds nothing to the need.
   pub converted_need : Converted → ℕ
   converted_need (Convert from to a) = expression_need a
 
-  -- Returns the need of a call's arguments, if `before` words precede the first argument.
+  -- Returns the need of temporary words of a call's arguments, if `before` words precede the first argument.
   pub arguments_need : Arguments → (before : ℕ) → ℕ
   arguments_need NoArguments before = 0
   arguments_need (MoreArguments c cs) before = max (before + converted_need c) (arguments_need cs (before + converted_words c))
 
-  -- Returns the need of a chain's operations, if the left operand of the first operation has `left` words.
+  -- Returns the need of temporary words of a chain's operations, if the left operand of the first operation has `left` words.
   pub operations_need : Operations → Ty → (left : ℕ) → ℕ
   operations_need NoOperations t left = 0
   operations_need (ThenCompute o a os) t left =
@@ -132,8 +132,8 @@ abbrev pub side_need : Side → ℕ
 side_need (VariableSide l t) = place_words
 side_need (CellSide d) = dereference_need d place_words
 
--- Returns the need of a statement: the maximum over its expressions. A swap counts like an expression without a value whose operands are
--- the two sides.
+-- Returns the need of temporary words of a statement: the maximum over its expressions. A swap counts like an expression without a value
+-- whose operands are the swap's left and right operand.
 abbrev mutual
   pub statement_need : Statement → ℕ
   statement_need (Block r js) = items_need js
@@ -159,8 +159,8 @@ abbrev mutual
   clauses_need (Default r js) = items_need js
   clauses_need (Case e n r js cs) = max (items_need js) (clauses_need cs)
 
--- Returns the words of a frame beside the variables: six for each `try`, and one for each lexical region, so that its handle
--- counts two in total.
+-- Returns the words that a statement adds to the frame beside variables: six for each `try`, and one for each lexical
+-- region, so that its handle counts two.
 abbrev mutual
   pub kept_by : Statement → ℕ
   kept_by (Block r js) = kept_by_items js
@@ -188,6 +188,6 @@ words_of_all (t ∷ ts) = words_of t + words_of_all ts
 abbrev pub kept_words : ℕ
 kept_words = 24
 
--- Returns the frame count of a function. Counters of `for` initializers are not variables, and count no words.
+-- Returns the frame count of a function. Loop counters of array `for` initializers are not variables, and count no words.
 abbrev pub frame_count : Function → ℕ
 frame_count h = kept_words + words_of_all h.parameters + words_of_all h.locals + kept_by_items h.body + items_need h.body

@@ -13,7 +13,7 @@ pub mod Exceptions
 pub mod Regions
 pub mod Step
 pub mod Run
--- Definitions that the laws and the contracts of the compiler add.
+-- Definitions that the laws and the contracts of the compiler use in addition to the semantics.
 pub mod SourceMachine
 pub mod FrameCount
 pub mod Sizes

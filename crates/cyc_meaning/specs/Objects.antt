@@ -53,7 +53,7 @@ abbrev pub live_in : (class : ℕ) → List Object → ℕ
 live_in class [] = 0
 live_in class (x ∷ objects) = if is_live_in class x.owner x.cells then suc (live_in class objects) else live_in class objects
 
--- Returns the pages of all size classes if `live` blocks of one class are live; the pages of a class never decrease.
+-- Returns the number of pages of each size class if `live` blocks of one class are live; the pages of a class never decrease.
 abbrev pub raised : (classes : List ℕ) → (class live : ℕ) → List ℕ
 raised classes class live = set classes class (max (get_or classes class 0) (pages_for class live))
 
@@ -67,7 +67,7 @@ created_in w region (Found r) cells = Found (made_in w region r cells)
 created_in w region Closed cells = Closed
 created_in w region Missing cells = Missing
 
--- Returns the world with a new object of the given owner; the object gets the next number.
+-- Returns the heap state with a new object of the given owner; the object gets the next number.
 abbrev pub created : World → Owner → List Cell → Access World
 created w (InRegion region) cells = created_in w region (region_at w region) cells
 created w (Unique true) cells = Found (made_unique w cells)
@@ -75,6 +75,6 @@ created w (Unique false) cells = Missing
 
 -- ---- freeing
 
--- Frees a unique object: the object keeps its number, its cells and their contents.
+-- Frees a unique object: the object keeps its number, its cells and the values in them.
 abbrev pub freed : World → (number : ℕ) → Object → World
 freed w number x = record w { objects = set w.objects number (record x { owner = Unique false }) }

@@ -13,7 +13,7 @@ use Rattle.cyc_types.specs.declared.typed.LogicalOperator.{LogicalOperator}
 use Rattle.cyc_types.specs.declared.typed.LogicalOperator.TheVariants as logical
 use Rattle.cyc_meaning.specs.Values.{Value, Int, Null, Thin, Fat, Handle, Key}
 
--- The result of a computation: a value, an exception with its tag, or `Wrong` if no case applies.
+-- The result of a computation: a value, an exception with its tag, or `Misfits` if no case applies, which makes the state `Wrong`.
 pub data Result : Type 0 where
   Gives : Value → Result
   Raises : (tag : ℕ) → Result
@@ -92,7 +92,7 @@ unary_result unary.Widen (Int a) = Gives (Int a)
 unary_result unary.LowByte (Int a) = Gives (Int (a % 256))
 unary_result operator value = Misfits
 
--- Returns the kind of a unary operator's result.
+-- Returns the representation kind (int or char) of a unary operator's result.
 abbrev pub unary_kind : UnaryOperator → Kind
 unary_kind unary.Negate = kinds.Int
 unary_kind unary.Not = kinds.Int

@@ -24,11 +24,11 @@ wrong w = Wrong w.output w.input
 abbrev pub ends : Ending → World → State
 ends ending w = Ended ending w.output w.input
 
--- Passes a value to the newest entry of the control stack.
+-- Passes a value to the newest entry (continuation) of the control stack.
 abbrev pub gives : Kind → Value → List Entry → Environment → World → State
 gives kind value stack e w = Running (Given (record { kind = kind; value = value })) stack e w
 
--- Passes a computed value on, or throws the exception of the computation.
+-- Passes a computed value to the newest continuation, or throws the exception of the computation.
 abbrev pub computed : Kind → Result → List Entry → Environment → World → State
 computed kind (Gives value) stack e w = gives kind value stack e w
 computed kind (Raises tag) stack e w = Running (Throwing tag 0) stack e w
@@ -41,7 +41,7 @@ abbrev pub object_of : Environment → Lvalue → Option ℕ
 object_of e (Local place number) = e.locals number
 object_of e (Global number) = Some number
 
--- Reads a cell's content; reading a cell that holds nothing yet is wrong.
+-- Reads the value in a cell; the state becomes wrong if the cell holds nothing yet.
 abbrev pub read : Kind → Option Value → List Entry → Environment → World → State
 read kind (Some value) stack e w = gives kind value stack e w
 read kind None stack e w = wrong w
@@ -69,8 +69,8 @@ abbrev pub stored_at : (place : Value) → Operand → Focus → List Entry → 
 stored_at (Thin object offset) operand focus stack e w = stored (cell_at w object offset) object offset operand focus stack e w
 stored_at place operand focus stack e w = wrong w
 
--- Writes the cells of a new object, or the two cells of a swap, one by one. After the cells are written, a value is passed on, if
--- there is one.
+-- Writes the cells of a new object, or the two cells of a swap, one by one. After the cells are written, a value, if there is
+-- one, is passed to the newest continuation.
 abbrev pub step_writing : List Write → Option Operand → List Entry → Environment → World → State
 step_writing [] (Some operand) stack e w = Running (Given operand) stack e w
 step_writing [] None stack e w = Running Proceeding stack e w
@@ -118,7 +118,7 @@ declared Missing focus number kind content stack e w = wrong w
 
 -- ---- regions that contain variables
 
--- Returns the environment in which the region that is opened next contains the variables.
+-- Returns the environment in which new variables are allocated in the region that is opened next.
 abbrev pub inside : Environment → World → Environment
 inside e w = record e { home = length w.regions }
 

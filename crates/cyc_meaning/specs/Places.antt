@@ -1,5 +1,6 @@
--- The cells that a pointer points to: `*e`, `e->f` and `e[i]`. The pointer is checked when the expression for the cell is evaluated. On
--- the left of `=`, the check happens before the right side is evaluated. The operand of `&` is also checked (this project's own choice).
+-- The cells that a pointer points to: `*e`, `e->f` and `e[i]`. The pointer is checked for null and bounds when the expression for the
+-- cell is evaluated. On the left of `=`, this check happens before the right side is evaluated. The pointer in the operand of `&` is
+-- also checked for null and bounds (this project's own choice).
 use Rattle.std.specs.Prelude.{ℕ, ◌==◌, ◌&&◌, if◌then◌else◌, List, ◌∷◌, map, Option, Some, None, slice_get, true}
 use Rattle.cyc_types.specs.declared.typed.Kind.{Kind}
 use Rattle.cyc_types.specs.declared.typed.Kind.TheVariants as kinds
@@ -23,7 +24,7 @@ abbrev pub follows : (pointer : Kind) → (target : Option Kind) → Operand →
 follows pointer target operand stack e w =
     if is_kind operand.kind pointer && leads_to w target (followed operand.value) then arrives (followed operand.value) stack e w else wrong w
 
--- Returns the cell of `e->f`, the field with the given number, if the object has the kinds of the struct's fields.
+-- Returns the cell of `e->f`, the field with the given index, if the object's cells have the representation kinds of the struct's fields.
 abbrev pub field_of : Option Object → (object offset : ℕ) → (fields : List Kind) → (field : ℕ) → Reach
 field_of None object offset fields field = Nowhere
 field_of (Some x) object offset fields field = if offset == 0 && are_kinds (kinds_of x.cells) fields then At object field else Nowhere

@@ -32,8 +32,8 @@ null_test negated (Thin object offset) = Gives (Int (truth negated))
 null_test negated (Fat object start count index) = Gives (Int (truth negated))
 null_test negated value = Misfits
 
--- Computes a pointer operator's result from the values. Comparing two thin pointers also needs
--- their objects, so their values alone do not decide it.
+-- Computes a pointer operator's result from the values of its operands. Comparing two thin pointers
+-- also needs their objects, so their values alone do not decide the result.
 abbrev pub pointer_result : PointerOperator → (left right : Value) → Result
 pointer_result operators.AddFat left (Int n) = moved (λ index. add_of index n) left
 pointer_result operators.SubtractFat left (Int n) = moved (λ index. sub_of index n) left
@@ -45,7 +45,7 @@ pointer_result operators.NullIs Null right = null_test false right
 pointer_result operators.NullIsNot Null right = null_test true right
 pointer_result operator left right = Misfits
 
--- Returns the kind of a pointer operator's result; the next function tells which kinds its left operand may have.
+-- Returns the representation kind of a pointer operator's result; the next function tells which kinds its left operand may have.
 abbrev pub result_kind : PointerOperator → Kind
 result_kind operators.AddFat = kinds.Fat
 result_kind operators.SubtractFat = kinds.Fat

@@ -14,7 +14,7 @@ abbrev pub is_dynamic : Sort → Bool
 is_dynamic Dynamic = true
 is_dynamic sort = false
 
--- Declares a local with an initial content, and continues with the rest of its block.
+-- Declares a local with an initial value, and continues with the rest of its block.
 abbrev pub step_naming : (number : ℕ) → Operand → Items → List Entry → Environment → World → State
 step_naming number operand items stack e w =
     declared (region_at w e.home) Proceeding number operand.kind (Some operand.value) (Rest items ∷ stack) e w
@@ -38,7 +38,7 @@ abbrev pub opens_dynamic : (number : ℕ) → Items → List Entry → Environme
 opens_dynamic number items stack e w =
     Running (Naming number (record { kind = kinds.Key; value = Key (length w.regions) }) items) stack e (opened_as Dynamic w)
 
--- `open` reads the key of an open region and declares a local as the handle of the region. The key is lent until the end of the block.
+-- `open` reads the key of an open region and declares a local as the handle of the region. The key is borrowed until the end of the block.
 abbrev pub opens_by_key : (number key : ℕ) → Items → List Entry → Environment → World → State
 opens_by_key number key items stack e w = loaded_from kinds.Key (e.locals key) (Needs (OpenBy number key items) ∷ stack) e w
 
@@ -67,7 +67,7 @@ closes_with value stack e w = wrong w
 -- ---- aliases
 
 -- Declares an alias: reads the unique pointer of a local and stores it in another local as well; the first local is
--- lent until the end of the block.
+-- borrowed until the end of the block.
 abbrev pub aliases : (number : ℕ) → Kind → (source : ℕ) → Items → List Entry → Environment → World → State
 aliases number kind source items stack e w = loaded_from kind (e.locals source) (Needs (AliasOf number source items) ∷ stack) e w
 

@@ -8,7 +8,8 @@ use Rattle.cyc_meaning.specs.State.{State, output_of, input_of, status_of}
 use Rattle.cyc_meaning.specs.State as meaning
 use Rattle.cyc_meaning.specs.Run.{limited_step}
 
--- Returns the status of a source run for the machine. A dead access and a state in which no case applies are not ways for a program to end.
+-- Returns the status of a source run as a status of a machine. A dead access and a state in which no case applies are not ways for a
+-- program to end.
 abbrev pub status_in : meaning.Status → Status
 status_in meaning.GoesOn = Running
 status_in (meaning.HasEnded ending) = Ended ending

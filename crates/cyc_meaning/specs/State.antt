@@ -27,7 +27,7 @@ pub data Sort : Type 0 where
 pub record Region : Type 0 where
   pub sort : Sort
   pub is_open : Bool
-  -- The sizes of the blocks allocated in the region, in words and in order. The variables of a region are not blocks.
+  -- The sizes, in words and in order, of the blocks allocated in the region. The variables of a region are not blocks.
   pub blocks : List ℕ
 
 -- The owner of an object: the region whose end frees the object, or the program's unique pointer to the object.
@@ -39,7 +39,8 @@ pub record Object : Type 0 where
   pub owner : Owner
   pub cells : List Cell
 
--- The part of a state that all calls share. Regions and objects are numbered by their positions in the world's lists.
+-- The heap state that all calls share: regions, objects, output and input. Regions and objects are numbered by their
+-- positions in the lists of the heap state.
 pub record World : Type 0 where
   pub regions : List Region
   pub objects : List Object
@@ -101,7 +102,7 @@ cell_at w object offset = cell_in w (slice_get w.objects object) offset
 abbrev pub new_region : Sort → Region
 new_region sort = record { sort = sort; is_open = true; blocks = [] }
 
--- Returns the world with one more region of the given sort; the region gets the next number.
+-- Returns the heap state with one more region of the given sort; the region gets the next number.
 abbrev pub opened_as : Sort → World → World
 opened_as sort w = record w { regions = w.regions ++ new_region sort ∷ [] }
 
@@ -119,11 +120,11 @@ closed w number r = record w { regions = set w.regions number (record r { is_ope
 abbrev pub variable : (region : ℕ) → Kind → Option Value → Object
 variable region kind content = record { owner = InRegion region; cells = record { kind = kind; content = content } ∷ [] }
 
--- Returns the world with one more object, which gets the next number.
+-- Returns the heap state with one more object, which gets the next number.
 abbrev pub made : World → Object → World
 made w x = record w { objects = w.objects ++ x ∷ [] }
 
--- Returns the world with a value written into a cell.
+-- Returns the heap state with a value written into a cell of an object.
 abbrev pub written : World → (object offset : ℕ) → Located → Value → World
 written w object offset at value = record w {
   objects = set w.objects object (record at.object {
@@ -133,9 +134,9 @@ written w object offset at value = record w {
 
 -- ---- calls
 
--- The environment of the running call: the object of each of its locals, the region of the innermost block's variables, and the counter
--- value of each level. A counter of an array initializer is not a variable. If a local is declared again, in another iteration of a
--- loop, it is another object.
+-- The environment of the running call: the object of each of its locals, the region of the innermost block's variables, and the value
+-- of each loop counter. A loop counter of an array initializer is not a variable. If a local is declared again, in another iteration of
+-- a loop, it is another object.
 pub record Environment : Type 0 where
   pub locals : ℕ → Option ℕ
   pub home : ℕ
@@ -157,13 +158,14 @@ with_counter e level index = record e {
 
 -- ---- the control stack
 
--- Continuations that wait for a value, with the operands computed before. If `peek` is a local, then a cell or an operand was reached by
--- peeking at that local. The local must not change while the awaited part is evaluated.
+-- Continuations that wait for a value, with the operands computed before. If `peek` is a local, a cell or an operand was reached by
+-- reading that local's unique pointer without emptying it. A local that was read in this way must not change while the awaited
+-- expression is evaluated.
 pub data Awaiting : Type 0 where
-  -- Converts the awaited value from the kind `from` to the kind `to`; a pointer must point to `target`.
+  -- Converts the awaited value from the representation kind `from` to the kind `to`; a pointer must have the target `target`.
   ConvertTo : (from to : Kind) → (target : Option Kind) → Awaiting
   Operate : UnaryOperator → Awaiting
-  -- The remaining operators of a chain, which wait for the value of the chain's part before them.
+  -- The remaining operators of a chain, which wait for the value of all operators and operands of the chain before them.
   Chain : Operations → Awaiting
   -- Applies an operator to the left operand and the awaited right operand.
   Apply : Operator → (left : Operand) → Awaiting
@@ -175,7 +177,7 @@ pub data Awaiting : Type 0 where
   StoreCell : (peek : Option ℕ) → (place : Value) → Awaiting
   -- Waits for an argument of a call, with the arguments before it (newest first) and those after it.
   Pass : Callee → (before : List Operand) → Arguments → Awaiting
-  -- Waits for the pointer of `*e`, which has the given kind, with its target: a cell of a kind, or a struct.
+  -- Waits for the pointer of `*e`, with its representation kind and its target: a cell of a kind, or a struct.
   Follow : (pointer : Kind) → (target : Option Kind) → Awaiting
   -- Waits for the pointer of `e->f`, with the kinds of the struct's fields and the number of the field.
   FollowMember : (pointer : Kind) → (fields : List Kind) → (field : ℕ) → Awaiting
@@ -189,7 +191,7 @@ pub data Awaiting : Type 0 where
   -- Waits for the handle of the region in which `rnew` allocates.
   PlaceBy : Initial → Awaiting
   -- Waits for an object that `rnew` allocates in a region. The region's handle is kept while the initial value is evaluated; then the
-  -- object's pointer is passed on.
+  -- pointer to the object is passed to the next continuation.
   BesideHandle : (region : ℕ) → Awaiting
   -- Waits for the value of the only cell of a new object of the given kind, which will be allocated for the given owner.
   MakePlain : Owner → Kind → Awaiting
@@ -208,7 +210,7 @@ pub data Awaiting : Type 0 where
   -- Waits for the int of a thrown exception.
   ThrowWith : (tag : ℕ) → Awaiting
   -- Waits for a key or for a unique pointer: a local becomes the handle of the key's region, or an alias of the pointer; the
-  -- local `lent` is lent.
+  -- local `lent` is borrowed.
   OpenBy : (number lent : ℕ) → Items → Awaiting
   AliasOf : (number lent : ℕ) → Items → Awaiting
 
@@ -219,8 +221,8 @@ pub data AwaitingPlace : Type 0 where
   TakeAddress : AwaitingPlace
   -- Waits for the cell on the left side of `=`, followed by the right side.
   StoreTo : (peek : Option ℕ) → Converted → AwaitingPlace
-  -- Waits for one side of a swap of values of the given kind. `SwapLeft` waits for the left side, which the right side follows.
-  -- `SwapRight` waits for the right side, after the left side, which is a cell or a variable.
+  -- Waits for one operand of a swap of values of the given kind. `SwapLeft` waits for the left operand of a swap, which the right operand
+  -- follows. `SwapRight` waits for the right operand of a swap, after the left one, which is a cell or a variable.
   SwapLeft : Kind → (peek : Option ℕ) → (right : Side) → AwaitingPlace
   SwapRight : Kind → (peek : Option ℕ) → (is_cell : Bool) → (left : Value) → AwaitingPlace
 
@@ -235,13 +237,13 @@ pub data Entry : Type 0 where
   Join : Entry
   -- the loop whose body is being executed
   Loop : Expression → Statement → Entry
-  -- Ends a region of variables. After the end of the region, `home` is again the region of the variables.
+  -- Ends a region of variables. After the end of the region, new variables are again declared in the region `home`.
   CloseRegion : (region home : ℕ) → Entry
   -- Ends a lexical region.
   CloseLexical : (region : ℕ) → Entry
-  -- Ends a loan of a local: its unique object, or the region of its key, was lent until the end of the block.
+  -- Ends a borrowing of a local: its unique object, or the region of its key, was borrowed until the end of the block.
   EndLoan : (lent : ℕ) → Entry
-  -- The clauses of the `try` whose body is being executed.
+  -- The catch clauses of the `try` whose body is being executed.
   Handler : Clauses → Entry
   -- Ends a call, after which the caller continues with the saved environment.
   Caller : Environment → Entry
@@ -269,10 +271,10 @@ pub data Focus : Type 0 where
   -- Opens the region of a call, and then declares its parameters from the given number on; the arguments are in order.
   Entering : Function → (arguments : List Operand) → Focus
   Binding : (number : ℕ) → List Ty → (arguments : List Operand) → (body : Items) → Focus
-  -- Declares a local with the given initial content, and continues with the rest of its block.
+  -- Declares a local with the given initial value, and continues with the rest of its block.
   Naming : (number : ℕ) → Operand → Items → Focus
-  -- Writes the cells of a new object, or the two cells of a swap, one by one. After the cells are written, a value is passed on, if there
-  -- is one.
+  -- Writes the cells of a new object, or the two cells of a swap, one by one. After the cells are written, a value, if there is one, is
+  -- passed to the newest continuation.
   Writing : List Write → Option Operand → Focus
   -- Allocates the block of an array of `count` elements, and then evaluates its elements one by one.
   Beginning : Owner → (count level : ℕ) → Kind → (element : Expression) → Focus
@@ -376,7 +378,7 @@ first_regions = new_region Heap ∷ new_region Globals ∷ []
 abbrev pub first_classes : List ℕ
 first_classes = 0 ∷ 0 ∷ 0 ∷ 0 ∷ 0 ∷ 0 ∷ 0 ∷ 0 ∷ 0 ∷ 0 ∷ 0 ∷ []
 
--- Returns the world at the start; each global is the object with the global's number.
+-- Returns the heap state at the start of a run; each global is the object with the global's number.
 abbrev pub first_world : Program → (input : List ℕ) → World
 first_world program input = record {
   regions = first_regions;

@@ -90,12 +90,12 @@ assigned (Some object) (Convert from to a) stack e w =
     Running (Evaluating a) (Needs (ConvertTo from to (target_by a)) ∷ Needs (Store (Thin object 0)) ∷ stack) e w
 assigned None c stack e w = wrong w
 
--- Passes on the address of a variable.
+-- Passes the address of a variable to the newest continuation.
 abbrev pub addressed : Option ℕ → List Entry → Environment → World → State
 addressed (Some object) stack e w = gives kinds.NonNull (Thin object 0) stack e w
 addressed None stack e w = wrong w
 
--- Passes on the counter of an enclosing `for`.
+-- Passes the value of the loop counter of an enclosing array `for` to the newest continuation.
 abbrev pub counts : Option ℕ → List Entry → Environment → World → State
 counts (Some index) stack e w = gives kinds.Int (Int index) stack e w
 counts None stack e w = wrong w
@@ -139,7 +139,7 @@ abbrev pub awaits_right : Bool → Awaiting → (right : Expression) → Operati
 awaits_right true waiting b rest stack e w = Running (Evaluating b) (Needs waiting ∷ Needs (Chain rest) ∷ stack) e w
 awaits_right false waiting b rest stack e w = wrong w
 
--- Continues a chain of operators with the value of the part before.
+-- Continues a chain of operators with the value of the operators and operands before.
 abbrev pub chained : Operations → Operand → List Entry → Environment → World → State
 chained NoOperations left stack e w = Running (Given left) stack e w
 chained (ThenCompute operator b rest) left stack e w =
@@ -151,7 +151,7 @@ chained (ThenPointer operator b rest) left stack e w =
 chained (ThenPointerPeek number operator b rest) left stack e w =
     awaits_right (takes_kind operator left.kind) (ApplyPointer (Some number) operator left) b rest stack e w
 
--- Passes on whether two thin pointers are equal, or, if `negated`, whether they differ.
+-- Passes the result of comparing two thin pointers to the newest continuation: 1 if they are equal, or, if `negated`, 1 if they differ.
 abbrev pub tells : (negated : Bool) → Access Bool → List Entry → Environment → World → State
 tells false (Found equal) stack e w = gives kinds.Int (Int (truth equal)) stack e w
 tells true (Found equal) stack e w = gives kinds.Int (Int (if equal then 0 else 1)) stack e w

@@ -1,5 +1,5 @@
--- Swaps: first the left side is evaluated, then the right one. After both sides of a swap are evaluated, both cells are read, the left
--- one first, and written. (The order of evaluation is this project's own choice.)
+-- Swaps: first the left operand is evaluated, then the right one. After both operands of a swap are evaluated, both cells are read,
+-- the left one first, and written. (The order of evaluation is this project's own choice.)
 use Rattle.std.specs.Prelude.{ℕ, List, [], ◌∷◌, Option, Some, None, if◌then◌else◌, Bool, false}
 use Rattle.cyc_types.specs.declared.typed.Kind.{Kind}
 use Rattle.cyc_types.specs.TypedTrees.{type_of_place, peeked, Side, VariableSide, CellSide}
@@ -7,7 +7,7 @@ use Rattle.cyc_meaning.specs.Values.{Value, Thin, Operand, kind_of, is_kind}
 use Rattle.cyc_meaning.specs.State.{World, Access, Found, Closed, Missing, Located, cell_at, Environment, SwapLeft, SwapRight, Entry, NeedsPlace, Locating, Writing, Swapping, State, Running}
 use Rattle.cyc_meaning.specs.Parts.{dead, wrong, object_of}
 
--- Both sides of a swap are evaluated, and the reads of their cells follow.
+-- Both operands of a swap are evaluated, and the reads of their cells follow.
 abbrev pub both_places : Kind → (left right : Value) → List Entry → Environment → World → State
 both_places kind left right stack e w = Running (Swapping kind left right None) stack e w
 

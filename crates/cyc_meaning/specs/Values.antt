@@ -1,6 +1,6 @@
--- Values, the cells that contain them, and the operands that wait with their kinds. Pointers contain no addresses: a pointer names an
--- object by its number. The kinds of values and the three words of a fat pointer are the Cyclone User's Manual's (1.0); the form is
--- this project's own choice.
+-- Values, the cells that contain them, and the operands (values with their representation kind) that wait for their use. Pointers
+-- contain no addresses: a pointer names an object by its number. The kinds of values and the three words of a fat pointer are the
+-- Cyclone User's Manual's (1.0); the form is this project's own choice.
 use Rattle.std.specs.Prelude.{ℕ, ◌+◌, ◌*◌, ◌/◌, ◌==◌, ◌&&◌, Bool, true, false, max, List, [], ◌∷◌, map, Option, None}
 use Rattle.cyc_types.specs.declared.typed.Kind.{Kind}
 use Rattle.cyc_types.specs.declared.typed.Kind.TheVariants as kinds
@@ -36,7 +36,8 @@ kind_of_mark marks.Nullable = kinds.Nullable
 kind_of_mark marks.NonNull = kinds.NonNull
 kind_of_mark marks.Fat = kinds.Fat
 
--- Returns the kind of a cell of the given type. No cell has a struct type: a struct is a block of cells.
+-- Returns the representation kind (int, char, pointer, ..) of a cell of the given type. No cell has a
+-- struct type: a struct is a block of cells.
 abbrev pub kind_of : Ty → Kind
 kind_of types.Int = kinds.Int
 kind_of types.Char = kinds.Char
@@ -45,7 +46,7 @@ kind_of (types.Handle region) = kinds.Handle
 kind_of (types.Key region) = kinds.Key
 kind_of (types.Struct number regions) = kinds.Int
 
--- Returns the number of a kind; kinds are compared by their numbers.
+-- Returns the number of a representation kind (int, char, pointer, ..); such kinds are compared by their numbers.
 abbrev pub number_of_kind : Kind → ℕ
 number_of_kind kinds.Int = 0
 number_of_kind kinds.Nullable = 1
@@ -81,7 +82,7 @@ words_of_kind kinds.Key = 1
 
 -- ---- cells
 
--- A cell has a fixed kind, and holds a value or nothing yet.
+-- A memory cell has a fixed representation kind (int, char, pointer, ..), and holds a value or nothing yet.
 pub record Cell : Type 0 where
   pub kind : Kind
   pub content : Option Value

@@ -97,8 +97,8 @@ pub fn numbers_stay()
 {}
 
 /// Regions of blocks and lexical regions nest. The regions still to be closed are open, and each was opened before the one nested in it.
-/// Variables are allocated in the region of the innermost block, and no other lexical region is open. A step can be dead only if it
-/// accesses a cell, an object or a region by a value.
+/// Variables are allocated in the region of the innermost block, and no other lexical region is open. A step can be dead (use freed
+/// memory) only if it accesses a cell, an object or a region by a value.
 pub fn regions_nest()
     ensures nest { (program : Program) (input : List ℕ) (count : ℕ) → Nests (run program input count) }
     ensures dies { (program : Program) (input : List ℕ) (count : ℕ) (focus : Focus) (stack : List Entry) (e : Environment) (w : World)
@@ -133,8 +133,8 @@ pub fn uncaught_ends()
         → run program input (count + suc (length stack)) ≡ state.Ended (Uncaught tag (signed value)) w.output w.input }
 {}
 
-/// The effect of each kind of step on the demand for pages. Only opening, closing and allocating change the demand, by the pages of
-/// one region or of the size classes of unique blocks.
+/// The effect of each kind of step on the number of pages in use. Only opening and closing regions and allocating objects change
+/// this number, by the pages of one region or of the size classes of unique blocks.
 pub fn demand_is_counted()
     ensures { (w new : World) (printed : List ℕ) (count : ℕ) (change : Changes w printed count new) → DemandChanges change }
 {}

@@ -1,4 +1,5 @@
--- This file is about cells of live objects: their bytes can be read and represent their contents, and a cell can be written.
+-- This file is about cells of live objects: their bytes can be read and represent the values stored in the cells, and a cell
+-- can be written.
 use Rattle.std.proofs.Common.{◌≡◌, ℕ, zero, suc, ◌+◌, ◌*◌, ◌/◌, ◌%◌, ◌<◌, ◌≤◌, max, Bool, true, false, List, [], ◌∷◌, length, set, Option, None, Some, is_some, refl, sym, ap, subst, ◌∙◌, inl, inr, arith, length-set}
 use Rattle.std.specs.Prelude.{◌==◌, ◌≢◌, ◌⊎◌, if◌then◌else◌, ◌&&◌, slice_get}
 use Rattle.std.proofs.lemmas.Bool.{cases_Bool, cases_lt, cond-false}
@@ -54,7 +55,7 @@ module _ {t : Tables} {w : World} {s : StoreState} (related : Related t w s) whe
         cc)
   ]
 
-  -- A live object is either an object of the store or a variable.
+  -- A live object is either an object of the heap store or the object of a variable.
   pub live-either : (o : ℕ) (x : Object) → slice_get w.objects o ≡ Some x → is_live w x.owner ≡ true → ((h : ℕ) × Alive t w o h x) ⊎ LiveVariable t w o x
   live-either o x there live = elim (live-lies x.owner live) [
     | inl (h, lies) ↦ inl (h, record { at = there; lies = lies })
@@ -68,13 +69,13 @@ module _ {t : Tables} {w : World} {s : StoreState} (related : Related t w s) whe
       let (there, cell) = cell_found w o k at found in
       (live-either o at.object there (is-live-found o k at.object at found there), cell)
 
-  -- a live variable whose row states an address lies outside the store
+  -- a live variable whose row in the table of objects states an address lies outside the heap store
   pub variable-outside : (o a : ℕ) (ks : List Kind) (x : Object) → LiveVariable t w o x → slice_get t.rows o ≡ Some (Placed a ks) → IsOutside a ks
   variable-outside o a ks x v placed =
       let (row, at, outside) = related.variables o v.region x v.at v.owner v.entry in
       subst IsOfVariable (same_from_some (sym at ∙ placed)) outside
 
-  -- The address of an element of an array part, computed from the size of the element's cell.
+  -- The address of an element of the part of an array to which a fat pointer points, computed from the size of the element's cell.
   pub element-found : {o start n p : ℕ} (i : ℕ) (at : Located) (part : IsPartOf t o start n p) → i < n → cell_at w o (start + i) ≡ Found at
       → Points t o (start + i) (p + i * bytes_of_kind at.cell.kind)
   element-found {o} {start} i at part below found =
@@ -83,7 +84,7 @@ module _ {t : Tables} {w : World} {s : StoreState} (related : Related t w s) whe
       (ap (λ ks. slice_get ks (start + i)) (related.shapes o part.address part.kinds at.object there part.row)
       ∙ slice_get-map (λ (z : Cell). z.kind) at.object.cells (start + i) at.cell cell)
 
-  -- A variable without an address is not a live object of the store.
+  -- A variable without an address is not a live object of the heap store.
   pub variable-alone : (o h : ℕ) (x : Object) → slice_get t.rows o ≡ Some Variable → Alive t w o h x → ⊥
   variable-alone o h x row alive = let st : Stands t (homes s) s.memory h o x.cells = related.objects o h x alive in not-placed row st.row
 
@@ -136,7 +137,7 @@ module _ (t : Tables) where
 abbrev pub size_of : List Kind → ℕ
 size_of ks = max 1 (words_for (bytes_from 0 ks))
 
--- Replacing an object by another object with equal owner and size keeps the class of the object.
+-- Replacing an object by another object with equal owner and size keeps the size class of the object.
 class-same : (class : ℕ) (owner : Owner) (cells others : List Cell) → block_size cells ≡ block_size others
     → is_live_in class owner cells ≡ is_live_in class owner others
 class-same class (InRegion n) cells others same = refl
@@ -183,7 +184,7 @@ module _ {t : Tables} {w : World} {s : StoreState} (related : Related t w s) {o 
   pub cell-aligned : IsAligned c.kind p
   cell-aligned = subst (IsAligned c.kind) (sym place) (before-aligned stands.address k (kinds_of x.cells) c.kind aligned kind-there)
 
-  -- The bytes of a cell of the store lie in the store's address range.
+  -- The bytes of a cell of the heap store lie in the address range of this store.
   pub cell-inside : (j : ℕ) → j < bytes_of_kind c.kind → (STORE_BASE ≤ p + j) × (p + j < STORE_BASE + 4 * (PAGE_WORDS * MOST_PAGES))
   cell-inside j below =
       let placed = related.sound.regions.placed h stands.address block stands.found in
@@ -204,7 +205,7 @@ module _ {t : Tables} {w : World} {s : StoreState} (related : Related t w s) {o 
       subst (λ n. word_at s n ≡ Some (s.memory n)) (sym word)
       (word-live s related.sound h stands.address ((before k (kinds_of x.cells) + j) / 4) block stands.found (omega (arith, below, bound)))
 
-  -- The bytes of a cell represent the cell's content.
+  -- The bytes of a cell represent the value stored in the cell.
   pub cell-read : IsContent t c.kind c.content s.memory p
   cell-read = subst (IsContent t c.kind c.content s.memory) (sym place) (cell-among t x.cells s.memory stands.address 0 k c stands.holds at)
 
@@ -245,7 +246,7 @@ module _ {t : Tables} {w : World} {s : StoreState} (related : Related t w s) {o 
       | inr other ↦ inr (other.0, record { at = other.1; lies = beside.lies })
     ]
 
-    -- An object that is live after a write was live before it, with an equal table row.
+    -- An object that is live after a write was live before it, with an equal row in the table of objects.
     was : (i g : ℕ) (y : Object) → Alive t (written w o k (record { object = x; cell = c }) v) i g y → (z : Object) × Alive t w i g z
     was i g y beside = elim (before-written i g y beside) [
       | inl here ↦ (
@@ -284,7 +285,7 @@ module _ {t : Tables} {w : World} {s : StoreState} (related : Related t w s) {o 
               (λ b least less. others b (apart i g b y beside st away (omega (arith, least)) (omega (arith, less, enough)))) st.holds;
         }
 
-    -- Writing a cell preserves the relation if memory outside the cell is unchanged.
+    -- Writing a cell preserves the relation between the source's heap state and the heap store if memory outside the cell is unchanged.
     pub related-written : Related t (written w o k (record { object = x; cell = c }) v) (record s { memory = m })
     related-written = record {
       sound = record {

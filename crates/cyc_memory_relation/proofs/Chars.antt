@@ -66,7 +66,7 @@ module _ (t : Tables) where
   char-loaded (Int byte) m a is = (is, subst (λ w. w < 256) is (byte_at-small m a))
   char-loaded v m a is = absurd is
 
-  -- Storing the word of a char as a byte makes the char the content of the cell.
+  -- Storing the word of a char as a byte makes the char the value stored in the cell.
   pub char-stored : (v : Value) (words : ℕ → ℕ) (p : ℕ) (m : Memory) (a : ℕ) → Is t kinds.Char v words p → Holds t kinds.Char v (put_byte m a (words p)) a
   char-stored (Int byte) words p m a is = put_byte-same m a (words p) (subst (λ w. w < 256) (sym is.0) is.1) ∙ is.0
   char-stored v words p m a is = absurd is

@@ -1,5 +1,5 @@
--- This file is about leaving several lexical regions. The source closes them one by one, newest first, and the store closes
--- all of them at once, until a given number stays open.
+-- This file is about leaving several lexical regions. The source closes them one by one, newest first, and the heap store
+-- closes all of them at once, until a given number stays open.
 use Rattle.std.proofs.Common.{◌≡◌, ℕ, zero, suc, ◌+◌, ◌*◌, ◌≤◌, Bool, true, false, List, [], ◌∷◌, set, Option, None, Some, refl, sym, ap, subst, ◌∙◌, inl, inr, arith}
 use Rattle.std.specs.Prelude.{◌≢◌, nat_le, if◌then◌else◌, slice_get}
 use Rattle.std.proofs.lemmas.Bool.{cases_Bool, cond-true, cond-false, le-leb}
@@ -116,7 +116,7 @@ newest-rest q rs n newest i z there scope = let bound : suc i ≤ suc n = newest
 newest-none : (q : Region) (rs : List Region) → IsNewest (q ∷ rs) 0 → (i : ℕ) (z : Region) → slice_get rs i ≡ Some z → is_scope z.sort z.is_open ≡ true → ⊥
 newest-none q rs newest i z there scope = let bound : suc i ≤ 0 = newest (suc i) z there scope in omega (arith, bound)
 
--- Closing until one lexical region less is open is closing the newest region by its handle.
+-- Closing lexical regions until one fewer is open equals closing the newest region by its handle.
 down-newest : {hs : List (Option ℕ)} {rs : List Region} {os : List Home} → Regions hs rs os → AreDistinct handle_of os → (n g m : ℕ) (r : Region)
     → slice_get rs n ≡ Some r → is_scope r.sort r.is_open ≡ true → slice_get hs n ≡ Some (Some g) → IsNewest rs n → lexical_count os ≡ suc m
     → without handle_of os g ≡ down_to m os
@@ -157,12 +157,12 @@ down-newest (taken {handle = h} {r = q} {home = o} {regions = rs} {open_homes = 
 
 -- ---- the store closed so far
 
--- Before the source closes a region, the store as it is corresponds to the source's world.
+-- Before the source closes a region, the heap store as it is corresponds to the source's heap state.
 pub related-unclosed : {t : Tables} {w : World} {s : StoreState} → Related t w s → Related t w (closed_to s (scopes w.regions))
 related-unclosed {t} {w} {s} related =
     subst (λ l. Related t w (record s { regions = l })) (sym (ap (λ n. down_to n s.regions) (sym (scopes-same related.regions)) ∙ down-all s.regions)) related
 
--- The source closes its newest lexical region, and the store still has this region.
+-- The source closes its newest lexical region while the heap store still has this region.
 pub closed-following : {t : Tables} {w : World} (s : StoreState) (m n : ℕ) (r : Region) → Related t w (closed_to s (suc m)) → scopes w.regions ≡ suc m
     → slice_get w.regions n ≡ Some r → is_scope r.sort r.is_open ≡ true → IsNewest w.regions n → Related t (closed w n r) (closed_to s m)
 closed-following {t} {w} s m n r related count there scope newest =
@@ -182,7 +182,7 @@ closed-following {t} {w} s m n r related count there scope newest =
     (subst (λ l. IsSound (record s { regions = l })) (down_to-lower m (suc m) s.regions (omega arith) ∙ sym same) after)
     (record { sound = related.sound; after = related.sound.words; words = λ h a b here stays j below. refl }))
 
--- The store closes the regions that the source has already closed.
+-- The heap store closes the regions that the source has already closed.
 pub closed-at_once : {t : Tables} {w : World} {s : StoreState} (mark : ℕ) (c : Choice) → IsSound s → Related t w (closed_to s mark)
     → refusal s (CloseTo mark) ≡ None → IsAllowed s (CloseTo mark) c → Related t w (served s (CloseTo mark) c)
 closed-at_once {t} {w} {s} mark c sound related none allowed = record {
@@ -222,6 +222,6 @@ closed-at_once {t} {w} {s} mark c sound related none allowed = record {
           (after.regions.apart h a (b.address + 4 * j) b there inside);
     }
 
--- The store accepts a request to close regions if at most as many stay open as are open lexical regions.
+-- The heap store accepts a request to close lexical regions if at most as many are to stay open as are open.
 pub refusal-close_to : (s : StoreState) (mark : ℕ) → mark ≤ lexical_count s.regions → refusal s (CloseTo mark) ≡ None
 refusal-close_to s mark bound = cond-true (nat_le mark (lexical_count s.regions)) None (Some BadMark) (le-leb mark (lexical_count s.regions) bound)

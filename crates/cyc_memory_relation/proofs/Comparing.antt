@@ -61,7 +61,7 @@ module _ {t : Tables} {w : World} {s : StoreState} (related : Related t w s) whe
 
   -- ---- variables
 
-  -- a pointer to an object of the store is in the store's address range
+  -- a pointer to an object of the heap store is in the address range of this store
   pub pointer-inside : {o h k p : ℕ} {x : Object} → Alive t w o h x → Points t o k p → (STORE_BASE ≤ p) × (p < STORE_BASE + 4 * (PAGE_WORDS * MOST_PAGES))
   pointer-inside {o} {h} {k} {p} {x} alive points =
       let st : Stands t (homes s) s.memory h o x.cells = related.objects o h x alive in
@@ -77,7 +77,7 @@ module _ {t : Tables} {w : World} {s : StoreState} (related : Related t w s) whe
       let most : s.pages ≤ 65536 = related.few in
       (omega (arith, low, at, same), omega (arith, high, most, at, same, short, some, enough))
 
-  -- A pointer to a variable is outside the store's address range.
+  -- A pointer to a variable is outside the address range of the heap store.
   pub pointer-outside : {o k p : ℕ} {x : Object} → LiveVariable t w o x → Points t o k p → (p < STORE_BASE) ⊎ (STORE_BASE + 4 * (PAGE_WORDS * MOST_PAGES) ≤ p)
   pointer-outside {o} {k} {p} {x} variable points =
       let (kind, there) = slice_get_below points.kinds k points.inside in
@@ -119,7 +119,7 @@ module _ {t : Tables} {w : World} {s : StoreState} (related : Related t w s) whe
         ]
   ]
 
-  -- An object that is found is an object of the store, or a variable.
+  -- An object that is found is an object of the heap store, or the object of a variable.
   pub object-lives : (o : ℕ) (x : Object) → object_at w o ≡ Found x → Lives o x
   object-lives o x found = let (there, live) = live-found o x found in live-either related o x there live
 

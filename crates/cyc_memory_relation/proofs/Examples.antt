@@ -1,5 +1,6 @@
--- This file has examples: a stale pointer and a new one may be the same word. A block is freed, or its region is closed, and the store
--- reuses the address and the handle. The relation holds before and after, by the lemmas on each request to the store.
+-- This file has examples: a stale pointer and a new one may be the same word. A block is freed, or its region is closed, and the heap
+-- store reuses the address and the handle. The relation between the source's heap state and the heap store holds before and after, by
+-- the lemmas on each request to the store.
 use Rattle.std.proofs.Common.{◌≡◌, ℕ, ◌+◌, ◌^◌, ◌<◌, ◌≤◌, length, true, false, List, [], ◌∷◌, None, Some, refl, ap, arith, inr}
 use Rattle.std.specs.Prelude.{◌==◌, if◌then◌else◌, slice_get}
 use Rattle.cyc_words.proofs.Options.{never_none_and_some}
@@ -19,7 +20,7 @@ use Rattle.cyc_memory_relation.proofs.Making.{allocated-unique}
 use Rattle.cyc_memory_relation.proofs.Services.{freed-unique}
 use Rattle.cyc_memory_relation.proofs.Variables.{declared, opened-variables}
 
--- The tables before the first object, with only the heap, and a store with three empty pages.
+-- The tables of objects and regions before the first object, with only the heap region, and a heap store with three empty pages.
 abbrev no_tables : Tables
 no_tables = record { rows = []; handles = Some HEAP ∷ [] }
 
@@ -30,7 +31,7 @@ cells = blank kinds.Int ∷ []
 abbrev empty : World
 empty = record { regions = new_region Heap ∷ []; objects = []; classes = first_classes; output = []; input = [] }
 
--- In the examples, each word is 0, and each block is allocated at the store's first address.
+-- In the examples, each word is 0, and each block is allocated at the heap store's first address.
 abbrev choice : Choice
 choice = record { handle = 3; address = STORE_BASE; memory = λ (x : ℕ). 0 }
 
@@ -88,7 +89,7 @@ new-related = record {
   alone = λ o i h g a x y ks ls first second row also. absurd (never_none_and_some refl first.at);
 }
 
--- No object is live, so every choice of the store is allowed and no word must be kept.
+-- No object is live, so every choice of the heap store is allowed and no word must be kept.
 may-make : IsAllowed new (Allocate UNIQUE 1) choice
 may-make = record {
   may = (placed, λ x inside. refl);
@@ -132,7 +133,7 @@ stale-pointer = points-to 0 refl
 live-pointer : Is both kinds.NonNull (Thin 1 0) (λ k. STORE_BASE) 0
 live-pointer = points-to 1 refl
 
--- An access by the stale pointer is dead, and an access by the new pointer finds its cell.
+-- An access through the stale pointer finds no live object, and an access through the new pointer finds its cell.
 stale-is_dead : cell_at other 0 0 ≡ Closed
 stale-is_dead = refl
 
@@ -166,7 +167,7 @@ stale-handle = refl
 live-handle : Is two_handles kinds.Handle (Handle 2) (λ k. 3) 0
 live-handle = refl
 
--- Objects of the closed region lie in no region of the store, and objects of the new region lie in the new region.
+-- Objects of the closed region lie in no region of the heap store, and objects of the new region lie in the new region.
 stale-lies_nowhere : lies_in two_handles.handles (opened_as Lexical region_gone).regions (InRegion 1) ≡ None
 stale-lies_nowhere = refl
 
@@ -232,7 +233,8 @@ not-following points =
 
 -- ---- a variable whose address is taken
 
--- The world in which the region of a block is open; below it, an int variable of this region has the address of its slot.
+-- The heap state in which the region of a block is open. In the next definitions, an int variable of this region has the
+-- address of its slot.
 abbrev in_block : World
 in_block = opened_as Stack empty
 
@@ -282,6 +284,6 @@ char-related =
 char-byte : byte_at (λ (x : ℕ). if x == slot_address then 65 else 0) (slot_address + 3) ≡ 65
 char-byte = refl
 
--- A variable is not an object of the store.
+-- A variable is not an object of the heap store.
 variable-lies_nowhere : lies_in with_variable.handles declared_there.regions (InRegion 1) ≡ None
 variable-lies_nowhere = refl

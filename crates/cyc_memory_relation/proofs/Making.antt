@@ -1,5 +1,5 @@
--- This file is about new objects, in a region or unique: their cells are blank, and they lie in the block that the store chose. The
--- pages that the source needs decide if the store is full.
+-- This file is about new objects, in a region or unique: their cells are blank, and they lie in the block that the heap store
+-- chose. The pages that the source needs decide if the store is out of pages.
 use Rattle.std.proofs.Common.{◌≡◌, ℕ, zero, suc, ◌+◌, ◌*◌, ◌^◌, ◌<◌, ◌≤◌, Bool, true, false, List, [], ◌∷◌, ◌++◌, length, set, None, Some, is_some, refl, sym, ap, subst, ◌∙◌, inl, inr, arith, length-set}
 use Rattle.std.specs.Prelude.{◌≢◌, ◌⊎◌, nat_lt, if◌then◌else◌, slice_get}
 use Rattle.std.proofs.lemmas.List.{length_push}
@@ -39,7 +39,7 @@ use Rattle.cyc_memory_relation.proofs.Serving.{block-made_in, block-made_unique,
 
 -- ---- sizes
 
--- A block that the store places lies in the range of addresses.
+-- A block that the heap store places lies in the address range of the store.
 pub placed-range : (pages : ℕ) (b : Block) (ks : List Kind) → IsPlaced pages b → pages ≤ MOST_PAGES → bytes_of_kinds ks ≤ 4 * b.size → InRange b.address ks
 placed-range pages b ks placed few fits = record {
   low = let low : 536870912 ≤ b.address = placed.low in omega (arith, low);
@@ -78,7 +78,7 @@ either-order true false n = refl
 either-order false true n = refl
 either-order false false n = refl
 
--- The number of live objects of a class after one more object is added at the end.
+-- The number of live objects of a size class after one more object is added at the end.
 pub live-last : (class : ℕ) (xs : List Object) (x : Object)
     → live_in class (xs ++ x ∷ []) ≡ (if is_live_in class x.owner x.cells then suc (live_in class xs) else live_in class xs)
 live-last class [] x = refl
@@ -210,7 +210,7 @@ handle-other {t} {w} {s} related n g r there kept entry =
     let found : lookup handle_of s.regions g ≡ Some is.home = subst (λ h. lookup handle_of s.regions h ≡ Some is.home) (same_from_some_some is.entry entry) is.there in
     (λ e. never_none_and_some (subst (λ h. lookup handle_of s.regions h ≡ None) (sym e) related.sound.regions.handles.0) found, (is.home, found))
 
--- An open region that has a handle is one of the store's regions.
+-- An open region that has a handle is one of the heap store's regions.
 pub open-home : {t : Tables} {w : World} {s : StoreState} → Related t w s → (n g : ℕ) (r : Region) → region_at w n ≡ Found r
     → slice_get t.handles n ≡ Some (Some g) → (slice_get w.regions n ≡ Some r) × (has_home r ≡ true)
 open-home {t} {w} related n g r found entry =
@@ -235,7 +235,7 @@ module _ {t : Tables} {w : World} {s : StoreState} (related : Related t w s) (n 
       (room-in g (block_size cells) other)
       (Regions-made related.regions related.sound.regions.handles.1 n g r (block_of g (block_size cells) c) there kept entry)
 
-  -- Allocating an object in a region preserves the relation.
+  -- Allocating an object in a region preserves the relation between the source's heap state and the heap store.
   pub allocated : (c : Choice) → AreBlank cells → refusal s (Allocate g (block_size cells)) ≡ None → IsAllowed s (Allocate g (block_size cells)) c
       → Related (with_row t (Placed c.address (kinds_of cells))) (source.made_in w n r cells) (served s (Allocate g (block_size cells)) c)
   allocated c blank none allowed =
@@ -257,7 +257,7 @@ module _ {t : Tables} {w : World} {s : StoreState} (related : Related t w s) (n 
       related.classes
       (λ class. related.uniques class ∙ sym (live-last class w.objects (record { owner = InRegion n; cells = cells }))))
 
-  -- The condition under which the store refuses an allocation.
+  -- The condition under which the heap store refuses an allocation.
   pub refusal-allocate : is_size (block_size cells) ≡ true
       → refusal s (Allocate g (block_size cells)) ≡ full_at (nat_lt s.pages (pages_of (source.made_in w n r cells)))
   refusal-allocate sized =
@@ -298,7 +298,7 @@ module _ {t : Tables} {w : World} {s : StoreState} (related : Related t w s) (ce
       ∙ (ap (λ m. stores.raised s.classes (class_of_cells cells) (suc m)) (related.uniques (class_of_cells cells))
       ∙ ap (λ l. raised l (class_of_cells cells) (suc (live_in (class_of_cells cells) w.objects))) related.classes)
 
-  -- Allocating a unique object preserves the relation.
+  -- Allocating a unique object preserves the relation between the source's heap state and the heap store.
   pub allocated-unique : (c : Choice) → AreBlank cells → block_size cells ≤ page_words → refusal s (Allocate UNIQUE (block_size cells)) ≡ None
       → IsAllowed s (Allocate UNIQUE (block_size cells)) c
       → Related (with_row t (Placed c.address (kinds_of cells))) (source.made_unique w cells) (served s (Allocate UNIQUE (block_size cells)) c)

@@ -61,8 +61,7 @@ module _ {t : Tables} where
 
   -- ---- conversions between pointers
 
-  -- If the index of a fat pointer is in bounds, then the address of the cell at the index is the
-  -- sum of the part's address and the bytes before the cell.
+  -- If the index of a fat pointer is in bounds, then the cell's address is the pointer's address plus the bytes before this cell.
   pub thinned : {o start n w : ℕ} (i : ℕ) (part : IsPartOf t o start n w) → i < n → Points t o (start + i) (w + i * bytes_of_kind part.kind)
   thinned {o} {start} {n} {w} i part below = record {
     address = part.address;
@@ -85,7 +84,7 @@ module _ {t : Tables} where
   fat-to_cell {o} {start} {n} {w} i kind part below there =
       subst (λ k. Points t o (start + i) (w + i * bytes_of_kind k)) (same_from_some (sym (part.even i below) ∙ there)) (thinned i part below)
 
-  -- A thin pointer describes a part of one cell.
+  -- A thin pointer gives access to one cell, like a fat pointer of length 1.
   pub part-of-cell : {o k w : ℕ} → Points t o k w → IsPartOf t o k 1 w
   part-of-cell {o} {k} p =
       let (kind, there) = slice_get_below p.kinds k p.inside in
@@ -127,7 +126,7 @@ module _ {t : Tables} where
     at = sym (first-at a (kind ∷ ks));
   }
 
-  -- The address of an array describes the part that has all cells of the array.
+  -- The address of an array gives access to all cells of the array.
   pub whole-part : (o a count : ℕ) (kind : Kind) → slice_get t.rows o ≡ Some (Placed a (kinds_of (blanks count kind)))
       → InRange a (kinds_of (blanks count kind)) → IsPartOf t o 0 count a
   whole-part o a count kind row range = record {
@@ -200,7 +199,7 @@ module _ (t : Tables) where
   to_fat kind u v n w q (thin_cell o k p) e same many last =
       subst (λ x. Is t kinds.Fat x n q) (same_value e) (subst (IsPartOf t o k 1) (sym same) (part-of-cell p), many ∙ when_other w 0 0 1 (not-null p), last)
 
-  -- Converting a thin pointer to a fat pointer yields a part of one cell (of none for null) and the index 0.
+  -- Converting a thin pointer to a fat pointer yields a pointer to one cell (to none for null) with the index 0.
   pub thin-to_fat : (from : Kind) (v u : Value) (m n : ℕ → ℕ) (p q : ℕ) → is_thin from ≡ true → Is t from v m p → conversion kinds.Fat v ≡ Gives u
       → n q ≡ m p → n (q + 1) ≡ (if m p == 0 then 0 else 1) → n (q + 2) ≡ 0 → Is t kinds.Fat u n q
   thin-to_fat from v u m n p q thin is e same many last = to_fat from u v n (m p) q (thin-is from v m p thin is) e same many last
@@ -211,8 +210,8 @@ module _ (t : Tables) where
     fat_null : word ≡ 0 → count ≡ 0 → FatIs word count index Null
     fat_part : (object start : ℕ) → IsPartOf t object start count word → FatIs word count index (Fat object start count index)
 
-  -- The first two words of a fat null pointer are 0; the words of any other fat pointer are the address of its part, the
-  -- length and the index.
+  -- The first two words of a fat null pointer are 0. The words of any other fat pointer are the address of the first
+  -- cell that it can access, the length and the index.
   pub fat-is : (v : Value) (m : ℕ → ℕ) (p : ℕ) → Is t kinds.Fat v m p → FatIs (m p) (m (p + 1)) (m (p + 2)) v
   fat-is Null m p is = fat_null is.0 is.1
   fat-is (Fat o start n i) m p is =

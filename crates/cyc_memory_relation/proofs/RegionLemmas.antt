@@ -1,5 +1,5 @@
--- This file is about the correspondence between the source's regions and the store's regions. It shows which parts are kept when a
--- region opens, closes or gets a block.
+-- This file is about the correspondence between the source's regions and the heap store's regions. It shows which facts about the
+-- correspondence are kept when a region opens, closes or gets a block.
 use Rattle.std.proofs.Common.{◌≡◌, ℕ, zero, suc, ◌<◌, Bool, true, false, List, [], ◌∷◌, ◌++◌, length, set, Option, None, Some, is_some, refl, sym, ap, subst, ◌∙◌, inl, inr}
 use Rattle.std.specs.Prelude.{◌≢◌, if◌then◌else◌, slice_get}
 use Rattle.std.proofs.lemmas.List.{map-append}
@@ -17,7 +17,7 @@ use Rattle.cyc_memory_relation.specs.inside.Related.{sort_of, has_home, Matches,
 
 -- ---- sorts
 
--- A region of variables is never one of the store's regions.
+-- A region of variables is never one of the heap store's regions.
 pub no-sort-no-pages : (sort : Sort) (flag : Bool) → is_some (sort_of sort) ≡ false → has_pages sort flag ≡ false
 no-sort-no-pages Heap flag none = absurd (let e : true ≡ false = none in cc)
 no-sort-no-pages Globals flag none = refl
@@ -25,7 +25,7 @@ no-sort-no-pages Stack flag none = refl
 no-sort-no-pages Lexical flag none = absurd (let e : true ≡ false = none in cc)
 no-sort-no-pages Dynamic flag none = absurd (let e : true ≡ false = none in cc)
 
--- A region that is not of variables is one of the store's regions while it is open.
+-- A region that is not of variables is one of the heap store's regions while it is open.
 pub sort-some : (sort : Sort) → is_some (sort_of sort) ≡ true → has_pages sort true ≡ true
 sort-some Heap some = refl
 sort-some Globals some = absurd (let e : false ≡ true = some in cc)
@@ -49,7 +49,7 @@ handles-length no_regions = refl
 handles-length (passed out entry empty rest) = ap suc (handles-length rest)
 handles-length (taken m rest) = ap suc (handles-length rest)
 
--- A region of the store has or had a handle, and a region of variables has no handle.
+-- A region of the heap store has or had a handle, and a region of variables has no handle.
 pub entry-found : {hs : List (Option ℕ)} {rs : List Region} {os : List Home} → Regions hs rs os → (n : ℕ) (r : Region) → slice_get rs n ≡ Some r
     → (h : Option ℕ) × (slice_get hs n ≡ Some h) × (is_some h ≡ is_some (sort_of r.sort))
 entry-found no_regions n r found = absurd (let e : None ≡ Some r = found in cc)
@@ -67,7 +67,7 @@ variables-empty (passed out some empty rest) (suc n) r entry found = variables-e
 variables-empty (taken {handle = h} m rest) zero r entry found = absurd (let e : Some h ≡ None = same_from_some entry in cc)
 variables-empty (taken m rest) (suc n) r entry found = variables-empty rest n r entry found
 
--- The store's region that corresponds to a source region.
+-- The heap store's region that corresponds to a source region.
 pub record HasHome (hs : List (Option ℕ)) (os : List Home) (n : ℕ) (r : Region) : Type 0 where
   pub handle : ℕ
   pub home : Home
@@ -99,7 +99,7 @@ home-found (taken {home = o} {open_homes = os} m rest) distinct (suc n) r found 
       matches = is.matches;
     }
 
--- The first of the store's regions has a different handle from each later region.
+-- The first of the heap store's regions has a different handle from each later region.
 pub first-other : {hs : List (Option ℕ)} {rs : List Region} {os : List Home} (o : Home) → Regions hs rs os → AreDistinct handle_of (o ∷ os) → (n g : ℕ) (r : Region)
     → slice_get rs n ≡ Some r → has_home r ≡ true → slice_get hs n ≡ Some (Some g) → o.handle ≢ g
 first-other {os = os} o regions distinct n g r found kept entry e =
@@ -132,7 +132,7 @@ Regions-opened h sort is same no_regions =
 Regions-opened h sort is same (passed out entry empty rest) = passed out entry empty (Regions-opened h sort is same rest)
 Regions-opened h sort is same (taken m rest) = taken m (Regions-opened h sort is same rest)
 
--- Opening a region of variables preserves the correspondence of regions.
+-- Opening a region of variables preserves the correspondence between the source's regions and the heap store's regions.
 pub Regions-variables : {hs : List (Option ℕ)} {rs : List Region} {os : List Home} (sort : Sort) → sort_of sort ≡ None → Regions hs rs os
     → Regions (hs ++ None ∷ []) (rs ++ new_region sort ∷ []) os
 Regions-variables sort none no_regions =
@@ -227,7 +227,7 @@ module _ (hs : List (Option ℕ)) where
         ]
   ]
 
-  -- If a region changes and stays an open region of the store or stops being one, then objects of other regions lie where they lay.
+  -- If a region changes, and stays an open store region or stops being one, then the objects of other regions stay in their store regions.
   pub lies-set : (rs : List Region) (n h : ℕ) (q r : Region) (owner : Owner) → slice_get rs n ≡ Some r → (has_home q ≡ true → has_home r ≡ true)
       → lies_in hs (set rs n q) owner ≡ Some h → lies_in hs rs owner ≡ Some h
   lies-set rs n h q r (InRegion i) there only lies =
@@ -240,7 +240,7 @@ module _ (hs : List (Option ℕ)) where
   lies-set rs n h q r (Unique true) there only lies = lies
   lies-set rs n h q r (Unique false) there only lies = lies
 
--- Adding one region and one table entry does not change where objects lie.
+-- Adding one region, with its entry in the table of handles, does not change in which store regions objects lie.
 pub lies-last : (hs : List (Option ℕ)) (rs : List Region) (e : Option ℕ) (q : Region) (h : ℕ) (owner : Owner) → length hs ≡ length rs → Within (length rs) owner
     → lies_in (hs ++ e ∷ []) (rs ++ q ∷ []) owner ≡ Some h → lies_in hs rs owner ≡ Some h
 lies-last hs rs e q h (InRegion n) equal within lies =

@@ -1,5 +1,5 @@
--- The open lexical regions are exactly those that stack entries will close. Lexical regions can therefore be counted on the stack, the
--- innermost one is the newest, and their number is bounded.
+-- The open lexical regions are exactly those that continuation frames will close. Lexical regions can therefore be counted on the
+-- control stack, the innermost one is the newest, and their number is bounded.
 use Rattle.std.proofs.Common.{◌≡◌, ℕ, suc, ◌≤◌, Bool, true, false, List, [], ◌∷◌, length, set, Option, None, Some, refl, sym, ap, ◌∙◌, inl, inr, arith}
 use Rattle.std.specs.Prelude.{slice_get}
 use Rattle.std.proofs.lemmas.Bool.{cases_lt, cond-true}
@@ -29,11 +29,11 @@ scopes-are (CloseLexical region ∷ stack) regions bound (less, below) are =
 scopes-are (CloseRegion region home ∷ stack) regions bound (less, below) are = scopes-are stack regions region below are
 scopes-are (entry ∷ stack) regions bound below are = scopes-are stack regions bound below are
 
--- The number of open lexical regions is the number of stack entries that close one.
+-- The number of open lexical regions is the number of continuation frames that close one.
 pub scopes-counted : (stack : List Entry) (e : Environment) (w : World) → IsNested stack e w → scopes w.regions ≡ length (lexicals_of stack)
 scopes-counted stack e w (found, below, home, are) = scopes-are stack w.regions (length w.regions) below are
 
--- The lexical region that the newest stack entry closes.
+-- The lexical region that the newest continuation frame closes.
 pub record Ends (w : World) (number : ℕ) : Type 0 where
   pub region : Region
   pub there : slice_get w.regions number ≡ Some region
@@ -68,6 +68,6 @@ ends-newest number stack e w (found, (less, below), home, are) =
 
 -- ---- the number of open lexical regions
 
--- Each region of a store has at least one page, so a store has at most as many lexical regions as pages.
+-- Each region of a heap store has at least one page, so a heap store has at most as many lexical regions as pages.
 pub lexicals-within : (s : StoreState) → IsSound s → lexical_count s.regions ≤ s.pages
 lexicals-within s sound = omega (arith, lexical-few s.regions, regions-few s.regions s.classes, sound.demand)

@@ -1,5 +1,5 @@
--- This file is about opening and closing regions of the store, and about freeing unique objects. A dead block or handle is never used
--- again, so the store may reuse it.
+-- This file is about opening and closing regions of the heap store, and about freeing unique objects. The program never uses a dead
+-- block or handle again, so the heap store may reuse it.
 use Rattle.std.proofs.Common.{◌≡◌, ℕ, zero, suc, Bool, true, false, List, [], ◌∷◌, ◌++◌, length, set, None, Some, is_some, refl, sym, ap, subst, ◌∙◌, inl, inr, length-set}
 use Rattle.std.specs.Prelude.{◌==◌, ◌≢◌, nat_lt, if◌then◌else◌, slice_get}
 use Rattle.std.proofs.lemmas.Bool.{cases_eq, cond-true}
@@ -76,7 +76,7 @@ module _ {t : Tables} {w : World} {s : StoreState} (related : Related t w s) whe
       ap (λ l. demand_of l s.classes) (sym (counted-same (Regions-opened 0 sort is same related.regions)))
       ∙ ap (demand_of (counted (w.regions ++ new_region sort ∷ []))) related.classes
 
-  -- the condition under which the store refuses to open a lexical region
+  -- the condition under which the heap store refuses to open a lexical region
   pub refusal-lexical : refusal s OpenLexical ≡ full_at (nat_lt s.pages (pages_of (opened_as Lexical w)))
   refusal-lexical = ap (λ n. full_at (nat_lt s.pages n)) (demand-opened Lexical stores.Lexical refl)
 
@@ -124,7 +124,7 @@ module _ {t : Tables} {w : World} {s : StoreState} (related : Related t w s) whe
         lies = lies-set t.handles w.regions n h (shut r) r y.owner there (λ e. absurd (never_true_and_false e ends)) alive.lies;
       }
 
-  -- The store accepts the request to close an open dynamic region by its handle.
+  -- The heap store accepts the request to close an open dynamic region by its handle.
   pub refusal-close : (n g : ℕ) (r : Region) → slice_get w.regions n ≡ Some r → has_home r ≡ true → r.sort ≡ Dynamic → slice_get t.handles n ≡ Some (Some g)
       → refusal s (CloseDynamic g) ≡ None
   refusal-close n g r there kept dynamic entry =
@@ -143,7 +143,7 @@ module _ {t : Tables} {w : World} {s : StoreState} (related : Related t w s) whe
 
 -- ---- freeing a unique object
 
--- Removing a block reduces the count of blocks in the block's class by one.
+-- Removing a block reduces the count of blocks in the block's size class by one.
 live-without : (class : ℕ) (bs : List Block) (a : ℕ) (b : Block) → AreDistinct address_of bs → lookup address_of bs a ≡ Some b
     → stores.live_in class bs ≡ (if class_of b.size == class then suc (stores.live_in class (without address_of bs a)) else stores.live_in class (without address_of bs a))
 live-without class [] a b distinct found = absurd (let e : None ≡ Some b = found in cc)
@@ -163,7 +163,7 @@ live-without class (d ∷ bs) a b distinct found = elim (cases_eq d.address a) [
       (sym (when_other d.address a (without address_of bs a) (d ∷ without address_of bs a) other)))
 ]
 
--- Freeing an object reduces the count of live objects in the object's class by one.
+-- Freeing an object reduces the count of live objects in the object's size class by one.
 live-freed : (class : ℕ) (xs : List Object) (o : ℕ) (x y : Object) → slice_get xs o ≡ Some x → is_live_in class y.owner y.cells ≡ false
     → live_in class xs ≡ (if is_live_in class x.owner x.cells then suc (live_in class (set xs o y)) else live_in class (set xs o y))
 live-freed class [] o x y there gone = absurd (let e : None ≡ Some x = there in cc)
@@ -191,7 +191,7 @@ module _ {t : Tables} {w : World} {s : StoreState} (related : Related t w s) (o 
       (sym (ap (λ q. block_in q st.address) (lookup-here handle_of (record { handle = UNIQUE; sort = stores.Uniques; blocks = s.unique }) s.regions UNIQUE refl))
       ∙ st.found)
 
-  -- The store accepts the request to free the block of a live unique object.
+  -- The heap store accepts the request to free the block of a live unique object.
   pub refusal-free : refusal s (Free a) ≡ None
   refusal-free = cond-true (is_some (lookup address_of s.unique a)) None (Some NotABlock) (ap (λ q. is_some q) unique-found)
 

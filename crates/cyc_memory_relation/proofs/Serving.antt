@@ -1,5 +1,5 @@
--- This file is about the effect of a request to the store: live blocks are found as before and keep their
--- words, so objects keep their addresses.
+-- This file is about the effect of a request to the heap store: live blocks are found as before and keep
+-- their words, so objects keep their addresses.
 use Rattle.std.proofs.Common.{◌≡◌, ℕ, ◌+◌, ◌-◌, ◌*◌, ◌/◌, ◌%◌, ◌<◌, ◌≤◌, true, List, [], ◌∷◌, ◌++◌, Option, None, Some, refl, sym, ap, subst, ◌∙◌, inl, inr, arith}
 use Rattle.std.specs.Prelude.{◌≢◌, slice_get}
 use Rattle.std.proofs.lemmas.Bool.{cases_eq}
@@ -20,7 +20,7 @@ use Rattle.cyc_memory_relation.proofs.Values.{AreCells-grows, AreCells-same}
 
 -- ---- lookups of live blocks
 
--- The unique blocks of the store, as a region.
+-- The unique blocks of the heap store, as a region.
 abbrev pub unique_home : List Block → Home
 unique_home blocks = record { handle = UNIQUE; sort = Uniques; blocks = blocks }
 
@@ -48,7 +48,7 @@ block-changed rs g c h a b at =
       | inr other ↦ ap (λ o. block_in o a) (lookup-changed_other handle_of (with_block c) (λ q. refl) rs g h other ∙ there) ∙ found
     ]
 
--- Lookups in the unique region and in the other regions find the same blocks after either changed.
+-- Lookups in the unique region and in the other regions find the same blocks after the unique region or the others have changed.
 block-split : (us vs : List Block) (rs qs : List Home) (h a : ℕ) (b : Block)
     → (UNIQUE ≡ h → lookup address_of us a ≡ Some b → lookup address_of vs a ≡ Some b)
     → ((UNIQUE ≡ h → ⊥) → block_at rs h a ≡ Some b → block_at qs h a ≡ Some b)
@@ -134,7 +134,7 @@ module _ {t u : Tables} {s r : StoreState} (grows : Grows t u) (stay : WordsStay
           (stay.words h st.address (record { address = st.address; size = room h (block_size cells) }) st.found there ((x - st.address) / 4)
           (omega (arith, least, less, enough))))
 
--- If each object that is live afterwards was live before, and its block is still found, then the objects keep their addresses.
+-- The objects keep their addresses if each object that is live after a request was live before it, and its block is still found.
 module _ {t u : Tables} {w v : World} {s r : StoreState} (related : Related t w s) (grows : Grows t u) (stay : WordsStay s r)
     (before : (o h : ℕ) (x : Object) → Alive u v o h x → Alive t w o h x)
     (stays : (o h a : ℕ) (ks : List Kind) (x : Object) (b : Block) → Alive u v o h x → slice_get t.rows o ≡ Some (Placed a ks)
@@ -145,7 +145,7 @@ module _ {t u : Tables} {w v : World} {s r : StoreState} (related : Related t w 
       Stands-served grows stay h o x.cells st
       (stays o h st.address (kinds_of x.cells) x (record { address = st.address; size = room h (block_size x.cells) }) alive st.row st.found)
 
-  -- The table row of an object that is live afterwards was already in the table before.
+  -- If an object is live after a request to the heap store, then its row was already in the table of objects before the request.
   old-row : (o h a : ℕ) (ks : List Kind) (x : Object) → Alive u v o h x → slice_get u.rows o ≡ Some (Placed a ks) → slice_get t.rows o ≡ Some (Placed a ks)
   old-row o h a ks x alive row =
       let st : Stands t (homes s) s.memory h o x.cells = related.objects o h x (before o h x alive) in

@@ -1,4 +1,4 @@
--- This file is about the start of a run: the program's globals are variables, and a new store contains the heap.
+-- This file is about the start of a run: the program's globals are variables, and a new heap store contains the heap region.
 use Rattle.std.proofs.Common.{◌≡◌, ℕ, ◌≤◌, List, [], ◌∷◌, map, Some, refl, sym, ap, subst, ◌∙◌, arith}
 use Rattle.std.specs.Prelude.{slice_get}
 use Rattle.std.proofs.lemmas.List.{length-map}

@@ -1,4 +1,4 @@
--- This file is about variables and their regions: declarations, assignments, opening and closing leave the store unchanged.
+-- This file is about variables and their regions: declarations, assignments, opening and closing leave the heap store unchanged.
 use Rattle.std.proofs.Common.{◌≡◌, ℕ, ◌+◌, ◌<◌, Bool, true, false, List, [], ◌∷◌, ◌++◌, length, set, Option, None, Some, refl, sym, ap, subst, ◌∙◌, inl, inr, arith, length-set}
 use Rattle.std.specs.Prelude.{slice_get}
 use Rattle.std.proofs.lemmas.List.{length_push}
@@ -31,11 +31,11 @@ pub within-more : (rs : List Region) (q : Region) (owner : Owner) → Within (le
 within-more rs q (InRegion n) within = let e : length (rs ++ q ∷ []) ≡ length rs + 1 = length_push rs q in omega (arith, within, e)
 within-more rs q (Unique live) within = tt
 
--- The table entry of the region that opens next is found under the number of this region.
+-- The entry that the table of handles gets for the next opened region is found under the index of this region.
 pub handle-made : {t : Tables} {w : World} {s : StoreState} → Related t w s → (h : Option ℕ) → slice_get (with_handle t h).handles (length w.regions) ≡ Some h
 handle-made {t} related h = subst (λ n. slice_get (t.handles ++ h ∷ []) n ≡ Some h) (handles-length related.regions) (slice_get_last t.handles h)
 
--- The region of an existing object was already in the table before a region is added.
+-- The region of an existing object was already in the table of handles before another region is added.
 pub entry-older : {t : Tables} {w : World} {s : StoreState} → Related t w s → (e : Option ℕ) (o n : ℕ) (y : Object) → slice_get w.objects o ≡ Some y
     → y.owner ≡ InRegion n → slice_get (t.handles ++ e ∷ []) n ≡ Some None → slice_get t.handles n ≡ Some None
 entry-older {t} {w} related e o n y at owner entry =
@@ -89,7 +89,7 @@ module _ {t : Tables} {w : World} {s : StoreState} (related : Related t w s) whe
 
   -- ---- assigning a variable
 
-  -- The relation is preserved when any object outside the store is assigned.
+  -- The relation between the source's heap state and the heap store is preserved when any object outside the store is assigned.
   pub assigned-away : (o k : ℕ) (x : Object) (c : Cell) (v : Value) → slice_get w.objects o ≡ Some x → slice_get x.cells k ≡ Some c
       → ((h : ℕ) → Alive t w o h x → ⊥) → Related t (written w o k (record { object = x; cell = c }) v) s
   assigned-away o k x c v there at away = record {

@@ -29,7 +29,7 @@ ghost use Rattle.cyc_memory_relation.specs.inside.Related.{has_home, IsOfVariabl
 ghost use Rattle.cyc_memory_relation.specs.inside.Related.{scopes, IsNewest, closed_to};
 
 /// The relation between words and values is preserved when further objects are created and regions opened. It also holds for equal words at
-/// another position.
+/// another index.
 pub fn words_stay_values()
     ensures grows { (t u : Tables) (kind : Kind) (v : Value) (words : ℕ → ℕ) (place : ℕ) → Grows t u → Is t kind v words place → Is u kind v words place }
     ensures same { (t : Tables) (kind : Kind) (v : Value) (words others : ℕ → ℕ) (place other : ℕ)
@@ -64,10 +64,10 @@ pub fn chars_convert()
         → others other ≡ words place → Is t kinds.Int u others other }
 {}
 
-/// A char in a cell is a byte. A byte that is loaded from a cell is the word of its char, and the word of a char, stored as a byte, is the
-/// content of the cell. A char in a variable is the last byte of the word of the variable. The word of a variable that holds a char is
-/// below 256, so its last byte is the whole word. After a byte is stored in the last byte of a word below 256, the word is equal to that
-/// byte.
+/// A char in a cell is a byte. A byte that is loaded from a cell is the word of its char. If the word of a char is stored as a byte, then
+/// the char becomes the value stored in the cell. A char in a variable is the last byte of the word of the variable. The word of a
+/// variable that holds a char is below 256, so its last byte is the whole word. After a byte is stored in the last byte of a word below
+/// 256, the word is equal to that byte.
 pub fn chars_are_bytes()
     ensures loaded { (t : Tables) (v : Value) (m : Memory) (address : ℕ) → Holds t kinds.Char v m address → Is t kinds.Char v (λ j. byte_at m address) 0 }
     ensures stored { (t : Tables) (v : Value) (words : ℕ → ℕ) (place : ℕ) (m : Memory) (address : ℕ) → Is t kinds.Char v words place
@@ -94,16 +94,17 @@ pub fn pointers_compare()
         → compared w u v ≡ Found equal → equal ≡ (words place == others other) }
 {}
 
-/// At the start of a run the globals are variables, which are outside the store if their addresses are taken, and the store
-/// contains the heap.
+/// At the start of a run the globals are variables, which are outside the heap store if their addresses are taken. The heap
+/// store contains the heap region.
 pub fn starts_related()
     ensures { (program : Program) (globals : List Row) (input : List ℕ) (pages : ℕ) (memory : Memory) → AreGlobals program globals → AreWords memory
         → 1 ≤ pages → pages ≤ MOST_PAGES → Related (first_tables globals) (first_world program input) (start pages memory) }
 {}
 
-/// A cell that the source finds belongs to an object of the store, or to a variable. If a pointer points to a cell of the store, then
-/// each word with bytes of the cell can be read, and these bytes represent the cell's content. For a fat pointer, the cell is found by
-/// its offset in bytes. Writing a cell of the store preserves the relation if all other bytes of memory are unchanged.
+/// A cell that the source finds belongs to an object of the heap store, or to a variable. If a pointer points to a cell of the store,
+/// then each word with bytes of the cell can be read. The bytes of a cell of the store represent the value stored in the cell. For a
+/// fat pointer, the cell is found by its offset in bytes. Writing a cell of the store preserves the relation between source and store
+/// if all other bytes of memory are unchanged.
 pub fn cells_are_read_and_written()
     ensures either { (t : Tables) (w : World) (s : StoreState) (object offset : ℕ) (at : Located) → Related t w s → cell_at w object offset ≡ Found at
         → ((handle : ℕ) × Alive t w object handle at.object) ⊎ LiveVariable t w object at.object }
@@ -121,8 +122,8 @@ pub fn cells_are_read_and_written()
         → Holds t at.cell.kind v m word → Related t (written w object offset at v) (record s { memory = m }) }
 {}
 
-/// A new object has blank cells and lies in the block that the store chose, for every choice. The address of the block is the pointer to
-/// the object.
+/// A new object has blank cells and lies in the block that the heap store chose, for every choice. The address of the block is the
+/// pointer to the object.
 pub fn objects_are_made()
     ensures home { (t : Tables) (w : World) (s : StoreState) (number handle : ℕ) (r : Region) → Related t w s → region_at w number ≡ Found r
         → slice_get t.handles number ≡ Some (Some handle) → (slice_get w.regions number ≡ Some r) × (has_home r ≡ true) }
@@ -141,8 +142,8 @@ pub fn objects_are_made()
         → IsPartOf (with_row t (Placed c.address (kinds_of (blanks count kind)))) (length w.objects) 0 count c.address }
 {}
 
-/// The store is full exactly if the number of pages that the source needs afterwards exceeds the store's pages; the
-/// store refuses a request for no other reason.
+/// The heap store is out of pages exactly if the number of pages that the source needs afterwards exceeds the
+/// store's pages; the store refuses a request for no other reason.
 pub fn refusals_go_by_demand()
     ensures region { (t : Tables) (w : World) (s : StoreState) (number handle : ℕ) (r : Region) (cells : List Cell) → Related t w s
         → slice_get w.regions number ≡ Some r → has_home r ≡ true → slice_get t.handles number ≡ Some (Some handle) → is_size (block_size cells) ≡ true
@@ -155,7 +156,7 @@ pub fn refusals_go_by_demand()
         → refusal s OpenDynamic ≡ full_at (nat_lt s.pages (pages_of (opened_as Dynamic w))) }
 {}
 
-/// Declaring and assigning variables, and opening and closing their regions, does not change the store.
+/// Declaring and assigning variables, and opening and closing their regions, does not change the heap store.
 pub fn variables_leave_the_store()
     ensures declared { (t : Tables) (w : World) (s : StoreState) (number : ℕ) (r : Region) (kind : Kind) (content : Option Value) (row : Row) → Related t w s
         → slice_get w.regions number ≡ Some r → slice_get t.handles number ≡ Some None
@@ -168,7 +169,7 @@ pub fn variables_leave_the_store()
         → slice_get w.regions number ≡ Some r → slice_get t.handles number ≡ Some None → Related t (closed w number r) s }
 {}
 
-/// Freeing a unique object frees its block, which the store knows.
+/// Freeing a unique object frees its block, which is one of the heap store's blocks.
 pub fn unique_objects_are_freed()
     ensures knows { (t : Tables) (w : World) (s : StoreState) (number address : ℕ) (x : Object) (ks : List Kind) → Related t w s
         → slice_get w.objects number ≡ Some x → x.owner ≡ Unique true → slice_get t.rows number ≡ Some (Placed address ks)
@@ -178,7 +179,7 @@ pub fn unique_objects_are_freed()
         → IsAllowed s (Free address) c → Related t (freed w number x) (served s (Free address) c) }
 {}
 
-/// Regions of the store open and close with the corresponding regions of the source.
+/// Regions of the heap store open and close with the corresponding regions of the source.
 pub fn regions_open_and_close()
     ensures lexical { (t : Tables) (w : World) (s : StoreState) (c : Choice) → Related t w s → refusal s OpenLexical ≡ None → IsAllowed s OpenLexical c
         → Related (with_handle t (Some c.handle)) (opened_as Lexical w) (served s OpenLexical c) }
@@ -192,9 +193,9 @@ pub fn regions_open_and_close()
         → IsAllowed s (CloseDynamic handle) c → Related t (closed w number r) (served s (CloseDynamic handle) c) }
 {}
 
-/// When several lexical regions are left, the source closes one in each step, newest first. The store closes all of these regions at the
-/// end by one call, which says how many regions stay open. In a run, the open lexical regions are exactly those that stack entries will
-/// close. The newest of these stack entries closes the newest region.
+/// When several lexical regions are left, the source closes one in each step, newest first. The heap store closes all of these regions
+/// at the end by one call, which says how many regions stay open. In a run, the open lexical regions are exactly those that continuation
+/// frames will close. The newest of these continuation frames closes the newest region.
 pub fn regions_close_at_once()
     ensures begins { (t : Tables) (w : World) (s : StoreState) → Related t w s → Related t w (closed_to s (scopes w.regions)) }
     ensures following { (t : Tables) (w : World) (s : StoreState) (mark number : ℕ) (r : Region) → Related t w (closed_to s (suc mark))

@@ -6,7 +6,7 @@
 //! bodies share the signatures, so after a fault in a signature no further fault is reported, except that a missing or invalid `main` is
 //! replaced.
 //!
-//! If a text has no tokens or no syntax tree, `cyc_rendering` reports the faults after the first one.
+//! If a text has no tokens or no syntax tree, the crate `cyc_rendering` reports the faults after the first one.
 
 use crate::reported::explained;
 use cyc_check::check;
@@ -21,8 +21,8 @@ use cyc_words::{Code, Fault, Span};
 use std::alloc::{AllocError, Global};
 use std::mem::{ManuallyDrop, replace};
 
-/// The factor of a bound on the tokens of signatures that are read again, since all signatures are read for each further fault of types.
-/// The bound is this factor times the number of tokens of the text, plus `MOST_MORE`.
+/// The factor of a bound on how many tokens of function signatures are read again: each further type fault requires reading all
+/// signatures. The bound is this factor times the number of tokens of the text, plus `MOST_MORE`.
 const MOST_TIMES: usize = 4;
 
 const MOST_MORE: usize = 4000;
@@ -57,7 +57,7 @@ fn count_of_declarations(tokens: &[Token], declarations: &[Declaration]) -> usiz
     count
 }
 
-/// Returns the most faults of types that are searched for after the first one.
+/// Returns the largest number of further type faults that are searched for after the first one.
 fn most_by_types(alloc: Global, text: &[u8], declarations: &[Declaration]) -> Result<usize, Fault> {
     let tokens = ManuallyDrop::new(lex(alloc, text)?);
     let heads = count_of_declarations(&tokens, declarations);
@@ -102,7 +102,7 @@ fn body_at(declarations: &[Declaration], fault: Fault) -> Option<usize> {
     None
 }
 
-/// Returns the index of the function whose name is at the position of a fault.
+/// Returns the index of the function whose name is at the source position of a fault.
 fn function_named_at(declarations: &[Declaration], fault: Fault) -> Option<usize> {
     for (n, declaration) in declarations.iter().enumerate() {
         if let Declaration::Function { name, .. } = declaration {
@@ -127,8 +127,8 @@ impl Mended {
         })
     }
 
-    /// Returns the items that replace the body of a function. The replacing items throw an
-    /// exception, so no path reaches the end of the body, and they need no result.
+    /// Returns the statements that replace the body of a function. They throw an exception, so no
+    /// path reaches the end of the body, and they need no result.
     fn thrown(&self, span: Span) -> Result<Vec<Item>, AllocError> {
         let mut items = Vec::new(self.alloc);
         items.push(Item::Statement {
@@ -144,7 +144,7 @@ impl Mended {
         Ok(items)
     }
 
-    /// Replaces the items of a declaration's body, if it has one, and returns the old ones.
+    /// Replaces the declarations and statements of a function's body, if the declaration has a body, and returns the old ones.
     fn swap_body(&mut self, declaration: usize, items: Vec<Item>) -> Option<Vec<Item>> {
         match self.tree.declarations.get_mut(declaration) {
             Some(Declaration::Function { body, .. }) => Some(replace(&mut body.items, items)),

@@ -13,7 +13,7 @@ pub fn explained(fault: Fault, explanation: Option<Explanation>) -> Refusal {
     }
 }
 
-/// Returns the name of the function with a result whose end can be reached, if the fault is of this kind.
+/// If the fault is that the end of a function with a result can be reached, returns the name of this function.
 fn ended_in(alloc: Global, text: &[u8], fault: Fault) -> Option<Vec<u8>> {
     let tree = tree_of(alloc, text).ok()?;
     name_of_ended(alloc, text, &tree, fault)

@@ -1,2 +1,2 @@
--- Operands and new objects of the code, in the form that the typing rules use.
+-- The specification's form of the operands and new objects that the code builds, as the typing rules use them.
 pub mod Operands

@@ -15,7 +15,7 @@ pub struct Found {
     pub region: Region,
 }
 
-/// Returns the type of the content of a memory location, such as a side of a swap.
+/// Returns the type of the value stored in a memory location, such as an operand of a swap.
 pub fn type_of_side(side: &Side) -> &Ty
     ensures { view_ty result.now ≡ type_of_side (view_side side.now) }
 {

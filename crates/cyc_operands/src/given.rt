@@ -32,7 +32,7 @@ pub enum Given<'a> {
     Value(&'a Ty),
 }
 
-/// Returns the type of the content of a memory location that a pointer points to.
+/// Returns the type of the value stored in a memory location that a pointer points to.
 pub fn type_of_place(place: &typed::Dereference) -> &Ty
     ensures { view_ty result.now ≡ type_of_place (view_dereference place.now) }
 {
@@ -252,7 +252,7 @@ impl<'a> Given<'a> {
         }
     }
 
-    /// Returns the kind of a pointer value, which states for example if the pointer is fat.
+    /// Returns the pointer kind (nullable, non-null or fat) of a pointer value.
     pub fn pointer_kind(self) -> Kind
         ensures { result ≡ kind_of (value_of (view_given self.entry)) }
     {
@@ -264,7 +264,7 @@ impl<'a> Given<'a> {
         }
     }
 
-    /// Returns the kind of a memory cell that can hold the value.
+    /// Returns the representation kind (int, pointer, handle, ..) of a memory cell that can hold the value.
     pub fn kind(self) -> Kind
         ensures { result ≡ kind_of_value (view_given self.entry) }
     {

@@ -1,4 +1,4 @@
-//! The initial content of new objects.
+//! The initial values of new objects.
 ghost use Rattle.std.specs.Prelude.{Ok};
 ghost use Rattle.cyc_types.specs.TypedTreeView.{view_initial};
 ghost use Rattle.cyc_scope.specs.inside.Code.{Gives};
@@ -9,7 +9,7 @@ use cyc_types::Ty;
 use cyc_types::typed::Initial;
 use std::alloc::Global;
 
-/// The content of a new object, its type, the kind of the pointer to it, and the checked requirements on them.
+/// The initial value of a new object, the object's type, the kind of the pointer to it, and the checked requirements on them.
 #[derive(Drop)]
 pub struct Made {
     pub settled: Settled,
@@ -18,7 +18,7 @@ pub struct Made {
     pub mark: PointerKind,
 }
 
-/// Returns the content of a new object in a box.
+/// Returns the initial value of a new object in a box.
 #[inline(never)]
 pub fn boxed_initial(alloc: Global, initial: Initial) -> Result<Box<Initial>, Stop>
     ensures { Gives (λ b. view_initial b.value) result (Ok (view_initial initial)) }

@@ -185,7 +185,7 @@ pub(crate) fn target_of(of_type: &Ty) -> Result<Ty, AllocError>
     }
 }
 
-/// Returns the number of a struct; for any other type 0.
+/// Returns the index of the struct that a type names; for any other type 0.
 pub fn struct_of(of_type: &Ty) -> usize
     ensures { result ≡ struct_of (view_ty of_type.now) }
 {
@@ -215,7 +215,7 @@ fn kind_of_mark(kind: PointerKind) -> Kind
     }
 }
 
-/// Returns the kind of a memory cell of the given type. No cell has a struct type.
+/// Returns the representation kind (int, pointer, handle, ..) of a memory cell of the given type. No cell has a struct type.
 pub fn kind_of(of_type: &Ty) -> Kind
     ensures { result ≡ kind_of (view_ty of_type.now) }
 {

@@ -1,5 +1,5 @@
 -- A pool of pages, together with the data kept beside it, represents a page table. The representation is kept when a page is taken and
--- when all pages are renumbered; the lemmas concern functions of the page.
+-- when all pages are renumbered. In the lemmas the data of pages are functions from page numbers.
 use Rattle.std.proofs.Common.{◌≡◌, ℕ, ◌<◌, true, false, List, [], ◌∷◌, length, refl, sym, ap, subst, ◌∙◌, inl, inr}
 use Rattle.std.specs.Prelude.{◌==◌, if◌then◌else◌}
 use Rattle.std.specs.List.{AllByRecursion}
@@ -42,7 +42,7 @@ rest-no_root r is (inr (inr dynamic)) = clash (sym is ∙ dynamic) where
 
 -- ---- an unchanged region
 
--- Says that one row of a page table has the same links as another.
+-- Says that one row of a page table has the same next page, newest page and number of pages as another row.
 pub record LinksAs (new old : Row) : Type 0 where
   pub next : new.next ≡ old.next
   pub newest : new.newest ≡ old.newest

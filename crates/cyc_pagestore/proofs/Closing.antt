@@ -141,7 +141,7 @@ module _ (b : Backing) (next : ℕ) (rows : List Row) (first : ℕ) (order : Lis
       let second : (p ≡ root → ⊥) = λ e. other (ap b.owner e ∙ own.owner) in
       reach-same b.serial b.owner b.fill closed.serial closed.owner closed.fill p refl (at-other b.serial root s p second) (at-other b.serial root s (b.owner p) other) (at-other b.fill root 0 p second)
 
-  -- A page that a region owned, but that is outside the region's chain, has no live words.
+  -- A page whose owner is a region, but which is not in the region's chain of pages, has no live words.
   outside-none : (p : ℕ) → p < b.pages → (IsOneOf region.chain p → ⊥) → b.owner p ≡ root → reach_of b p ≡ 0
   outside-none p below never owner = elim (is.held p below) [
     | inl none ↦ none

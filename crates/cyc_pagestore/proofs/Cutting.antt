@@ -1,5 +1,5 @@
--- The store may split a page into slots, and allocate a unique block in a slot or free it. Each of these operations keeps the invariant of
--- a store on a page table over a pool.
+-- The store may split a page into slots, and allocate a unique block in a slot or free it. Splitting a page, and allocating or freeing a
+-- unique block, keep the invariant of a store on a page table over a pool.
 use Rattle.std.proofs.Common.{◌≡◌, ℕ, ◌+◌, ◌*◌, ◌/◌, ◌^◌, ◌<◌, ◌≤◌, Bool, true, false, List, ◌∷◌, length, length-set, set, Some, sym, ap, subst, ◌∙◌}
 use Rattle.std.specs.Prelude.{slice_index_or}
 use Rattle.cyc_words.specs.Demand.{greatest_class, class_of}
@@ -31,7 +31,7 @@ module _ (x : TableState) (lexicals : List ℕ) (classes : List ClassSlots) (b :
   abbrev held : StoreState
   held = store_of x.most x.words b
 
-  -- The table has as many words and marks as its pages contain.
+  -- The table has as many words, and as many marks of live words, as its pages contain.
   pub words-all : length x.words ≡ 1024 * x.most
   words-all = words-count x lexicals classes b s ∙ ap (λ n. 1024 * n) s.whole
 

@@ -68,7 +68,7 @@ module _ (b : Backing) (next : ℕ) (row : ℕ → Row) (first : ℕ) (order : L
     filled-new : reach_of filled newest ≡ v
     filled-new = reach-by_serial b.serial b.owner filled.fill newest (newest-member.serial ∙ ap b.serial (sym newest-member.owner)) ∙ at-same b.fill newest v newest refl
 
-    -- Filling the newest page leaves its row unchanged except for the fill mark.
+    -- Filling the newest page leaves its row unchanged except for the fill mark (the end of its filled words).
     part : {A : Type 0} (of : Row → A) → of new_row ≡ of (row newest) → (p : ℕ) → of (with_at row newest new_row p) ≡ of (row p)
     part of e p = elim (cases_eq p newest) [
       | inl same ↦ ap of (at-same row newest new_row p same) ∙ e ∙ ap (λ q. of (row q)) (sym same)

@@ -34,7 +34,7 @@ spots-set of spots page x there = fun_ext (λ q. elim (cases_eq q page) [
   | inr other ↦ ap of (get_or-set_other spots page q x no_spot other) ∙ sym (at-other (λ n. of (spot_at spots n)) page (of x) q other)
 ])
 
--- Writing one fill mark changes the number of filled words of one page.
+-- Writing one fill mark (the end of a page's filled words) changes the number of filled words of one page.
 fill-set : (fills : List ℕ) (page mark filled : ℕ) → page < length fills → mark - 1024 * page ≡ filled
     → ◌≡◌ {A = ℕ → ℕ} (λ q. filled_by (set fills page mark) q) (with_at (λ (q : ℕ). filled_by fills q) page filled)
 fill-set fills page mark filled there is = fun_ext (λ q. elim (cases_eq q page) [
@@ -331,7 +331,7 @@ module _ (p : PoolState) (pages : ℕ) (spots : List Spot) (next : ℕ) (l : Lin
     pub root-head : IsHead p.chains root
     root-head = let region = is.backs.root root there is_root in (region.rest, region.head)
 
-    -- If the fill mark of a region's newest page is set, the pool still represents the page table.
+    -- If the fill mark (the end of the filled words) of a region's newest page is set, the pool still represents the page table.
     module _ (v : ℕ) where
       abbrev p-filled : PoolState
       p-filled = record p { fills = set p.fills newest (1024 * newest + v) }

@@ -1,5 +1,5 @@
 -- Each call keeps the invariant of a store on a page table over a pool, and its result satisfies the store relation. The proofs use a table
--- in memory whose reads equal those of the pool.
+-- in memory that gives the same results when read as the pool's table.
 use Rattle.std.proofs.Common.{◌≡◌, ℕ, zero, suc, ◌+◌, ◌*◌, ◌/◌, ◌%◌, ◌<◌, ◌≤◌, Bool, true, List, [], ◌∷◌, ◌++◌, length, length-set, set, Some, refl, sym, ap, subst, ◌∙◌, inl, inr, arith}
 use Rattle.std.specs.Prelude.{Option, is_some, slice_index_or}
 use Rattle.std.proofs.lemmas.List.{get_or_default}

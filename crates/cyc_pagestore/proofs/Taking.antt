@@ -1,5 +1,5 @@
--- For each state of a pool, some page table in memory has equal reads. If a free page is taken, some such table in memory has the taken
--- page as its first free page.
+-- For each state of a pool, some page table in memory gives the same results when read. If a free page is taken, some such table in
+-- memory has the taken page as its first free page.
 use Rattle.std.proofs.Common.{◌≡◌, ℕ, suc, ◌+◌, ◌-◌, ◌*◌, ◌^◌, ◌<◌, ◌≤◌, false, List, [], ◌∷◌, ◌++◌, length, refl, sym, ap, subst, ◌∙◌, inl, inr, arith}
 use Rattle.std.specs.Prelude.{Some, slice_index, slice_index_or}
 use Rattle.std.specs.Global.{Vec}
@@ -30,7 +30,7 @@ use Rattle.cyc_pagestore.proofs.Rows.{removed-out, fronted-apart, relinked-lengt
 
 -- ---- a table in memory whose reads equal those of the pool
 
--- Returns a `Vec` like a given one, but with other items.
+-- Returns a `Vec` like a given one, but with other elements.
 abbrev pub with_items : {X Y : Type 0} → Vec X → (items : List Y) → length items < 2 ^ 63 → Vec Y
 with_items v items small = record { ptr = v.ptr; len = length items; cap = length items; alloc = v.alloc; items = items; ok = (refl, le (length items)); small = small }
   where
@@ -81,7 +81,7 @@ module _ (x : TableState) (lexicals : List ℕ) (classes : List ClassSlots) (b :
   pub live-count : length x.live ≡ 1024 * length x.rows
   live-count = ap length (sym s.reads.live) ∙ s.kept.whole.live ∙ ap (λ rs. PAGE_WORDS * length rs) s.reads.rows
 
-  -- If a table state has as many words, marks and rows as another, then some page table in memory has the same reads.
+  -- If a table state has as many words, marks and rows as another, then some page table in memory gives the same results when read.
   abbrev pub same-size : (y : TableState) → length y.words ≡ length x.words → length y.live ≡ length x.live → length y.rows ≡ length x.rows → (v : PageTable) × Reads v y
   same-size y words live rows =
       made s.table y

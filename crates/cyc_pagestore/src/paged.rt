@@ -44,8 +44,8 @@ impl Model for PageStore {
     ghost invariant = { λ s. IsPagedStore s.table s.lexicals s.classes s.ledger.blocks s.usage };
 }
 
-/// Returns the number of the word at an address, if the word is among the store's first `count` words. One comparison tests all conditions
-/// on the address: a misaligned address, or one below the store, makes the computed number too large.
+/// Returns the index of the word at an address, if the word is among the store's first `count` words. One comparison tests all conditions
+/// on the address: a misaligned address, or one below the store, makes the computed index too large.
 #[inline(always)]
 fn number_below(count: usize, address: u32) -> Option<u32>
     requires { count ≤ 0x400_0000 }
@@ -86,8 +86,8 @@ fn next_slot(slots: ClassSlots, table: &PoolTable, class: u32) -> (u32, ClassSlo
     }
 }
 
-/// Returns the size class of a block of `words` words. It needs few tests if the block is large, because then the most marks have
-/// to be written too.
+/// Returns the size class of a block of `words` words. The function needs few tests if the block is large, because then the most
+/// mark bits of live words have to be written too.
 #[inline]
 fn slot_class(words: u32) -> u32
     requires { words ≤ 1024 }
@@ -127,7 +127,8 @@ impl PageStore {
         })
     }
 
-    /// States the law that the blocks lie in pages. By [`choices_exist`], each call within the demand then has an address to return.
+    /// States the law that the blocks lie in pages. By [`choices_exist`], each call that requests no more pages than the store has
+    /// then has an address to return.
     ///
     /// [`choices_exist`]: cyc_store::runs::choices_exist
     pub fn lies_in_pages(&self)
@@ -143,15 +144,15 @@ impl PageStore {
         self.usage.pages()
     }
 
-    /// Advances the next serial to the second-last one, as if very many regions had been opened and closed, which a test cannot do. The
-    /// contents of the store and the results of its calls are unchanged.
+    /// Advances the store's next serial number to the second-last possible one, as if very many regions had been opened and closed. A
+    /// test cannot open and close so many regions. The values in the store and the results of its calls are unchanged.
     pub fn come_to_last_serial(&mut self)
         ensures { self.new ≡ self.old }
     {
         self.table.come_to_last_serial();
     }
 
-    /// Returns true if the word with the given number belongs to a live block.
+    /// Returns true if the word with the given index belongs to a live block.
     #[inline(always)]
     fn is_live(&self, word: u32) -> bool
         requires { word < length self.now.words }
@@ -163,8 +164,8 @@ impl PageStore {
         self.table.is_marked(word)
     }
 
-    /// Returns the number of the word with the given address, if the word belongs to a live block. A word that was never
-    /// written belongs to no live block.
+    /// Returns the index of the word with the given address, if the word belongs to a live block. A word of the store
+    /// that was never written belongs to no live block.
     #[inline(always)]
     fn word_of(&self, address: u32) -> Option<u32>
         ensures { MatchOption result (word_at (held_of self.now) address ≡ None)

@@ -7,8 +7,8 @@ ghost use Rattle.cyc_pagestore.specs.inside.Live.{IsWhole, AreNewer, AreOne, Rea
 use cyc_rawpages::{PageNo, Pool};
 use cyc_store::PAGE_WORDS;
 
-/// Returns the number of a page's words that are live by its fill mark: all filled words if the page has the serial of its owner, else
-/// none.
+/// Returns the number of a page's words that are live by its fill mark: all filled words if the page has the serial of its owner (its
+/// region's first page), else none.
 #[inline]
 pub(crate) fn reach(pool: &Pool, page: u32) -> u32
     requires whole { IsWhole pool.now }
@@ -50,7 +50,8 @@ pub(crate) fn is_within(pool: &Pool, word: u32) -> bool
     pool.serial(page) == pool.serial(owner)
 }
 
-/// Renumbers all pages: each page gets the number of its owner plus one as its serial, and a page without live words becomes empty.
+/// Renumbers all pages: each page gets the number of its owner (its region's first page) plus one as its serial, and a page without
+/// live words becomes empty.
 fn renumber(pool: &mut Pool, pages: u32)
     requires whole { IsWhole pool.old }
     requires pages { pages ≡ pool.old.pages }

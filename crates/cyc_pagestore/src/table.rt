@@ -100,7 +100,7 @@ impl PoolTable {
         self.pool.made()
     }
 
-    /// Returns the word with the given number, counted across all pages.
+    /// Returns the word with the given index, counted across all pages.
     #[inline]
     pub(crate) fn word(&self, word: u32) -> u32
         requires { word < 1024 * self.now.most }
@@ -143,8 +143,8 @@ impl PoolTable {
         )
     }
 
-    /// Sets or clears the marks of `count` words from `first` on. The marks of 32 words form one word of the pool, which is not read if all
-    /// 32 marks are written.
+    /// Sets or clears the mark bits (of words of live unique blocks) for `count` words from `first` on. The marks of 32 words form one word
+    /// of the pool, which is not read if all 32 marks are written.
     pub(crate) fn mark(&mut self, first: u32, count: u32, mark: bool)
         requires { first + count ≤ 1024 * self.old.most }
         ensures { Marks self.old self.new first count mark }
@@ -160,7 +160,7 @@ impl PoolTable {
         }
     }
 
-    /// Sets or clears the marks of words of one page, one whole word of the pool at a time.
+    /// Sets or clears the mark bits of words of one page, 32 at a time: one whole word of the pool.
     fn mark_whole(&mut self, first: u32, count: u32, mark: bool)
         requires there { first + count ≤ 1024 * self.old.most }
         requires least { 1 ≤ count }
@@ -178,7 +178,7 @@ impl PoolTable {
         );
     }
 
-    /// Sets or clears marks as [`PoolTable::mark`] does, for any range of words.
+    /// Sets or clears the mark bits of words as [`PoolTable::mark`] does, for any range of words.
     fn mark_parts(&mut self, first: u32, count: u32, mark: bool)
         requires { first + count ≤ 1024 * self.old.most }
         ensures { Marks self.old self.new first count mark }
@@ -199,7 +199,7 @@ impl PoolTable {
         }
     }
 
-    /// Returns the number of a page's words that are live by its fill mark.
+    /// Returns the number of a page's words that are live by its fill mark (the end of its filled words).
     #[inline]
     pub(crate) fn filled(&self, page: u32) -> u32
         requires { page < self.now.most }
@@ -208,7 +208,7 @@ impl PoolTable {
         reach(&self.pool, page)
     }
 
-    /// Returns true if a word is live by the fill mark of its page.
+    /// Returns true if a word is live by the fill mark of its page (the end of the page's filled words).
     #[inline]
     pub(crate) fn is_filled(&self, word: u32) -> bool
         requires { word < 1024 * self.now.most }
@@ -306,7 +306,7 @@ impl PoolTable {
         Some(page.number)
     }
 
-    /// Sets the fill mark of the newest page of the region whose first page is `root`.
+    /// Sets the fill mark (the end of the filled words) of the newest page of the region whose first page is `root`.
     pub(crate) fn fill(&mut self, root: u32, filled: u32)
         requires there { root < self.old.most }
         requires root { IsRoot (row_of self.old root).role }
@@ -338,7 +338,7 @@ impl PoolTable {
         self.roster = Roster::with(&self.roster, &Step::Closed(root));
     }
 
-    /// Advances the next serial to the second-last one, as if very many regions had been opened and closed.
+    /// Advances the next serial number to the second-last possible one, as if very many regions had been opened and closed.
     #[tactic(auto, using(crate::proofs::Calls::later_backed))]
     pub(crate) fn come_to_last_serial(&mut self)
         ensures { self.new ≡ self.old }

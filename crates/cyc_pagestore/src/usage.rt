@@ -24,7 +24,7 @@ impl Model for Usage {
 }
 
 impl Usage {
-    /// Returns the counts of a new store, in which the heap is open in the first page.
+    /// Returns the counts of pages in use of a new store, in which the heap is open in the first page.
     pub(crate) fn new(alloc: Global, pages: u32) -> Result<Usage, AllocError>
         requires { 1 ≤ pages }
         ensures { IfOk result (λ u. u ≡ record { regions = set (replicate pages 0) 0 1; pages = 1 }) }
@@ -41,7 +41,7 @@ impl Usage {
         self.pages
     }
 
-    /// Notes in the counts that a region was opened in the given page.
+    /// Notes in the counts of pages in use that a region was opened in the given page.
     pub(crate) fn note_opened(&mut self, page: u32)
         requires there { page < length self.old.regions }
         requires few { self.old.pages < 65536 }
@@ -51,7 +51,7 @@ impl Usage {
         self.pages += 1;
     }
 
-    /// Notes in the counts that a page was added to the region whose first page is `root`.
+    /// Notes in the counts of pages in use that a page was added to the region whose first page is `root`.
     pub(crate) fn note_added(&mut self, root: u32)
         requires there { root < length self.old.regions }
         requires few { self.old.pages < 65536 }
@@ -62,7 +62,7 @@ impl Usage {
         self.pages += 1;
     }
 
-    /// Notes in the counts that a page was split into slots.
+    /// Notes in the counts of pages in use that a page was split into slots.
     pub(crate) fn note_cut(&mut self)
         requires { self.old.pages < 65536 }
         ensures { self.new ≡ record self.old { pages = self.old.pages + 1 } }
@@ -70,7 +70,7 @@ impl Usage {
         self.pages += 1;
     }
 
-    /// Notes in the counts that the region whose first page is `root` was closed.
+    /// Notes in the counts of pages in use that the region whose first page is `root` was closed.
     pub(crate) fn note_closed(&mut self, root: u32)
         requires there { root < length self.old.regions }
         requires some { slice_index self.old.regions root ≤ self.old.pages }

@@ -41,7 +41,8 @@ whole_refuses : (ts : List Symbol) (refusal : Refusal) → program_of ts ≡ Err
 unfolding bind
 whole_refuses ts refusal e = ap (λ (o : Outcome (List Declaration)). and_then o at_end) e
 
--- The program parser consumes all symbols, so the parser of whole programs rejects symbols only if the program parser rejects them.
+-- If the parser of declarations succeeds, it leaves no symbols. So the parser of whole programs rejects symbols only if the parser
+-- of declarations rejects them.
 whole_err : (ts : List Symbol) (outcome : Outcome (List Declaration)) (refusal : Refusal) → program_of ts ≡ outcome → and_then outcome at_end ≡ Err refusal → program_of ts ≡ Err refusal
 whole_err ts (Ok (ds, [])) refusal is e = absurd (cc)
 whole_err ts (Ok (ds, s ∷ left)) refusal is e = absurd (impossible (program_of-sound ts (s ∷ left) ds is).all)

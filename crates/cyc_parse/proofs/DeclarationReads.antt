@@ -209,7 +209,7 @@ module _ (room d : ℕ) (fits : Fits (suc (suc (suc room))) d) where
   before_name : (x : Named) (ys : Yield) (mid rest : List Symbol) → Front (leaf_at d (Identifier x.name) x.place ∷ ys) mid rest → EndsType mid
   before_name x ys mid rest front = record { name = x.name; comes = front-next (leaf_at d (Identifier x.name) x.place) ys mid rest front }
 
-  -- After the region arguments of a struct type comes a pointer mark or a name.
+  -- After the region arguments of a struct type comes a pointer sign (`*`, `@` or `?`) or a name.
   mark_or_name : (s : Sign) (ms : List Pointer) (x : Named) (ys : Yield) (mid rest : List Symbol) → ((k : PointerKind) → sees_terminal s (Some (Mark (yields.mark_sign k))) ≡ false)
       → Front (yields.marks d ms ++ leaf_at d (Identifier x.name) x.place ∷ ys) mid rest → sees s mid ≡ false
   mark_or_name s [] x ys mid rest plain front = ap (sees_terminal s) (front-next (leaf_at d (Identifier x.name) x.place) ys mid rest front)

@@ -182,7 +182,7 @@ part_then {p = p} {f = f} {Q = Q} {ts = ts} first second = record {
         let b = (second x a.leaves mid a.post).goes e k limit in
         record { value = b.value; leaves = a.leaves ++ b.leaves; begins = begins_after a.leaves a.front b.begins; post = b.post }
 
--- `Gives` holds for a sequence of parsers whose first part has a known yield.
+-- `Gives` holds for a sequence of parsers if the result of the first parser determines the symbols that this parser read.
 pub spelled_then : {A B : Type 0} {p : Parser A} {f : A → Parser B} {yield : A → Yield} {Is : A → List Symbol → Type 0} {Q : B → Yield → List Symbol → Type 0} {ts : List Symbol}
     → Gives p (Spells yield Is) ts → ((x : A) (mid : List Symbol) → Is x mid → Gives (f x) (λ y ys rest. Q y (yield x ++ ys) rest) mid) → Gives (bind p f) Q ts
 spelled_then {f = f} {yield = yield} {Q = Q} first second =
@@ -272,7 +272,7 @@ limit_gives {A} {Q = Q} {ts = ts} why u comes opened = record {
     start [] e is same = absurd (nothing is)
     start (t ∷ more) e is same = let terminal : t.terminal ≡ u = cc in completed_here t more e.left (sym same) (subst (λ (w : Terminal). Opened Q w t.place) (sym terminal) (opened t.place))
 
--- `Gives` holds for a limit's rejection of an item if every symbol that may begin an item begins some result.
+-- `Gives` holds for a parser that rejects a list element because of a limit, if every symbol that may begin an element begins some result.
 pub begun_gives : {A : Type 0} {Q : A → Yield → List Symbol → Type 0} {ts : List Symbol} (begins : Terminal → Bool) (why : Reason) → starts begins (next ts) ≡ true
     → ((u : Terminal) (p : Place) → begins u ≡ true → Opened Q u p) → Gives (refuse {A = A} why) Q ts
 begun_gives {A} {Q = Q} {ts = ts} begins why comes opened = go (next ts) refl comes
@@ -346,7 +346,7 @@ item_gives {yield = yield} i few h = record {
 pub opened_at : {A : Type 0} {Q : A → Yield → List Symbol → Type 0} (d : ℕ) (u : Terminal) (p : Place) (x : A) (following : Yield) → Q x (leaf_at d u p ∷ following) [] → Opened Q u p
 opened_at d u p x following post = record { value = x; leaf = leaf_at d u p; following = following; terminal = refl; place = refl; post = post }
 
--- A result witnesses `Opened` if its first leaf has no stored source position and has a given item number.
+-- A result witnesses `Opened` if its first leaf has no stored source position and has a given index in its list.
 pub opened_item : {A : Type 0} {Q : A → Yield → List Symbol → Type 0} (d i : ℕ) (u : Terminal) (p : Place) (x : A) (following : Yield) → Q x (record { terminal = u; place = None; nesting = d; item = i } ∷ following) [] → Opened Q u p
 opened_item d i u p x following post = record { value = x; leaf = record { terminal = u; place = None; nesting = d; item = i }; following = following; terminal = refl; place = tt; post = post }
 

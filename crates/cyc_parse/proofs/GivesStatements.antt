@@ -1,4 +1,4 @@
--- The parsers of statements and items return a tree that the symbols spell and that is well-formed by the grammar.
+-- The parsers of statements and of block items return a tree that the symbols spell and that is well-formed by the grammar.
 use Rattle.std.proofs.Common.{◌≡◌, ℕ, zero, suc, ◌≤◌, ◌<◌, Bool, true, false, ◌&&◌, ◌||◌, List, [], ◌∷◌, ◌++◌, length, Option, Some, refl, sym, ap, ◌∙◌, arith, append-nil, append_assoc, true≢false}
 use Rattle.cyc_words.proofs.Booleans.{and_right, anything_from_false_is_true}
 use Rattle.cyc_syntax.specs.declared.tokens.Keyword.TheVariants as words

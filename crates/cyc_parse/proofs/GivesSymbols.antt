@@ -153,7 +153,7 @@ region_terminal (Word k) a h = absurd (cc)
 region_terminal (Mark s) a h = absurd (cc)
 
 module _ {C : Type 0} {Q : C → Yield → List Symbol → Type 0} {ts : List Symbol} (room d : ℕ) where
-  -- `Gives` holds for the parser of a sign (punctuation token) that is the item with a given number in its list or chain.
+  -- `Gives` holds for the parser of a sign (punctuation token) that is the element with a given index in its list or chain.
   pub sign_item_then : (i : ℕ) (s : Sign) {f : Place → Parser C} → Fits room d → i ≤ max_items
       → ((q : Place) (mid : List Symbol) → Gives (f q) (λ y ys rest. Q y (record { terminal = Mark s; place = None; nesting = d; item = i } ∷ ys) rest) mid) → Gives (bind (sign room s) f) Q ts
   sign_item_then i s fits few second = take_then room (is_sign s) only_place _ tt (λ _ _. record { terminal = Mark s; place = None; nesting = d; item = i }) (λ _ _. fits) (λ _ _. few) (λ a u _ e. sign_is s u a e) (λ _ _. tt) (λ _ q mid. second q mid)

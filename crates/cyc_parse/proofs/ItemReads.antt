@@ -1,4 +1,4 @@
--- Items, blocks, clauses and all statements are parsed back from their yields.
+-- Block items, blocks, catch clauses and all statements are parsed back from their yields.
 use Rattle.std.proofs.Common.{◌≡◌, ℕ, zero, suc, ◌≤◌, Bool, true, false, cond, List, [], ◌∷◌, ◌++◌, length, Option, Some, None, refl, sym, ap, subst, ◌∙◌, arith, append-nil, zero-le, length-append}
 use Rattle.cyc_syntax.specs.declared.tokens.Keyword.TheVariants as words
 use Rattle.cyc_syntax.specs.declared.tokens.Sign.TheVariants as signs
@@ -246,7 +246,7 @@ ClausesRead room d NoClauses = Unit {0}
 ClausesRead room d (Default is) = ReadsItems room d is
 ClausesRead room d (Case x v is cs) = ReadsItems room d is × ClausesRead room d cs
 
--- Conditions on the symbols that may follow the items of a catch clause.
+-- Conditions on the symbols that may follow the declarations and statements of a catch clause.
 next_clause : (d : ℕ) (cs : Clauses) (mid rest : List Symbol) → Front (yields.clauses d cs) mid rest → EndsClauses rest → EndsBlock mid
 next_clause d NoClauses mid rest front ends = subst EndsBlock (sym front) ends.block
 next_clause d (Default is) mid rest front ends = let n : next mid ≡ Some (Word words.Default) = front-next (leaf_of d (Word words.Default)) (leaf_of d (Mark signs.Colon) ∷ yields.items d is) mid rest front in

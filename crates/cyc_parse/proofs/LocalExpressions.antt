@@ -46,7 +46,8 @@ module _ {c : Bool} (operand : Parser Expression) (h : Runs c Anything operand) 
   one_more left more tolerates None t a b less differ = opens NoOperations t refl tt less differ
   one_more left more tolerates (Some o) t a b less differ = beyond_suffix _ ((operand_runs left more tolerates o t.place).suffix a)
 
-  -- Says that both lookahead facts about a chain hold for a given number of operators.
+  -- Says that chains with a given number of operators have bounded lookahead. They may also follow
+  -- a result after which `<` may open region arguments.
   record Chains (left : ℕ) : Type 0 where
     runs : Runs false Anything (operations operand k left)
     tolerates : Tolerates Anything (operations operand k left)

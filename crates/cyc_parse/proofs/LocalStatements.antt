@@ -1,4 +1,4 @@
--- The parsers of statements and of items have bounded lookahead.
+-- The parsers of statements and of block items have bounded lookahead.
 use Rattle.std.proofs.Common.{◌≡◌, ℕ, zero, suc, ◌≤◌, Bool, true, false, cond, List, [], ◌∷◌, length, ◌&&◌, Option, Some, Err, refl, sym, ap, subst, arith}
 use Rattle.cyc_syntax.specs.declared.tokens.Keyword.TheVariants as words
 use Rattle.cyc_syntax.specs.declared.tokens.Sign.TheVariants as signs
@@ -146,8 +146,8 @@ module _ (room : ℕ) (inner : Nested) (h : StatementsRun inner) where
   let_by_runs (Some (Word words.NewDynamicRegion)) = dynamic_region_runs
   let_by_runs _ = unexpected_runs
 
-  -- The symbol after `char` decides if an item is a declaration. In both cases the parser reads the symbol after `char`, so an item needs
-  -- only one symbol of lookahead.
+  -- The symbol after `char` decides if a block item is a declaration. In both cases the parser reads the symbol after `char`, so a block
+  -- item needs only one symbol of lookahead.
 
   abbrev low_byte_from : Place → Parser Statement
   low_byte_from p = bind (bind (bind (with_postfixes room (nested room) (bind (group room (nested room)) (λ e. pure (LowByteOf p e)))) (climb (unary room (nested room)) 10)) (assignment room (nested room))) (following room inner)

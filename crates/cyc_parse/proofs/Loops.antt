@@ -145,7 +145,8 @@ pub pointers_of_steps : (room : ℕ) → Steps (λ m ms. m ∷ ms) (pure []) (on
 unfolding pointers_of choose if_is
 pointers_of_steps room = record { step = λ n ts. by_mark room (pointers_of room n) (mark_at (next ts)) ts }
 
--- If each continuation of a step equals a step followed by `k`, then so do the composed outcomes.
+-- If `g` equals `f` followed by `k` after each result of a first step, then this also holds for the
+-- composed parsers that begin with that step.
 pub lift : {A B C : Type 0} (k : C → Parser B) (o : Outcome A) (f : A → Parser C) (g : A → Parser B) → ((a : A) (us : List Symbol) → g a us ≡ and_then (f a us) k) → and_then o g ≡ and_then (and_then o f) k
 lift k (Ok p) f g h = h p.0 p.1
 lift k (Err e) f g h = refl

@@ -1,4 +1,4 @@
--- Symbols are made of tokens one after the other; a name keeps its number when more names are added.
+-- Each token of a text becomes one symbol, in order; a name keeps the number that identifies it when more names are added.
 use Rattle.std.proofs.Common.{◌≡◌, ℕ, ◌+◌, ◌<◌, true, List, [], ◌∷◌, ◌++◌, length, map, take, get_or, fold, refl, sym, ap, subst, ◌∙◌}
 use Rattle.std.proofs.lemmas.List.{take_more, map-append}
 use Rattle.std.proofs.lemmas.List.Sums.{fold-append}
@@ -28,7 +28,7 @@ stays_among : (texts more : List (List ℕ)) (a : List ℕ) → is_among a texts
 stays_among texts [] a among = among
 stays_among texts (b ∷ more) a among = stays_among (with_text texts b) more a (is_among-with_text_other texts a b among)
 
--- If the texts of a token list are known, then so are the text of its first token and those of the tokens after it.
+-- If all name texts of a token list are in a given list, then so are the texts of its first token and of the remaining tokens.
 known_kind : (seen : List (List ℕ)) (ts : List Token) (k : Kind) → ((s : List (List ℕ)) → AreKnown (fold with_text s (texts_in ts)) ts)
     → IsKnown (fold with_text seen (name_texts k (texts_in ts))) k × AreKnown (fold with_text seen (name_texts k (texts_in ts))) ts
 unfolding IsKnown
@@ -45,7 +45,7 @@ unfolding AreKnown
 are_known seen [] = tt
 are_known seen (t ∷ ts) = known_kind seen ts t.kind (λ s. are_known s ts)
 
--- The number of a text does not change when more texts are added to the list.
+-- The index of a text in a list of distinct texts does not change when more texts are added to the list.
 same_number : (texts more : List (List ℕ)) (a : List ℕ) → is_among a texts ≡ true → number_of (fold with_text texts more) a ≡ number_of texts a
 same_number texts [] a among = refl
 same_number texts (b ∷ more) a among = same_number (with_text texts b) more a (is_among-with_text_other texts a b among) ∙ number_of-with_text texts a b among

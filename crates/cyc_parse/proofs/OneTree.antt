@@ -12,7 +12,7 @@ use Rattle.cyc_parse.specs.inside.Parsing.{Outcome, Refusal, TooDeep, TooLong}
 use Rattle.cyc_parse.proofs.Rules.{judge}
 use Rattle.cyc_parse.proofs.Completeness.{program_of-complete}
 
--- If all leaves of a yield keep the limits, then judging the yield does not change an outcome.
+-- If all leaves of a yield keep the limits, then checking the leaves against the limits does not change an outcome.
 pub judge-within : {A : Type 0} (leaves : Yield) (ts : List Symbol) (outcome : Outcome A) → AllByRecursion IsWithin leaves → judge leaves ts outcome ≡ outcome
 judge-within [] ts outcome all = refl
 judge-within (l ∷ ls) [] outcome all = refl

@@ -168,7 +168,7 @@ identifier_reads room d x f {y = y} {ys = ys} {Ends = Ends} fits next =
     token_reads room identifier_name named f (leaf_at d (Identifier x.name) x.place) x.name fits (omega arith) refl
     (λ p e. subst (λ (q : Place). Reads (f (named x.name q)) y ys Ends) (sym e) next)
 
--- `Reads` holds for the parser of a region name; the number of its list item may be any within the limit.
+-- `Reads` holds for the parser of a region name whose index in its list is within the limit.
 pub region_reads : {C : Type 0} (room d i : ℕ) (x : Named) (f : Named → Parser C) {y : C} {ys : Yield} {Ends : List Symbol → Type 0} → Fits room d → i ≤ max_items
     → Reads (f x) y ys Ends → Reads (bind (region_name room) f) y (record { terminal = RegionName x.name; place = Some x.place; nesting = d; item = i } ∷ ys) Ends
 region_reads room d i x f {y = y} {ys = ys} {Ends = Ends} fits few next =
@@ -287,13 +287,13 @@ pub deep_then_reads : {A B : Type 0} (begins : Terminal → Bool) (d : ℕ) (f :
     → Reads (bind (refuse_item begins TooDeep) f) x xs Ends
 deep_then_reads begins d f deep s = reads_instead (refuse_item begins TooDeep) (λ ts rest front ends. deep_bind begins f ts) (deep_reads begins d deep s)
 
--- `Reads` holds for an item of a list whose number is within the limit on items.
+-- `Reads` holds for the parser of a list element whose index is within the limit on the list's length.
 pub number_reads : {A : Type 0} {p : Parser A} {x : A} {xs : Yield} {Ends : List Symbol → Type 0} (begins : Terminal → Bool) (d i : ℕ) → i ≤ max_items → Starts begins d xs
     → Reads p x xs Ends → Reads p x (item_number i xs) Ends
 number_reads {p = p} {x = x} {Ends = Ends} begins d i few s h =
     subst (λ (ys : Yield). Reads p x (item_number i ys) Ends) (sym s.are) (first_in_item i s.first s.others (omega arith) few (subst (λ (ys : Yield). Reads p x ys Ends) s.are h))
 
--- If a yield begins like an item, then the next symbol is the terminal of its first leaf.
+-- If a yield begins with a symbol that may begin a list element, then the next symbol is the terminal of the yield's first leaf.
 pub starts-next : {begins : Terminal → Bool} {d : ℕ} {xs : Yield} (s : Starts begins d xs) (ys : Yield) (ts rest : List Symbol) → Front (xs ++ ys) ts rest → next ts ≡ Some s.first.terminal
 starts-next s ys ts rest front = front-next s.first (s.others ++ ys) ts rest (subst (λ (zs : Yield). Front (zs ++ ys) ts rest) s.are front)
 
@@ -305,12 +305,12 @@ pub seen_reads : {A : Type 0} (s : Sign) (p q : Parser A) {x : A} {xs : Yield} {
 unfolding if_sees
 seen_reads s p q is h = reads_instead p (λ ts rest front ends. ap (λ (b : Bool). (cond b p q) ts) (is ts rest front ends)) h
 
--- `Reads` holds for the parser of a sign (punctuation token) that is the item with a given number in its list or chain.
+-- `Reads` holds for the parser of a sign (punctuation token) that is the element with a given index in its list or chain.
 pub sign_reads_item : {C : Type 0} (room d i : ℕ) (s : Sign) (f : Place → Parser C) {y : C} {ys : Yield} {Ends : List Symbol → Type 0} → Fits room d → i ≤ max_items
     → ((p : Place) → Reads (f p) y ys Ends) → Reads (bind (sign room s) f) y (record { terminal = Mark s; place = None; nesting = d; item = i } ∷ ys) Ends
 sign_reads_item room d i s f fits few next = token_reads room (is_sign s) only_place f (record { terminal = Mark s; place = None; nesting = d; item = i }) tt fits few (same_sign-self s) (λ p _. next p)
 
--- A leaf whose item number exceeds the limit is rejected as too long.
+-- A leaf that is a list element with an index beyond the limit is rejected as too long.
 pub long_leaf_reads : {A : Type 0} {x : A} {Ends : List Symbol → Type 0} (leaf : Leaf) (ys : Yield) → leaf.nesting ≤ max_nesting → max_items < leaf.item → Reads (refuse TooLong) x (leaf ∷ ys) Ends
 long_leaf_reads {x = x} leaf ys shallow many = record {
   reads = λ ts rest (t, more, e, is_leaf, front) ends.
@@ -326,7 +326,7 @@ bare_reads {A} {p = p} {x = x} {xs = xs} h = record { reads = λ ts rest front e
     same (Ok v) = refl
     same (Err e) = refl
 
--- `Reads` holds for reading an operator that is the item with a given number in its chain.
+-- `Reads` holds for reading an operator that has a given index in its chain.
 pub advance_reads_item : {C : Type 0} (d i : ℕ) (t : Terminal) (q : Place) (f : Place → Parser C) {y : C} {ys : Yield} {Ends : List Symbol → Type 0} → d ≤ max_nesting → i ≤ max_items
     → Reads (f q) y ys Ends → Reads (bind advance f) y (record { terminal = t; place = Some q; nesting = d; item = i } ∷ ys) Ends
 advance_reads_item d i t q f {y = y} {ys = ys} {Ends = Ends} shallow few next =
@@ -341,7 +341,7 @@ front-length (leaf ∷ xs) ts rest (t, more, e, is_leaf, front) = subst (λ (s :
 pub yield_reads : {A : Type 0} {q : Parser A} {x : A} {xs ys : Yield} {Ends : List Symbol → Type 0} → xs ≡ ys → Reads q x xs Ends → Reads q x ys Ends
 yield_reads {q = q} {x = x} {Ends = Ends} same h = subst (λ (zs : Yield). Reads q x zs Ends) same h
 
--- If a part stands between two leaves, its yield may be regrouped with the symbols after it.
+-- If a part of a yield stands between two leaves, it may be regrouped with the symbols after it.
 pub between_then : {A : Type 0} {q : Parser A} {x : A} {Ends : List Symbol → Type 0} (l r : Leaf) (xs ys : Yield) → Reads q x ((l ∷ (xs ++ r ∷ [])) ++ ys) Ends → Reads q x (l ∷ (xs ++ r ∷ ys)) Ends
 between_then l r xs ys h = yield_reads (ap (λ (zs : Yield). l ∷ zs) (append_assoc xs (r ∷ []) ys)) h
 

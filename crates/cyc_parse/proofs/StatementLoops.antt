@@ -1,4 +1,5 @@
--- The code reads the lists of items and of clauses in a loop; they equal the results of the lists' parsers.
+-- The code reads the lists of block items and of catch clauses in a loop; the lists equal the results of
+-- the specified parsers of these lists.
 use Rattle.std.proofs.Common.{◌≡◌, ℕ, suc, ◌+◌, ◌-◌, ◌<◌, true, false, List, [], ◌∷◌, Option, Some, None, option_map, Ok, Err, refl, sym, ap, ◌∙◌, arith}
 use Rattle.cyc_syntax.specs.declared.tokens.Keyword.TheVariants as words
 use Rattle.cyc_syntax.specs.declared.tokens.Sign.TheVariants as signs
@@ -30,12 +31,12 @@ items_in_steps room inner = record {
 }
 
 module _ (room : ℕ) (inner : Nested) (ts : List Symbol) where
-  -- If no item begins at the next symbol, then the list of items ends.
+  -- If no declaration or statement begins at the next symbol, then the list of a block's items ends.
   pub no_item : starts begins_item (next ts) ≡ false → one_item room inner ts ≡ Ok (None, ts)
   unfolding if_starts
   no_item ends = rw ends refl
 
-  -- If an item begins at the next symbol, then the list's step reads that item.
+  -- If a declaration or statement begins at the next symbol, then the step of the loop over a block's items reads it.
   pub an_item : starts begins_item (next ts) ≡ true → (i : Item) (us : List Symbol) → item room inner ts ≡ Ok (i, us) → one_item room inner ts ≡ Ok (Some i, us)
   unfolding if_starts bind
   an_item begins i us is = rw begins (rw is refl)
@@ -61,7 +62,7 @@ clauses_in_steps room inner = record {
 }
 
 module _ {X Y B : Type 0} (view : X → Y) (add : Y → B → B) (last : Parser B) (one : Parser (Option Y)) (many : ℕ → Parser B) (steps : Steps add last one many) where
-  -- The parser that follows the last step of a loop rejects, and so does the parser of the whole list.
+  -- If the parser that follows the last step of a loop rejects its input, then so does the parser of the whole list.
   pub ends_badly : (e : Stop) (front : List X) (count i : ℕ) (ts us vs : List Symbol) (read : Option X) (whole : Outcome B) → i < count → one ts ≡ Ok (option_map view read, us) → read ≡ None → Stops e (last us) vs
       → with_front view add front (many (count - i) ts) ≡ whole → Stops e whole vs
   ends_badly stops.Memory front count i ts us vs read whole lt h is rest so_far = tt

@@ -21,7 +21,7 @@ use Rattle.cyc_parse.proofs.OperandReads.{nested_group_reads}
 use Rattle.cyc_parse.proofs.InitialReads.{all_read}
 use Rattle.cyc_parse.proofs.Openings.{looser}
 
--- Says that no `else` follows a statement that would take it.
+-- Says that no `else` follows a statement that ends in an `if` without `else`.
 pub record EndsStatement (wants : Bool) (ts : List Symbol) : Type 0 where
   pub no_else : wants ≡ true → starts is_else (next ts) ≡ false
 

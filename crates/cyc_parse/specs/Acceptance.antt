@@ -33,7 +33,7 @@ pub record BreaksLimit (tokens : List Token) (refusal : Refusal) : Type 0 where
   pub has : HasTree (symbols_of tokens) tree
   pub breaks : BreaksFirst refusal.reason (program tree) (length front)
 
--- Says that a fault is the right one for a program that breaks a limit.
+-- Says that a fault states the first limit that a program breaks, at the source position of the token that breaks it.
 pub record IsFaulty (text : List ℕ) (tokens : List Token) (fault : Fault) : Type 0 where
   pub refusal : Refusal
   pub breaks : BreaksLimit tokens refusal

@@ -8,10 +8,11 @@ use Rattle.cyc_syntax.specs.Yields.{Leaf, Yield, program}
 use Rattle.cyc_syntax.specs.Grammar.{HasTree, IsWithin, max_nesting, max_items}
 use Rattle.cyc_parse.specs.Faults.{Reason, Unexpected, TooDeep, TooLong, Refusal}
 
--- Says that a leaf breaks the limit of the given reason. If a leaf breaks both limits, the nesting is reported.
+-- Says that a leaf breaks the limit of the given reason. If a leaf breaks both the limit of nesting and the
+-- limit of list length, the nesting is reported.
 abbrev pub Breaks : Reason → Leaf → Type 0
 Breaks TooDeep leaf = max_nesting < leaf.nesting
--- The leaf's item exceeds the maximal number of items of its list or operator chain.
+-- The leaf belongs to a list element or operator beyond the maximal length of its list or operator chain.
 Breaks TooLong leaf = (leaf.nesting ≤ max_nesting) × (max_items < leaf.item)
 Breaks Unexpected leaf = ⊥
 

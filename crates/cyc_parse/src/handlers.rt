@@ -17,7 +17,7 @@ use crate::symbol::Terminal;
 use cyc_syntax::{Clause, Ident, Item, Keyword, Sign, Stmt};
 use cyc_words::Span;
 
-/// The clauses of a `catch`, and the items of its default clause, if the `catch` has a default clause.
+/// The clauses of a `catch`, and the declarations and statements of its default clause, if the `catch` has a default clause.
 #[derive(Drop)]
 struct Handlers {
     clauses: Vec<Clause>,
@@ -46,7 +46,7 @@ impl<'a> Parser<'a> {
         )
     }
 
-    /// Parses the variable of a clause, in parentheses.
+    /// Parses the variable of a catch clause, in parentheses.
     fn parse_caught(&mut self, room: u32) -> Result<Option<Ident>, Stop>
         ensures { Gives (option_map view_name) result (caught room (nested_statements room) self.old) self.new }
     {
@@ -90,7 +90,7 @@ impl<'a> Parser<'a> {
         }))
     }
 
-    /// Parses the items of `default: ..`, if it comes next.
+    /// Parses the declarations and statements of the catch clause `default: ..`, if it comes next.
     #[cycle(statement)]
     fn parse_default_clause(&mut self, room: u32) -> Result<Option<Vec<Item>>, Stop>
         ensures { Gives default_of result (default_clause room (nested_statements room) self.old) self.new }

@@ -1,4 +1,4 @@
-//! The parser of the initial contents of a new object, after `new` and `rnew`.
+//! The parser of the initial value of a new object, which follows `new` or `rnew`.
 #![tactic(auto, unfolding(crate::specs::inside::Parsing::bind, crate::specs::inside::Parsing::choose, crate::specs::inside::Parsing::if_sees, crate::specs::inside::Parsing::if_starts, crate::specs::inside::Parsing::if_is, crate::specs::inside::Parsing::refuse_item, crate::specs::inside::Expressions::nested), using(crate::proofs::Levels::levels))]
 
 ghost use Rattle.std.specs.Prelude.{◌≡◌, map, Ok};

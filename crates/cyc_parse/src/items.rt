@@ -63,7 +63,7 @@ impl<'a> Parser<'a> {
         Ok(Block { span, items, end })
     }
 
-    /// Parses items in braces.
+    /// Parses a block: declarations and statements in braces.
     #[cycle(statement)]
     pub(crate) fn parse_block(&mut self, room: u32) -> Result<Block, Stop>
         ensures { Gives view_block result (body room (nested_statements room) self.old) self.new }

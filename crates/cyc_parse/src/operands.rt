@@ -132,7 +132,7 @@ impl<'a> Parser<'a> {
         self.end_bracketed(room, span, inner)
     }
 
-    /// Parses an operand without inner expressions, except for a call or a variable.
+    /// Parses an operand that has no inner expression and is neither a call nor a variable.
     fn parse_lone(&mut self, room: u32) -> Result<Box<Expr>, Stop>
         ensures { Gives view_boxed result (lone room self.old) self.new }
     {

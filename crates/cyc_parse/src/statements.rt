@@ -55,7 +55,7 @@ impl<'a> Parser<'a> {
         Ok(Box::new(self.alloc(), statement)?)
     }
 
-    /// Reads the wanted sign (punctuation token) inside one more bracket.
+    /// Reads the wanted sign (punctuation token), which stands one nesting level deeper than the current level.
     pub(crate) fn take_sign_deeper(&mut self, room: u32, wanted: Sign) -> Result<Span, Stop>
         ensures { Gives place_of_span result (sign (inside room) wanted self.old) self.new }
     {
@@ -310,7 +310,7 @@ pub(crate) fn inside(room: u32) -> u32
     room.saturating_sub(1)
 }
 
-/// Returns true if an expression is an operand with its prefixes and postfixes; both sides of a swap must be such operands.
+/// Returns true if an expression is an operand with its prefixes and postfixes; both operands of a swap must be such expressions.
 fn is_unary(value: &Expr) -> bool
     ensures { result ≡ is_unary (view_expression value.now) }
 {

@@ -79,7 +79,7 @@ fn symbol_of_token(token: Token, text: &[u8], names: &mut Names) -> Result<Symbo
     })
 }
 
-/// Returns the symbols of tokens, with their names numbered in the order of their first occurrence.
+/// Returns the symbols of tokens, in which each name is identified by a number, in the order of the names' first occurrence.
 fn symbols_of_tokens(
     alloc: Global,
     tokens: &[Token],

@@ -6,14 +6,14 @@ use std::fmt;
 /// The number of bytes of one word of an image's text.
 const WORD: u32 = 4;
 
-/// The beginning of a function in an image's text: its number and the address of its first word.
+/// The beginning of a function in an image's text: the function's index and the address of its first word.
 #[derive(Clone, Copy)]
 struct Begun {
     number: usize,
     address: u32,
 }
 
-/// Returns true if words with the given origin continue the current function.
+/// Returns true if code that belongs to the function with the given index continues the current function.
 fn goes_on(begun: Option<Begun>, number: Option<usize>) -> bool {
     match (begun, number) {
         (Some(begun), Some(number)) => begun.number == number,
@@ -22,7 +22,7 @@ fn goes_on(begun: Option<Begun>, number: Option<usize>) -> bool {
     }
 }
 
-/// Returns the function that begins with words of the given origin.
+/// Returns the function with the given index as one that begins at an address; `None` if the code there belongs to no function.
 fn begun_at(number: Option<usize>, address: u32) -> Option<Begun> {
     match number {
         Some(number) => Some(Begun { number, address }),
@@ -30,7 +30,7 @@ fn begun_at(number: Option<usize>, address: u32) -> Option<Begun> {
     }
 }
 
-/// Returns the function number after `number`, or the number `before` if that is greater.
+/// Returns the function index after `number`, or the index `before` if that is greater.
 fn after(before: usize, number: usize) -> usize {
     before.max(number.saturating_add(1))
 }
@@ -70,14 +70,15 @@ impl Functions<'_> {
         Ok(())
     }
 
-    /// Writes the lines of all functions, both those that begin in one of the given stretches of code and those without words.
+    /// Writes the lines of all functions: those that begin in one of the given stretches of code (ranges of words with one
+    /// origin) and those without words.
     fn write_all<W: fmt::Write>(
         &self,
         stretches: &[Stretch],
         f: &mut fmt::Formatter<W>,
     ) -> fmt::Result {
         let mut begun: Option<Begun> = None;
-        // All functions with numbers below `next` are already written, or have begun.
+        // All functions with indices below `next` are already written, or have begun.
         let mut next: usize = 0;
         for stretch in stretches {
             let number = stretch.frame_function();

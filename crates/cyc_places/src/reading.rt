@@ -6,7 +6,7 @@ use cyc_words::Span;
 use std::alloc::{AllocError, Global};
 use std::fmt;
 
-/// The name of a function or exception in a file of places.
+/// The name of a function or exception in a file of places, which maps code addresses to source positions.
 #[derive(Drop)]
 pub struct Named {
     pub name: Vec<u8>,
@@ -44,12 +44,12 @@ pub struct Table {
     /// The parts of the text that come from other files, in order.
     pub parts: Vec<Elsewhere>,
     pub sum: u64,
-    /// The declared exceptions, in the order of their numbers.
+    /// The declared exceptions, in the order of their identifying numbers.
     pub exceptions: Vec<Named>,
-    /// The names of the functions, in the order of their numbers.
+    /// The names of the functions, in the order of their indices.
     pub functions: Vec<Named>,
     pub stretches: Vec<Stretch>,
-    /// The first address after all stretches of code.
+    /// The first address after all stretches of code (ranges of words with one origin).
     pub end: u32,
 }
 
@@ -78,12 +78,12 @@ fn small_in(word: Option<&[u8]>, base: u64) -> Option<u32> {
     u32::try_from(number_in(word?, base)?).ok()
 }
 
-/// Returns the word with the given number in a line, counted from 0.
+/// Returns the word with the given index in a line of text, counted from 0.
 fn word_in(line: &[u8], number: usize) -> Option<&[u8]> {
     line.split(|byte| *byte == b' ').nth(number)
 }
 
-/// Returns the source position that two consecutive words of a line represent, of which the first has the given number.
+/// Returns the source position that two consecutive words of a line of text represent; the first word has the given index in the line.
 fn span_in(line: &[u8], number: usize) -> Option<Span> {
     Some(Span {
         line: small_in(word_in(line, number), 10)?,
@@ -91,7 +91,7 @@ fn span_in(line: &[u8], number: usize) -> Option<Span> {
     })
 }
 
-/// Returns the origin of code that the words after an address state, and the number of the word after them.
+/// Returns the origin of code that a line of text states after an address, and the index of the next word in the line.
 fn source_in(line: &[u8]) -> Option<(Source, usize)> {
     let first = word_in(line, 1);
     if first == Some(b"start") {
@@ -108,7 +108,7 @@ fn source_in(line: &[u8]) -> Option<(Source, usize)> {
     }
 }
 
-/// Returns the inlined call that the last words of a line represent, beginning with the word of the given number.
+/// Returns the inlined call that the last words of a line of text represent, beginning with the word of the given index.
 fn site_in(line: &[u8], number: usize) -> Option<Site> {
     if word_in(line, number.saturating_add(4)).is_some() {
         return None;
@@ -119,7 +119,7 @@ fn site_in(line: &[u8], number: usize) -> Option<Site> {
     })
 }
 
-/// Returns the stretch of code that a line describes.
+/// Returns the stretch of code (a range of words with one origin) that a line of text describes.
 fn stretch_in(line: &[u8], address: u32) -> Option<Stretch> {
     let (source, following) = source_in(line)?;
     let site = match word_in(line, following) {
@@ -134,10 +134,10 @@ fn stretch_in(line: &[u8], address: u32) -> Option<Stretch> {
     })
 }
 
-/// The reason why a file of places could not be read.
+/// The reason why a file of places, which maps code addresses to source positions, could not be read.
 #[derive(Clone, Copy)]
 pub enum Unread {
-    /// The file of places is malformed.
+    /// The file of places, which maps code addresses to source positions, is malformed.
     Malformed,
     Memory,
 }
@@ -148,7 +148,7 @@ impl From<AllocError> for Unread {
     }
 }
 
-/// Appends an item to a list, or reports that memory ran out.
+/// Appends an element to a list, or reports that memory ran out.
 fn put<T: Drop>(list: &mut Vec<T>, item: T) -> Result<(), Unread> {
     match list.push(item) {
         Ok(()) => Ok(()),
@@ -156,7 +156,7 @@ fn put<T: Drop>(list: &mut Vec<T>, item: T) -> Result<(), Unread> {
     }
 }
 
-/// Returns a copy of a name from a file of places.
+/// Returns a copy of a name from a file of places, which maps code addresses to source positions.
 fn read_name(alloc: Global, name: &[u8], has_int: bool) -> Result<Named, Unread> {
     Ok(Named {
         name: Vec::from_slice(alloc, name)?,
@@ -229,7 +229,7 @@ impl Table {
     }
 }
 
-/// Reads a file of places, and returns its contents.
+/// Reads a file of places, which maps code addresses to source positions, and returns its contents.
 pub fn table_in(alloc: Global, file: &[u8]) -> Result<Table, Unread> {
     let mut table = Table {
         source: Vec::new(alloc),

@@ -5,10 +5,10 @@ use cyc_syntax::Token;
 use cyc_words::Span;
 use std::fmt;
 
-/// The first line of a file of places, which names the format.
+/// The first line of a file of places (the map from code addresses to source positions), which names the format.
 pub const HEAD: &[u8] = b"cyclone places 2";
 
-/// The maximal number of bytes of a name that a file of places stores.
+/// The maximal number of bytes of a name that is stored in a file of places, the map from code addresses to source positions.
 const MOST_NAME: usize = 128;
 
 /// Returns a name, cut off at the maximal length that a file of places stores.
@@ -36,7 +36,8 @@ pub struct Part<'a> {
     pub name: &'a str,
 }
 
-/// The file of places of an image that was compiled from a program text. The `Display` form is the content of the file of places.
+/// The file of places (the map from code addresses to source positions) of an image that was compiled from a program text. The
+/// `Display` form is the content of the file of places.
 #[derive(Drop)]
 pub struct PlacesText<'a> {
     /// The name of the source file.
@@ -56,7 +57,7 @@ fn is_before(token: &Token, span: Span) -> bool {
 }
 
 impl PlacesText<'_> {
-    /// Returns the number of the first token that does not begin before the given source position.
+    /// Returns the index of the first token that does not begin before the given source position.
     fn number_at(&self, span: Span) -> usize {
         let mut low: usize = 0;
         let mut high = self.tokens.len();
@@ -81,7 +82,7 @@ impl PlacesText<'_> {
     }
 }
 
-/// Writes the line of a stretch of code.
+/// Writes the line of text for a stretch of code, that is, for a range of words with one origin.
 fn write_stretch<W: fmt::Write>(stretch: &Stretch, f: &mut fmt::Formatter<W>) -> fmt::Result {
     write!(f, "{:08x} ", stretch.address)?;
     match stretch.source {

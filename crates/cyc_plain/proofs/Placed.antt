@@ -240,7 +240,8 @@ placed_start program base store input well = ((well.main, has_code program (rout
 running_not_failed : (c : Configuration) → simulation.Running ≡ simulation.Failed → ⊥
 running_not_failed c e = cc
 
--- `Stops` lists the four reasons for which a run can get stuck.
+-- `Stops` lists the four reasons for which a run can get stuck: a division by 0, an access to an
+-- address without a word, a refused request, and an instruction on exception handlers.
 abbrev Stops : Program → State → Type 0
 Stops program s = DividesByZero program s ⊎ (AsksForNoWord program s ⊎ (AsksInVain program s ⊎ AsksForHandlers program s))
 

@@ -56,7 +56,7 @@ limit_at_most program (Running c) calls = limit_of_most (instruction_at program 
 limit_at_most program (Ended ending output input) calls = omega arith
 limit_at_most program (Stuck output input) calls = omega arith
 
--- An instruction that calls neither a function nor the store leaves the limit of calls unchanged.
+-- An instruction that calls neither a function nor the store leaves the limit on the number of active calls unchanged.
 pub limit_free : (i : Instruction) (calls : ℕ) → calls_nothing i ≡ true → limit_of (Some i) calls ≡ calls
 limit_free (instructions.Enter function) calls free = absurd (let e : false ≡ true = free in cc)
 limit_free i calls free = refl

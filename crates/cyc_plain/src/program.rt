@@ -32,7 +32,7 @@ pub struct Plain {
     main: usize,
 }
 
-/// The parts of a plain program: its functions, its globals and the number of `main`.
+/// The parts of a plain program: its functions, its globals and the index of `main`.
 #[derive(Drop)]
 pub struct Parts {
     pub functions: Vec<Function>,
@@ -52,7 +52,7 @@ impl Model for Plain {
 }
 
 impl Plain {
-    /// Returns the plain program with these functions, the initial words of its globals, and the number of the function that is called
+    /// Returns the plain program with these functions, the initial words of its globals, and the index of the function that is called
     /// first.
     pub fn new(functions: Vec<Function>, globals: Vec<u32>, main: usize) -> Plain
         requires { IsPlain (program_of functions.items globals.items main) }
@@ -77,7 +77,7 @@ impl Plain {
         }
     }
 
-    /// Returns the functions of the program, in the order of their numbers.
+    /// Returns the functions of the program, in the order of their indices.
     pub fn functions(&self) -> &[Function]
         ensures value { map routine_of result.now ≡ self.now.functions }
         ensures plain { IsPlain self.now }
@@ -85,7 +85,7 @@ impl Plain {
         &self.functions
     }
 
-    /// Returns the function with this number.
+    /// Returns the function with this index.
     pub fn function(&self, number: usize) -> &Function
         requires { number < length self.now.functions }
         ensures { routine_of result.now ≡ routine_at self.now number }
@@ -100,7 +100,7 @@ impl Plain {
         &self.globals
     }
 
-    /// Returns the number of the function that is called first.
+    /// Returns the index of the function that is called first.
     pub fn main(&self) -> usize
         ensures value { result ≡ self.now.main }
         ensures in_range { result < length self.now.functions }

@@ -1,5 +1,5 @@
-//! A heap store on an array of words, which grows by pages. `cyc_store` contains the laws of heap stores, the page table that this store
-//! uses, and the lemmas about page tables.
+//! A heap store on an array of machine words, which grows by pages. `cyc_store` contains the laws of heap stores, the page table that
+//! this store uses, and the lemmas about page tables.
 #![tactic(auto)]
 
 mod plain;

@@ -1,4 +1,4 @@
-//! A heap store on an array of words, which grows by pages.
+//! A heap store (allocator of regions and unique blocks) on an array of machine words, which grows by pages.
 
 ghost use Rattle.std.specs.Prelude.{◌≡◌, ◌≢◌, ◌+◌, ◌*◌, ◌%◌, ◌^◌, ◌<◌, ◌≤◌, ◌⊎◌, IfErr, IfOk, IsTrue, MatchOption, OnErr, OnOk, true, false, None};
 ghost use Rattle.std.specs.Prelude.{Some, length, is_some};
@@ -59,7 +59,7 @@ fn number_below(count: usize, address: u32) -> Option<usize>
     Some(word)
 }
 
-/// Returns the first free slot of a size class, and the slots that remain free.
+/// Returns the first free slot for a block of a size class, and the slots that remain free.
 #[inline]
 fn next_slot(slots: ClassSlots, words: &Vec<u32>, class: u32) -> (u32, ClassSlots)
     requires class { class ≤ 10 }
@@ -113,8 +113,8 @@ impl PlainStore {
         })
     }
 
-    /// Law: the blocks of the store lie within pages. Because blocks lie within pages, each permitted call can
-    /// choose an address, by [`choices_exist`].
+    /// Law: the blocks of the store lie within pages. Because blocks lie within pages, the store can choose an
+    /// address for each permitted request, by [`choices_exist`].
     ///
     /// [`choices_exist`]: cyc_store::runs::choices_exist
     pub fn lies_in_pages(&self)

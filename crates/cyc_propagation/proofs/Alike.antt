@@ -1,4 +1,5 @@
--- An instruction has equal effects in two programs with equal numbers of results and with the same slots whose address is taken.
+-- An instruction has the same effect in two programs whose functions return equal numbers of results and take the addresses of
+-- the same slots.
 use Rattle.std.proofs.Common.{◌≡◌, ℕ, suc, ◌+◌, ◌*◌, ◌-◌, ◌/◌, ◌%◌, Bool, ◌&&◌, ◌||◌, List, [], ◌∷◌, length, Option, Some, None, slice_get, refl, ap, ◌∙◌, arith}
 use Rattle.std.specs.Prelude.{◌==◌, if◌then◌else◌}
 use Rattle.cyc_words.specs.Word.{add_of}

@@ -1,4 +1,4 @@
--- Each fact in a list of facts follows from the list, and so does the extra fact.
+-- Each fact in a list of known facts follows from the list, and so does the one additional fact that is given beside the list.
 use Rattle.std.proofs.Common.{◌≡◌, ℕ, zero, suc, true, ◌||◌, List, [], ◌∷◌, Option, Some, None, slice_get, ap, ◌∙◌}
 use Rattle.std.proofs.lemmas.Bool.{or_left, or_right}
 use Rattle.cyc_propagation.specs.declared.fact.Fact.{Fact}

@@ -1,4 +1,5 @@
--- The list of facts that an instruction preserves and the list after a fact is added, element by element.
+-- This file proves, element by element, how the list of known facts changes when an instruction preserves
+-- some facts and when a fact is added.
 use Rattle.std.proofs.Common.{◌≡◌, ℕ, ◌+◌, ◌-◌, ◌<◌, ◌≤◌, Bool, true, false, ◌&&◌, List, [], ◌∷◌, refl, ap, sym, ◌∙◌, arith, inl, inr}
 use Rattle.std.specs.Prelude.{not, nat_le, nat_lt, ◌==◌, filter, if◌then◌else◌}
 use Rattle.std.proofs.lemmas.Bool.{cases_lt, and_from, and_right, cond-true, le-leb, le-ltb, lt-leb, lt-ltb, eq-eqb, eqb-true, ne_eqb, false≢true, not_from_false}

@@ -1,4 +1,4 @@
--- In a run of a simplified program, the facts that its tables state stay true, step by step.
+-- In a run of a simplified program, the facts that its tables state for each code position stay true, step by step.
 use Rattle.std.proofs.Common.{◌≡◌, ℕ, suc, ◌+◌, ◌-◌, ◌*◌, ◌%◌, ◌^◌, ◌<◌, Bool, true, false, List, [], ◌∷◌, ◌++◌, drop, length, slice_get, Option, Some, None, refl, sym, ap, subst, ◌∙◌, arith, inl, inr}
 use Rattle.std.specs.Prelude.{◌==◌, if◌then◌else◌, unwrap_or}
 use Rattle.std.proofs.lemmas.Bool.{cases_Bool, eq-eqb, or_left, or_right, cond_both, false≢true, not_from_false}
@@ -66,7 +66,7 @@ module _ (program simplified : Program) (replaced : (function : ℕ) → IsRepla
     abbrev slots_free : List Bool
     slots_free = pins_in c.active.function
 
-    -- The facts in the table of the next instruction are true in the state after an instruction.
+    -- After an instruction, the facts that the table states for the next instruction are true.
     goes : (next : ℕ) (new : Scene) → leads i c.active.next next ≡ true → AreTrueIn new (kept (written program i) (touched slots_free i) here)
         → IsMade new slots_free i c.active.next next → AreTrueIn new (facts_in c.active.function next)
     goes next new led keeps makes = (replaced c.active.function).is_table.edges c.active.next next i at led new keeps makes
@@ -141,7 +141,7 @@ module _ (program simplified : Program) (replaced : (function : ℕ) → IsRepla
         go (Some number) goes_on = (goes_on, handling, waiting)
         go None goes_on = (goes_on, handling, states.waiting_written program simplified replaced c.active.function c.frames address word waiting)
 
-    -- A store instruction changes memory, and at most one slot of the active call, whose address is taken.
+    -- Besides memory, a store instruction changes at most one slot of the active call, and only a slot whose address is taken.
     module _ (address word : ℕ) where
       abbrev after_store : Configuration
       after_store = advanced (with_memory program c address word)
@@ -177,7 +177,7 @@ module _ (program simplified : Program) (replaced : (function : ℕ) → IsRepla
           fact_free between (scene_of program after_store) slots_free free_left (λ other. refl) fact suits
           (ap (memory_at program after_store) (sym is_address) ∙ memory_after address ∙ memory_there program c address word before there ∙ ap Some is_word))
 
-    -- A return writes the result slots of the newest waiting call, and the facts of this call are true afterwards.
+    -- A return writes the result slots of the newest waiting call, and the facts known about this call's slots are true afterwards.
     returned : (value results : ℕ) (frames : List Frame) → results ≡ (routine_at program c.active.function).results → AreWaiting c.active.function frames → IsKnown (returns c value results frames)
     returned value results [] same calls = tt
     returned value results (f ∷ frames) same (stands, rest) =
@@ -219,7 +219,7 @@ module _ (program simplified : Program) (replaced : (function : ℕ) → IsRepla
         (goes_on handlers, all.1, waiting) tt)
         (closed goes_on first handlers all.1)
 
-    -- Returns the configuration in which the active call has one more open handler.
+    -- Returns the configuration in which the active call has one more open exception handler.
     abbrev opened : (first : ℕ) → Configuration
     opened first = record c {
       active = record c.active {
@@ -229,7 +229,7 @@ module _ (program simplified : Program) (replaced : (function : ℕ) → IsRepla
       };
     }
 
-    -- No fact is required where an exception reaches a handler, so `Try` keeps all facts of the tables true.
+    -- No fact is required where an exception reaches an exception handler, so `Try` keeps all facts of the tables true.
     tried : (first handler : ℕ) (handlers : List Handler) → AreOpen c.active.function handlers → here ≡ []
         → ((new : Scene) → AreTrueIn new (facts_in c.active.function (c.active.next + 1))) → ((new : Scene) → AreTrueIn new (facts_in c.active.function handler))
         → IsKnown (tries choice c first handler handlers)
@@ -342,14 +342,14 @@ module _ (program simplified : Program) (replaced : (function : ℕ) → IsRepla
         goes choice c i at holds handling waiting next new led
         (subst (λ (facts : List Fact). AreTrueIn new (kept (written program i) (touched pins i) facts)) (sym ((replaced c.active.function).is_table.tries c.active.next first handler at)) tt) tt
 
-    -- The facts known after an instruction are true if the instruction writes an unknown word to a slot.
+    -- The facts known after an instruction are true if the instruction writes to a slot a word about which nothing is known.
     gets_any : (i : Instruction) → here_at i → (d : Configuration) (destination word : ℕ) → IsAlike c d → d.active.slots ≡ put words destination word
         → leads i c.active.next (c.active.next + 1) ≡ true → written program i ≡ record { first = destination; count = 1 } → touched pins i ≡ touched_by pins destination
         → IsMade (scene_of program d) pins i c.active.next (c.active.next + 1) → AreTrueIn (scene_of program d) (facts_in c.active.function (c.active.next + 1))
     gets_any i at d destination word same is led writes touches makes =
         gets i at d destination word same is led writes touches makes
 
-    -- The facts known after an instruction are true if the instruction changes only the output and the open handlers.
+    -- The facts known after an instruction are true if the instruction changes only the output and the open exception handlers.
     goes_by : (i : Instruction) → here_at i → (d : Configuration) → leads i c.active.next (c.active.next + 1) ≡ true → IsAlike c d → d.active.slots ≡ words → touched pins i ≡ touches.Nothing
         → IsMade (scene_of program d) pins i c.active.next (c.active.next + 1) → AreTrueIn (scene_of program d) (facts_in c.active.function (c.active.next + 1))
     goes_by i at d led same is nothing makes =

@@ -1,4 +1,5 @@
--- A simplified program is a plain program: it is well-formed, its numbers are words, and its size does not grow.
+-- A simplified program is a plain program: it is well-formed, the numbers in its instructions fit machine words,
+-- and its size does not grow.
 use Rattle.std.proofs.Common.{◌≡◌, ℕ, ◌<◌, ◌≤◌, List, length, Some, slice_get, sym, ap, subst, ◌∙◌, arith}
 use Rattle.std.specs.Prelude.{All, sum_by, slice_index_or}
 use Rattle.std.proofs.lemmas.Option.{slice_get-get_or, get_or_from_slice_get}
@@ -51,7 +52,7 @@ module _ (program simplified : Program) (are : AreReplaced program simplified) w
             (are.each k within).small,
       ))
 
-  -- If a program is a plain program (well-formed, with numbers that are words), so is the simplified program.
+  -- If a program is a plain program (well-formed, with numbers that fit machine words), so is the simplified program.
   pub is_plain : IsPlain program → IsPlain simplified
   is_plain plain = record {
     well_formed = well_formed plain.well_formed;

@@ -1,4 +1,4 @@
--- The computed ranges contain each slot whose address is taken.
+-- The ranges of slots computed for a function contain each slot whose address the function's code takes.
 use Rattle.std.proofs.Common.{◌≡◌, ℕ, zero, suc, ◌+◌, ◌-◌, ◌<◌, ◌≤◌, Bool, true, false, ◌&&◌, ◌||◌, List, [], ◌∷◌, ◌++◌, drop, length, Some, None, slice_get, refl, sym, ap, subst, ◌∙◌, arith, inl, inr}
 use Rattle.std.specs.Prelude.{◌⊎◌, not, slice_index_or, replicate}
 use Rattle.std.proofs.lemmas.Bool.{cases_Bool, cases_lt, or_cases, and_parts, and_from, false≢true, not-true, both_ways, false_from_ne_true}
@@ -16,7 +16,7 @@ use Rattle.cyc_propagation.specs.inside.Pins.{is_within, range_of, AreRanges, Ar
 use Rattle.cyc_propagation.specs.inside.Table.{ArePins}
 use Rattle.cyc_propagation.proofs.Truth.{each_free}
 
--- `AreRangesBut` says that each slot whose address is taken lies in a range, or its address is taken by the rest of the code.
+-- `AreRangesBut` says that each slot whose address the code takes lies in a range, or its address is taken by code not yet visited.
 abbrev pub AreRangesBut : (code left : List Instruction) → List Written → Type 0
 AreRangesBut code left ranges = (slot : ℕ) → is_pinned code slot ≡ true → (is_within ranges slot ≡ true) ⊎ (is_pinned left slot ≡ true)
 

@@ -35,13 +35,13 @@ room_greater calls one other base depth first second =
 module _ (program : Program) (rooms : (function index : ℕ) → ℕ) (tables : (function : ℕ) → IsRoomTable (slots_in program) (routine_at program function).code (rooms function)) (calls : ℕ) where
   -- ---- states
 
-  -- `AreOpened` says that the stack space that the tables state for each open handler is available.
+  -- `AreOpened` says that, for each open exception handler, the stack space that the tables state for its code position is available.
   abbrev AreOpened : (function base depth : ℕ) → List Handler → Type 0
   AreOpened function base depth [] = Unit {0}
   AreOpened function base depth (Open index first contents ∷ handlers) = HasRoom calls (rooms function index) base depth × AreOpened function base depth handlers
   AreOpened function base depth (Caught ∷ handlers) = AreOpened function base depth handlers
 
-  -- `IsRoomy` says that a call has the stack space that the tables state for its next instruction and for its handlers.
+  -- `IsRoomy` says that a call has the stack space that the tables state for its next instruction and for its exception handlers.
   abbrev IsRoomy : Activation → (depth : ℕ) → Type 0
   IsRoomy a depth = HasRoom calls (rooms a.function a.next) a.base depth × AreOpened a.function a.base depth a.handlers
 

@@ -1,4 +1,4 @@
--- A function remains well-formed when its instructions are replaced, and its numbers are still words.
+-- A function remains well-formed when its instructions are replaced, and the numbers in its instructions still fit machine words.
 use Rattle.std.proofs.Common.{◌≡◌, ℕ, ◌+◌, ◌-◌, ◌<◌, Bool, true, false, List, length, Option, Some, None, slice_get, refl, sym, subst, ◌∙◌, arith}
 use Rattle.std.specs.Prelude.{All, IsSomeAnd, nat_lt}
 use Rattle.std.proofs.lemmas.Bool.{cond_both, ltb-true, false≢true}
@@ -74,7 +74,7 @@ still_leaves facts (instructions.Load destination address offset) is = absurd (f
 still_leaves facts (instructions.LoadGlobal destination global) is = absurd (false≢true is)
 still_leaves facts i is = is
 
--- The target of the jump that replaces an unreachable instruction is in the code.
+-- The jump that replaces an unreachable instruction has a position of the function's code as its target.
 after_below : (index count : ℕ) → index < count → place_after index count < count
 after_below index count below =
     cond_both (nat_lt (index + 1) count) (index + 1) index (λ (place : ℕ). place < count) (λ is. ltb-true (index + 1) count is) (λ last. below)

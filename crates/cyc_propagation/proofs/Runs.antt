@@ -37,7 +37,7 @@ use Rattle.cyc_propagation.proofs.Tables.{unchanged, put_reached}
 
 -- ---- corresponding functions
 
--- For every function number, even one without a function, the simplified function replaces the original one.
+-- For every function index, even one at which the program has no function, the simplified function replaces the original one.
 pub each_replaced : (program simplified : Program) → AreReplaced program simplified → (k : ℕ) → IsReplaced program (routine_at program k) (routine_at simplified k)
 each_replaced program simplified are k = elim (cases_lt k (length program.functions)) [
   | inl below ↦ are.each k below
@@ -170,7 +170,7 @@ module _ (program simplified : Program) (are : AreReplaced program simplified) w
     abbrev facts : List Fact
     facts = facts_in program simplified (each_replaced program simplified are) c.active.function c.active.next
 
-    -- `AreBoth` relates the corresponding instructions of the two programs at the next position.
+    -- `AreBoth` relates the corresponding instructions of the original and the simplified program at the position that is executed next.
     abbrev AreBoth : Option Instruction → Option Instruction → Type 0
     AreBoth (Some i) other = other ≡ Some (put_at facts c.active.next (length (routine_at program c.active.function).code) i)
     AreBoth None other = other ≡ None
@@ -220,7 +220,7 @@ module _ (program simplified : Program) (are : AreReplaced program simplified) w
     same_step : IsSame (instruction_at program place) (instruction_at simplified place)
     same_step = executes_same (instruction_at program place) (instruction_at simplified place) refl refl (both (instruction_at program place) refl)
 
-    -- A choice that a step of the simplified program allows is also allowed in the original program.
+    -- An address of a callee's slots that a step of the simplified program allows is also allowed in the original program.
     lies_same : (base : ℕ) (o : Option ℕ) → MayLie simplified base o (Running c) → MayLie program base o (Running c)
     lies_same base None may = may
     lies_same base (Some function) may = record {

@@ -17,7 +17,7 @@ use Rattle.cyc_propagation.specs.inside.Replacement.{vanishes, place_after, put_
 use Rattle.cyc_propagation.specs.inside.Replacement.{folded_at, holder_in, simplified_binary, simplified_move, decision_in, simplified_branch, value_in, simplified_load, global_value, simplified_global, simplified_request, simplified_instruction}
 use Rattle.cyc_propagation.proofs.Same.{passed_either}
 
--- The size of each operator is at least 11.
+-- The size counted for an instruction with a binary operator is at least 11 words.
 eleven : (operator : BinaryOperator) → 11 ≤ operator_size operator
 eleven binary.Divide = omega arith
 eleven binary.Remainder = omega arith

@@ -51,7 +51,7 @@ unspared_instruction slots index (instructions.Enter function) =
     cond-true (nat_lt 0 (suc (slots function))) (instructions.Enter function) (nothing_at index) (lt-ltb 0 (suc (slots function)) (omega arith))
 unspared_instruction slots index i = refl
 
--- Unchanged code satisfies `IsSparedCode`.
+-- Unchanged code satisfies `IsSparedCode`, the condition on code without redundant checks for stack space.
 pub code_unspared : (slots : ℕ → ℕ) (code : List Instruction) → IsSparedCode slots code code
 code_unspared slots code = record {
   as_many = refl;
@@ -157,7 +157,8 @@ module _ (program spared : Program) (are : AreSpared program spared) where
               ∙ ap (λ (o : Option Instruction). limited pages (limit_of o calls) (Running c) (executed program (record choice { base = slots_base }) c o)) (sym at);
         }
 
-    -- `AreThere` relates the corresponding instructions of the two programs at the next position.
+    -- `AreThere` relates the corresponding instructions of the original program and of the one with
+    -- dropped checks, at the position that is executed next.
     abbrev AreThere : Option Instruction → Option Instruction → Type 0
     AreThere (Some i) other = other ≡ Some (spared_instruction (slots_in program) (rooms_in c.active.function c.active.next) c.active.next i)
     AreThere None other = other ≡ None

@@ -168,6 +168,6 @@ module _ (program : Program) (given functions : List Function) (number : ℕ) (g
   pub made_simplified : IsPlain program → IsSimplified program (program_of functions globals main)
   made_simplified plain = spared_simplified middle (program_of functions globals main) middle_spared program (is_simplified program middle middle_replaced plain)
 
--- A simplified function without redundant checks for stack space satisfies `IsMadeFunction`.
+-- A simplified function without redundant checks for stack space satisfies `IsMadeFunction`, the condition on each function of the result.
 pub code_made : (program : Program) (r : Routine) (code spared : List Instruction) → IsReplaced program r (with_code r code) → IsSparedCode (slots_in program) code spared → IsMadeFunction program r (with_code r spared)
 code_made program r code spared replaced is = record { between = with_code r code; replaced = replaced; spared = record { same = refl; code = is } }

@@ -32,7 +32,7 @@ use Rattle.cyc_propagation.proofs.Truth.{known_true}
 use Rattle.cyc_propagation.proofs.Same.{passed_either, operand_same, second_same, IsFoldedUnary, folded_unary_true, IsFolded, folded_at_true, HoldsResult, holder_in_true, IsDecidedRight, decision_in_right, IsFound, value_in_true}
 
 module _ (scene : Scene) (facts : List Fact) (holds : AreTrueIn scene facts) where
-  -- A simplified request makes the same call of the store as the original request.
+  -- A request to the store (the heap of regions) has the same argument words after its operands are replaced by equal ones.
   pub call_same : (request : Request) → call_in scene.slots (simplified_request facts request) ≡ call_in scene.slots request
   call_same (requests.OpenLexical destination) = refl
   call_same (requests.CloseTo mark) = ap services.CloseTo (operand_same scene facts mark holds)
@@ -234,7 +234,7 @@ callee_same facts (instructions.LoadGlobal destination global) = go (global_valu
     go None = refl
 callee_same facts i = refl
 
--- The replacement has the same limit of active calls as the original instruction.
+-- A replacement allows the same number of active calls as the instruction that it replaces.
 pub limit_same : (calls : ℕ) (facts : List Fact) (i : Instruction) → limit_of (Some (simplified_instruction facts i)) calls ≡ limit_of (Some i) calls
 limit_same calls facts (instructions.Move destination source) = go (is_known facts (facts_are.Equal destination (simplified_operand facts source)))
   where

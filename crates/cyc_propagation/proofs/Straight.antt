@@ -1,5 +1,5 @@
--- For an instruction that does not jump, the check succeeds if the next instruction is no jump target. The check also succeeds for an
--- unreachable jump.
+-- For an instruction that does not jump, the check of the facts required at its successors succeeds if the next instruction is no
+-- jump target. For an unreachable jump, the check of the facts required at its successors also succeeds.
 use Rattle.std.proofs.Common.{◌≡◌, ℕ, ◌+◌, Bool, true, List, [], ◌∷◌, length, Option, Some, None, refl, ap, ◌∙◌, sym, subst, arith}
 use Rattle.std.specs.Prelude.{not, ◌&&◌}
 use Rattle.std.proofs.lemmas.Bool.{and_from, and_parts, or_left, false≢true}

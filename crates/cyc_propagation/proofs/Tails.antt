@@ -113,7 +113,8 @@ all_tailless code last count made is are all = record { last = last; is_last = i
 abbrev known_beyond : (last index : ℕ) → List Fact
 known_beyond last index = if nat_lt last index then never ∷ [] else []
 
--- Replacing the tail of code by jumps has the same result as the replacement under the facts `known_beyond`.
+-- Replacing the tail of code by jumps has the same result as the replacement under `known_beyond`, the facts
+-- that mark the tail as unreachable.
 tailless_put : (last index count : ℕ) (i : Instruction) → tailless_instruction last index count i ≡ put_at (known_beyond last index) index count i
 tailless_put last index count i = go (nat_lt last index)
   where

@@ -193,7 +193,7 @@ loaded_made old memory pinned address offset destination word there =
     ∙ there (and_parts (suits_operand pinned address) (is_free pinned destination) suits).1
     ∙ ap Some (sym (put-same old destination word))))
 
--- The fact that a branch establishes is true, if the branch is taken and if it is not.
+-- The fact that a branch establishes is true, both when the branch is taken and when it is not.
 pub shown_true : (scene : Scene) (pinned : List Bool) (comparison : Comparison) (left right : Operand) (target index : ℕ) (taken : Bool)
     → compares comparison (operand_word scene.slots left) (operand_word scene.slots right) ≡ taken
     → IsTrueIfAny scene (shown pinned comparison left right target index (if taken then target else index + 1))

@@ -78,7 +78,7 @@ fn see_global(seen: Seen, global: usize) -> Seen {
     }
 }
 
-/// Returns the copies and reads seen so far, with those of one more instruction.
+/// Returns the slots copied to and the slots and globals read so far, with those of one more instruction.
 fn seen_after(seen: Seen, instruction: &Instruction) -> Seen {
     match *instruction {
         Instruction::Move {

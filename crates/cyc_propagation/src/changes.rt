@@ -138,7 +138,7 @@ fn touched_by_words(pinned: &[bool], first: usize, count: usize) -> Touched
     }
 }
 
-/// Returns the distance in bytes of a global from the first one, if the global's number is in range.
+/// Returns the distance in bytes of a global from the first one, if the index of the global is below the greatest number of globals.
 pub(crate) fn global_offset(global: usize) -> Option<u32>
     ensures { result ≡ facts_of.global_offset global }
 {

@@ -16,7 +16,7 @@ use std::alloc::{AllocError, Global};
 /// The greatest number of passes over a code region with loops.
 const ROUNDS: usize = 4;
 
-/// For a code position, says if it is a loop header or a handler, and from where code jumps back to it.
+/// For a code position, says if it is a loop header or an exception handler, and from where code jumps back to it.
 #[derive(Clone, Copy)]
 struct Head {
     is_head: bool,
@@ -24,7 +24,7 @@ struct Head {
     jumped_from: usize,
 }
 
-/// A range of code positions, up to `end`. No jump enters or leaves the range, except to positions where a run ends.
+/// A code region: the range of code positions up to `end`. No jump enters or leaves a code region, except to positions where a run ends.
 #[derive(Clone, Copy)]
 pub(crate) struct Region {
     first: usize,
@@ -127,7 +127,7 @@ fn count_to_declarations(code: &[Instruction]) -> usize {
     count
 }
 
-/// Returns, for each position up to the last backward jump, if it is a loop header or a handler.
+/// Returns, for each position up to the last backward jump, if it is a loop header or an exception handler.
 fn collected_program(alloc: Global, code: &[Instruction]) -> Result<Vec<Head>, AllocError> {
     let count = count_to_declarations(code);
     let mut heads = Vec::with_capacity(alloc, count)?;
@@ -165,14 +165,15 @@ fn count_to_end(heads: &[Head], code: &[Instruction]) -> usize {
     count
 }
 
-/// Marks a position as a handler. Exceptions can reach it, so nothing is known there.
+/// Marks a position as an exception handler. No fact is known at an exception handler, since exceptions can reach it from many positions.
 fn close(entries: &mut Vec<Entry>, place: usize) {
     if let Some(entry) = entries.get_mut(place) {
         entry.is_target = true;
     }
 }
 
-/// Returns entries for `count` positions. All entries are unknown, except that nothing is known at handlers.
+/// Returns records of the facts at `count` positions. The facts at a position are undetermined at first,
+/// except at exception handlers, where no fact is known.
 fn unknown(alloc: Global, code: &[Instruction], count: usize) -> Result<Vec<Entry>, AllocError> {
     let mut guesses = no_entries(alloc, count)?;
     for index in 0..count.min(code.len()) {
@@ -275,7 +276,7 @@ impl Search {
     }
 
     /// Resets the facts of a code region, except at loop headers and at positions where a run ends, which jumps from elsewhere may reach.
-    /// Returns true if every header is reachable.
+    /// Returns true if every loop header of the code region is reachable.
     fn forget(&mut self, code: &[Instruction]) -> bool {
         let mut are_led_to = true;
         for index in self.region.first..self.region.end {
@@ -308,8 +309,8 @@ impl Search {
         Ok(())
     }
 
-    /// Finds the facts at each jump target of a code region. A short search leaves everything except the changed loop headers to
-    /// the checking traversal.
+    /// Finds the facts at each jump target of a code region. A search limited to one pass determines only the changed loop
+    /// headers and leaves everything else to the checking traversal.
     fn settle(
         &mut self,
         plain: &Plain,

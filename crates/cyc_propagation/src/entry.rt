@@ -24,7 +24,7 @@ pub(crate) struct Entry {
     pub(crate) facts: Vec<Fact>,
 }
 
-/// Returns `count` entries of positions to which no jump is known yet.
+/// Returns the records of the facts at `count` positions, none of which is known to be a jump target yet.
 pub(crate) fn no_entries(alloc: Global, count: usize) -> Result<Vec<Entry>, AllocError> {
     let mut entries = Vec::with_capacity(alloc, count)?;
     for _ in 0..count {
@@ -56,7 +56,7 @@ pub(crate) fn may_jump(entries: &[Entry], target: usize, facts: &[Fact], more: O
     }
 }
 
-/// Returns true if the facts that the next position requires, if it is a jump target, are known.
+/// Returns true if the next position is no jump target, or if all facts that it requires are known.
 pub(crate) fn may_go_on(entries: &[Entry], next: usize, facts: &[Fact]) -> bool
     ensures { result ≡ table.may_go_on (entries_of.entry_in entries.now next) facts.now None }
 {
@@ -110,7 +110,8 @@ fn restrict(asked: &mut Vec<Fact>, facts: &[Fact], more: Option<Fact>) -> bool
     kept == count
 }
 
-/// Adds the extra fact, if there is one, to the known facts. If the list is full, the oldest fact is dropped.
+/// Adds the fact that a branch establishes, if there is one, to the facts recorded for the branch target. If
+/// the list is full, the oldest fact is dropped.
 #[tactic(auto, using(crate::proofs::Entered::known_of_itself, crate::proofs::Entered::known_with_one, crate::proofs::Entered::known_without_first,))]
 fn remember_more(known: &mut Vec<Fact>, more: Option<Fact>) -> Result<(), AllocError>
     ensures { OnOk result (table.are_known known.new.items known.old.items more ≡ true) }
@@ -124,7 +125,7 @@ fn remember_more(known: &mut Vec<Fact>, more: Option<Fact>) -> Result<(), AllocE
     Ok(())
 }
 
-/// Records the facts on the first path to a position. A position where a run ends needs no entry.
+/// Records the facts on the first path to a position. For a position where a run ends, no facts are recorded.
 fn come_first(
     entry: &mut Entry,
     is_end: bool,
@@ -144,7 +145,8 @@ fn come_first(
     remember_more(&mut entry.facts, more)
 }
 
-/// Joins the known facts into those of a position. Returns true if the facts of the position do not change.
+/// Records the facts known on the first path to a position; on later paths, keeps only those that the facts
+/// of the new path imply. Returns true if the facts recorded for the position do not change.
 #[tactic(auto, using(crate::proofs::Entered::known_where_set))]
 pub(crate) fn come_to(
     entries: &mut Vec<Entry>,
@@ -168,7 +170,7 @@ pub(crate) fn come_to(
     Ok(false)
 }
 
-/// Moves the guessed facts of a position into its entry, if it is a jump target.
+/// Moves the facts guessed for a position, if it is a jump target, into the record of the facts required there.
 fn adopt_at(guesses: &mut Vec<Entry>, entries: &mut Vec<Entry>, place: usize)
     ensures { (index : ℕ) → index < place → entries_of.AreNarrowed index (entries_of.entry_in entries.old.items) (entries_of.entry_in entries.new.items) }
 {
@@ -182,7 +184,7 @@ fn adopt_at(guesses: &mut Vec<Entry>, entries: &mut Vec<Entry>, place: usize)
     }
 }
 
-/// Moves the guessed facts of the positions from `first` up to `end` into their entries.
+/// Moves the facts guessed for the positions from `first` up to `end` into the records of the facts required there.
 pub(crate) fn adopt(guesses: &mut Vec<Entry>, entries: &mut Vec<Entry>, first: usize, end: usize)
     ensures { (index : ℕ) → index < first → entries_of.AreNarrowed index (entries_of.entry_in entries.old.items) (entries_of.entry_in entries.new.items) }
 {

@@ -178,7 +178,7 @@ impl Facts {
         self.slots = 0;
     }
 
-    /// Replaces the known facts by these facts.
+    /// Replaces the known facts by the given facts.
     pub(crate) fn replace(&mut self, facts: &[Fact]) -> Result<(), AllocError>
         ensures { OnOk result (self.new ≡ facts.now) }
     {
@@ -211,8 +211,8 @@ impl Facts {
         }
     }
 
-    /// Returns true if the bit masks show that no fact mentions what an instruction writes or changes. Most instructions change no known
-    /// fact, since they write one slot.
+    /// Returns true if the bit masks show that no fact mentions what an instruction writes or changes. Most instructions write just one
+    /// slot that no fact mentions, so that all known facts stay true.
     fn leaves_all(&self, slots: Written, touched: Touched) -> bool
         ensures { result ≡ true → facts_of.kept slots touched self.now ≡ self.now }
     {

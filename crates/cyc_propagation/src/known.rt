@@ -404,7 +404,7 @@ fn follows_resolved(facts: &[Fact], more: Option<Fact>, fact: Fact) -> bool
     }
 }
 
-/// Returns true if a fact is known, equals the extra fact, or follows when its operands are replaced by equal ones.
+/// Returns true if a fact is known, equals the additional fact (from a branch), or follows when its operands are replaced by equal ones.
 pub(crate) fn follows(facts: &[Fact], more: Option<Fact>, fact: Fact) -> bool
     ensures { result ≡ table.follows facts.now more fact }
 {
@@ -423,8 +423,8 @@ pub(crate) fn found_from(facts: &[Fact], place: usize, fact: &Fact) -> usize
     facts.len()
 }
 
-/// Returns true if a fact follows from the known facts. `place` is the index at which it was found in them,
-/// if it was found. The extra fact is tried last.
+/// Returns true if a fact follows from the known facts. `place` is the index of the fact in the list of known facts, if the list contains
+/// it. The additional fact, such as one that a branch establishes, is compared last.
 #[tactic(auto, using(crate::proofs::Found::known_follows, crate::proofs::Found::more_follows))]
 pub(crate) fn follows_found(facts: &[Fact], more: &Option<Fact>, fact: &Fact, place: usize) -> bool
     requires { place < length facts.now → facts_of.is_known facts.now fact.now ≡ true }

@@ -67,7 +67,8 @@ fn is_within(ranges: &[Written], slot: usize) -> bool
     false
 }
 
-/// Returns the slots whose address an instruction takes. The slots of a handler's record are among them, since the record is in memory.
+/// Returns the slots whose address an instruction takes. The slots of an exception handler's record count as slots whose address is
+/// taken, since the record is in memory.
 fn range_of(instruction: Instruction) -> Option<Written>
     ensures { result ≡ pins.range_of instruction }
 {

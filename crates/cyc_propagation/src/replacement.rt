@@ -17,7 +17,8 @@ use crate::known::{
 use crate::outcomes::negated;
 use cyc_plain::{BinaryOperator, Comparison, Instruction, Operand, Request, UnaryOperator};
 
-/// Returns true if reading an operand costs no more than reading a slot. A constant word may need instructions of its own.
+/// Returns true if reading an operand costs no more than reading a slot. Loading a constant word into a register may need
+/// instructions of its own.
 pub(crate) fn is_cheap(operand: Operand) -> bool
     ensures { result ≡ replacement.is_cheap operand }
 {

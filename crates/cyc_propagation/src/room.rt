@@ -85,7 +85,7 @@ fn leads_to_enough(rooms: &[usize], room: usize, instruction: Instruction, index
     }
 }
 
-/// Returns the instruction, or a jump to the next position if it is a redundant check for stack space.
+/// Returns the instruction unchanged, or a jump to the next position if the instruction is a redundant check for stack space.
 fn spared_instruction(
     plain: &Plain,
     room: usize,
@@ -107,7 +107,8 @@ fn spared_instruction(
     }
 }
 
-/// Limits the stack space known at a code position. Returns true if no more was known there before.
+/// Lowers the stack space known at a code position to at most `room`. Returns true if the stack
+/// space known there was at most `room` already.
 fn restrict(rooms: &mut Vec<usize>, place: usize, room: usize) -> bool {
     if let Some(known) = rooms.get_mut(place) {
         if room < *known {

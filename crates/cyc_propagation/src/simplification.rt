@@ -1,4 +1,4 @@
-//! Returns plain programs without computations, tests and moves whose result is already known.
+//! This file removes from plain programs the computations, tests and moves whose result is already known.
 ghost use Rattle.std.specs.Prelude.{IfOk};
 ghost use Rattle.cyc_plain.specs.inside.Program.{routine_of};
 ghost use Rattle.cyc_propagation.specs.inside.Entries.{with_code};

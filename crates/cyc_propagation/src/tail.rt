@@ -15,7 +15,7 @@ fn greater(one: usize, other: usize) -> usize
     if one < other { other } else { one }
 }
 
-/// Returns the last position reached by the instructions visited so far, including this one.
+/// Returns the last position to which one of the instructions visited so far, including this one, jumps or falls through.
 fn last_after(last: usize, instruction: Instruction, index: usize) -> usize
     requires { index + 1 < 2 ^ 64 }
     ensures { result ≡ tails.last_after last instruction index }

@@ -94,8 +94,8 @@ pub(crate) fn come_after(
     facts.remember(Some(never()))
 }
 
-/// Returns true if the facts known at a forward jump must be merged into those of its target. An unreachable jump has no effect. In a
-/// searched code region, the facts are known already, except where a run ends.
+/// Returns true if the facts known at a forward jump must be merged into those of its target. The facts at an unreachable jump are
+/// not merged. In a code region whose facts the search has found, only jumps to positions where a run ends need a merge.
 fn is_merged(
     code: &[Instruction],
     is_searched: bool,
@@ -108,8 +108,8 @@ fn is_merged(
     index < target && (!is_unreached(facts) && (!is_searched || is_end(code, target)))
 }
 
-/// Keeps only those facts of a jump target that are also known at the jump. Returns true if the target's entry then requires only known
-/// facts.
+/// Keeps only those facts of a jump target that are also known at the jump. Returns true if all facts that the target then requires are
+/// known at the jump.
 fn merge_at(
     entries: &mut Vec<Entry>,
     code: &[Instruction],
@@ -126,8 +126,8 @@ fn merge_at(
     Ok(is_inside)
 }
 
-/// Keeps only those facts of an instruction's forward jump target that are also known at the instruction. Returns true if the known
-/// facts imply the target's entry.
+/// Keeps only those facts of an instruction's forward jump target that are also known at the instruction. Returns true if the facts
+/// known at the instruction then imply those that the target requires.
 #[tactic(auto, using(crate::proofs::Entered::jumped_well))]
 fn merge_target(
     entries: &mut Vec<Entry>,
@@ -189,8 +189,8 @@ fn begin_at(
     Ok(())
 }
 
-/// Keeps only those facts of a jump target that are also known after the previous instruction. Returns true if the target then requires
-/// only known facts.
+/// Keeps only those facts of a jump target that are also known after the previous instruction. Returns true if all facts that the
+/// target then requires are known after the previous instruction.
 fn join(
     entries: &mut Vec<Entry>,
     code: &[Instruction],
@@ -210,8 +210,8 @@ fn join(
     Ok(is_inside)
 }
 
-/// Updates the facts at a position that control reaches from the previous instruction. Returns true only if the entry of the
-/// position requires only known facts.
+/// Updates the facts at a position that control reaches from the previous instruction. Returns true only if all facts
+/// required at this position are known after the previous instruction.
 fn come_next(
     setting: &Setting,
     search: &mut Search,
@@ -255,8 +255,8 @@ fn continue_after(
     Ok(goes_well(entries, following, instruction, index))
 }
 
-/// Returns true if an instruction does not jump, and the next position is no jump target and begins no region. An unreachable jump is
-/// treated as not jumping.
+/// Returns true if an instruction does not jump, and the next position is no jump target and begins no code region. An unreachable
+/// jump is treated as not jumping.
 fn is_straight(
     search: &Search,
     entries: &[Entry],
@@ -276,8 +276,8 @@ fn is_straight(
     }
 }
 
-/// Processes an instruction that jumps, or whose next position is a jump target or begins a region. `facts` become those at the next
-/// position. Returns true if the known facts imply the entry of the next position.
+/// Processes an instruction that jumps, or whose next position is a jump target or begins a code region. Replaces `facts` by the facts
+/// known at the next position. Returns true if the facts known after the instruction imply those required at the next position.
 fn merge_into_successor(
     setting: &Setting,
     search: &mut Search,
@@ -318,8 +318,8 @@ fn merge_into_successor(
     Ok(true)
 }
 
-/// Processes one instruction. `facts` become those at the next position. Returns true if the known facts imply the entry of the next
-/// position.
+/// Processes one instruction. Replaces `facts` by the facts known at the next position. Returns true if the facts known after the
+/// instruction imply those required at the next position.
 fn pass_on(
     setting: &Setting,
     search: &mut Search,
@@ -391,7 +391,7 @@ fn walked(
     Ok(Some(code))
 }
 
-/// Returns the simplified code of a function. A short search is tried first, since it mostly succeeds.
+/// Returns the simplified code of a function. A search with a single pass over each code region is tried first, since it mostly succeeds.
 pub(crate) fn walked_soon(
     alloc: Global,
     plain: &Plain,

@@ -1,4 +1,4 @@
--- Lemmas about bits of a page pool that are set or cleared at once, in one word.
+-- Lemmas about bits of a page pool that are set or cleared at once, in one machine word.
 use Rattle.std.proofs.Common.{◌≡◌, ℕ, zero, suc, refl, ◌+◌, ◌*◌, ◌%◌, ◌<◌, ◌≤◌, Bool, false, length, sym, ap, ◌∙◌, inl, inr, arith, get_or-set_same, get_or-set_other}
 use Rattle.std.specs.Prelude.{◌==◌, ◌&&◌, ◌⊎◌, nat_le, nat_lt, slice_index, slice_index_or}
 use Rattle.std.specs.Int.{bit_at}

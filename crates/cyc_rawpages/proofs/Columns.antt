@@ -1,4 +1,4 @@
--- Lemmas: the contents of a page pool after one word of its headers is written.
+-- Lemmas: the values stored in a page pool after one word of its headers is written.
 use Rattle.std.proofs.Common.{◌≡◌, ℕ, zero, suc, ◌+◌, ◌*◌, ◌%◌, ◌^◌, ◌<◌, ◌≤◌, ◌∷◌, length, set, length-set, replicate, refl, ap, sym, ◌∙◌, inl, inr, arith, get_or-set_same, get_or-set_other}
 use Rattle.std.specs.Prelude.{◌==◌, Bool, slice_index, slice_index_or}
 use Rattle.std.specs.Int.{bit_at}
@@ -88,7 +88,7 @@ module _ (pages : ℕ) (raw : Parts) (l : Lists) (whole : length raw.heads ≡ 4
         chains = l.chains;
       }
 
-  -- Writing the two serial fields of a page's header sets the page's serial.
+  -- Writing the low and the high half of the serial number in a page's header sets the page's serial number.
   pub numbered : (page low high : ℕ) → page < pages
       → state_of pages (headed (headed raw (header_at page LOW) low) (header_at page HIGH) high) l ≡ record (state_of pages raw l) { serials = set (state_of pages raw l).serials page (low + 2 ^ 32 * high) }
   numbered page low high there =
@@ -107,7 +107,7 @@ module _ (pages : ℕ) (raw : Parts) (l : Lists) (whole : length raw.heads ≡ 4
         chains = l.chains;
       }
 
-  -- Writing a link or a tail changes only the lists of pages, not the pool's other contents.
+  -- Writing the link to a next page, or to a chain's last page, changes only the pool's lists of pages and nothing else.
   pub linked : (page field v : ℕ) → 4 ≤ field → field < 8 → state_of pages (headed raw (header_at page field) v) l ≡ state_of pages raw l
   linked page field v low high =
       let k = header_at page field in

@@ -14,7 +14,7 @@ use Rattle.cyc_rawpages.proofs.Columns.{tab-all, linked}
 use Rattle.cyc_rawpages.proofs.Links.{put-there, put-elsewhere, all-map, linked-same}
 use Rattle.cyc_rawpages.proofs.PoolLemmas.{header-in, field-put}
 
--- Says that the pages from number `left` on are linked as free pages.
+-- Says that the pages from index `left` on are linked as free pages.
 pub record IsLinking (pages : ℕ) (old new : Parts) (first left : ℕ) : Type 0 where
   pub fits : left ≤ pages
   pub whole : length new.heads ≡ 40 * pages

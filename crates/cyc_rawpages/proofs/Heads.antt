@@ -1,4 +1,4 @@
--- Lemmas about the head pages of a pool's chains after each call.
+-- Lemmas about the head pages of a pool's chains after each call of a pool function.
 use Rattle.std.proofs.Common.{◌≡◌, ℕ, zero, suc, ◌<◌, List, [], ◌∷◌, ◌++◌, length, set, ap, ◌∙◌, arith, get_or-set_same, get_or-set_other}
 use Rattle.cyc_rawpages.specs.inside.Lists.{chain_at}
 use Rattle.cyc_rawpages.specs.inside.Pool.{IsHead}

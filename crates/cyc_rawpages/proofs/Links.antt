@@ -69,7 +69,7 @@ chain-same pages next tail home next' tail' home' head (x ∷ xs) e same c = (
 
 -- ---- the calls of a pool
 module _ (pages : ℕ) (next tail : ℕ → ℕ) (first : ℕ) (l : Lists) (up : IsLinkedUp pages next tail first l) where
-  -- The number of a page differs from `NONE`, which represents no page.
+  -- The index of a page differs from `NONE`, which represents no page.
   small : (p : ℕ) → p < pages → p ≡ NONE → ⊥
   small p there e = omega (arith, there, e, up.few)
 

@@ -1,4 +1,5 @@
--- Lemmas about adjacent memory cells: one cell is taken out and put back, or borrowed. Assumes `Logic`.
+-- Lemmas about adjacent memory cells: one cell is taken out and put back, or borrowed. The lemmas of
+-- this file assume the program logic `Logic`.
 use mathlib.Core.Path.{◌≡◌, refl, sym, ap, subst, ◌∙◌}
 use Prim.Native.Nat.{ℕ, zero, suc, ◌+◌, ◌*◌, ◌<◌, ◌≤◌}
 use native.Mathlib.Omega.{arith}

@@ -13,7 +13,7 @@ use Rattle.cyc_rawpages.proofs.Columns.{tab-read, field-kept}
 use Rattle.cyc_rawpages.proofs.FreePages.{other-among, among-following, free-none as none-free, free-first, free-taken, free-given}
 use Rattle.cyc_rawpages.proofs.Links.{put-there, put-elsewhere, all-map, free-none, free-some, free-there, taken, tail-in, given, pushed}
 
--- The index of a page's header field is below the number of head words of the pool.
+-- The index of a page's header field is below the number of words at the pool's start, which hold all pages' headers and bits.
 pub header-in : (pages page field : ℕ) (raw : Parts) → length raw.heads ≡ 40 * pages → page < pages → field < 8 → header_at page field < length raw.heads
 header-in pages page field raw whole there low = omega (arith, whole, there, low)
 
@@ -33,7 +33,7 @@ field-apart : (pages page written v field : ℕ) (raw : Parts) → written < 8 �
 field-apart pages page written v field raw low high ne = λ j p. field-kept pages raw (header_at page written) v field p (λ e. ne (omega (arith, e, low, high))) j
 
 module _ (pages : ℕ) (raw : Parts) (first : ℕ) (l : Lists) (is : IsPool pages raw first l) where
-  -- Writing a header word that is neither a link nor a tail keeps the pool's invariant.
+  -- Writing a header word that is neither the link to a next page nor the number of a chain's last page keeps the pool's invariant.
   pub kept : (k v : ℕ) → ((page : ℕ) → (header_at page NEXT ≡ k → ⊥) × (header_at page TAIL ≡ k → ⊥)) → IsPool pages (headed raw k v) first l
   kept k v ne = record {
     whole = length-set raw.heads k v ∙ is.whole;

@@ -1,4 +1,4 @@
--- A shared reference to the cells exists if there is a shared reference to each word. Assumes `Logic`.
+-- A shared reference to the cells exists if there is a shared reference to each word. The proof assumes the program logic `Logic`.
 use Rattle.std.specs.Prelude.{ℕ, ◌+◌, List, [], ◌∷◌, Option, Some, None}
 use seplogic.Ra.Ura.{Ura}
 use base.Fml.{Lft, ftrue, ffalse}

@@ -10,15 +10,16 @@ use std::marker::Model;
 /// The minimum number of words that are cleared at once.
 const STRETCH: usize = 1024;
 
-/// One block of memory with `heads` head words, followed by `words` further words. Dropping the struct frees the block.
+/// One block of memory with `heads` header words at its start, followed by `words` further words. Dropping the struct frees the block.
 ///
-/// The head words are initialised when the block is allocated. The other words are initialised up to the last word that was set, and some
-/// words after it. Uninitialised words are read as 0, so the operating system provides no memory for unused words.
+/// The header words at the start of a block are initialised when the block is allocated. The other words of a block are initialised up to
+/// the last word that was set, and some words after it. Uninitialised words are read as 0, so the operating system provides no memory for
+/// unused words.
 pub struct Block {
     start: Start,
     count: usize,
     heads: usize,
-    /// The number of words that are already initialised.
+    /// The number of words after the header words that are already initialised.
     made: usize,
     cells: Cells,
     lease: Lease<Global>,
@@ -52,7 +53,7 @@ fn clear(cells: &mut Cells, start: Start, from: usize, to: usize)
 }
 
 impl Block {
-    /// Allocates a block of head words and further words, all of which read as 0.
+    /// Allocates a block of header words and further words, all of which read as 0.
     pub fn new(alloc: Global, heads: usize, words: usize) -> Result<Block, AllocError>
         requires { heads + words < 2 ^ 32 }
         ensures { IfOk result (λ b. b ≡ record { heads = replicate heads 0; words = replicate words 0; made = 0 }) }
@@ -73,7 +74,7 @@ impl Block {
         })
     }
 
-    /// Returns the head word at an index.
+    /// Returns the header word, at the start of the block, with the given index.
     #[inline]
     pub fn head(&self, index: usize) -> u32
         requires { index < length self.now.heads }
@@ -82,7 +83,7 @@ impl Block {
         self.cells.read(self.start, index)
     }
 
-    /// Writes the head word at an index.
+    /// Writes the header word, at the start of the block, with the given index.
     #[inline]
     pub fn set_head(&mut self, index: usize, word: u32)
         requires { index < length self.old.heads }
@@ -91,7 +92,7 @@ impl Block {
         self.cells.write(self.start, index, word)
     }
 
-    /// Writes the same word to each of `count` head words from `first` on.
+    /// Writes the same word to each of `count` header words at the start of the block, from index `first` on.
     pub fn set_heads(&mut self, first: usize, count: usize, word: u32)
         requires inside { first + count ≤ length self.old.heads }
         requires few { first + count < 2 ^ 32 }

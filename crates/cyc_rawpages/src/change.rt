@@ -1,6 +1,6 @@
-//! The effect of a call on the free pages and the chains of a pool.
+//! The effect of a call of a pool function on the free pages and the chains of the pool.
 
-/// A change of the free pages and the chains of a pool, made by one call.
+/// A change of the free pages and the chains of a pool, made by one call of a pool function.
 #[derive(Clone, Copy)]
 pub enum Change {
     /// All pages were created; each page is free.

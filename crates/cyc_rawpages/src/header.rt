@@ -1,4 +1,4 @@
-//! The head words of a pool: for each page, a header followed by the page's bits.
+//! The words at the start of a pool's block: for each page, a header followed by the page's bits.
 
 ghost use Rattle.std.specs.Int.{bit_at};
 ghost use Rattle.std.specs.Prelude.{◌==◌, if◌then◌else◌, ◌≡◌, ◌≢◌, ℕ, ◌+◌, ◌*◌, ◌<◌, ◌≤◌, ◌⊎◌};
@@ -16,16 +16,16 @@ pub const HEAD_WORDS: u32 = 40;
 /// The maximum number of pages of a pool.
 pub const MOST_PAGES: u32 = 65536;
 
-/// The index, in a page's header, of the fill mark: the number of the page's words that are filled.
+/// The index, in a page's header, of the fill mark, which counts the page's words that are filled.
 pub const FILL: u32 = 0;
 
 /// The index, in a page's header, of the page's owner.
 pub const OWNER: u32 = 1;
 
-/// The index, in a page's header, of the low half of the page's serial.
+/// The index, in a page's header, of the low half of the page's serial number.
 pub const LOW: u32 = 2;
 
-/// The index, in a page's header, of the high half of the page's serial.
+/// The index, in a page's header, of the high half of the page's serial number.
 pub const HIGH: u32 = 3;
 
 /// The index, in a page's header, of the link to the next page of its chain or of the free list.
@@ -37,7 +37,7 @@ pub const TAIL: u32 = 5;
 /// The page number that represents the absence of a page.
 pub const NONE: u32 = 0xffff_ffff;
 
-/// Returns the index, among all head words of the pool, of a field of a page's header.
+/// Returns the index of a field of a page's header, among the pool's first words with all pages' headers and bits.
 #[inline]
 pub(crate) fn header_at(page: u32, field: u32) -> usize
     ensures { result ≡ header_at page field }
@@ -45,7 +45,7 @@ pub(crate) fn header_at(page: u32, field: u32) -> usize
     HEAD_WORDS as usize * page as usize + field as usize
 }
 
-/// Returns the index, among all head words of the pool, of the word that contains a bit of a page.
+/// Returns the index of the word with a given bit of a page, among the pool's first words with all pages' headers and bits.
 #[inline]
 pub(crate) fn bits_at(page: u32, bit: u32) -> usize
     requires { bit < PAGE_WORDS }

@@ -1,7 +1,7 @@
 //! Pages of raw memory: one block of memory contains the words and the headers of all pages.
 //!
 //! Only four functions of the module `cells` use the raw pointer; code outside `cells` uses none. `specs/inside/Pool` defines the
-//! contents of a pool and their representation in words.
+//! values stored in a pool and their representation in words.
 #![tactic(auto)]
 
 mod block;

@@ -15,7 +15,7 @@ use super::roll::Roll;
 use std::alloc::{AllocError, Global};
 use std::marker::Model;
 
-/// A page of a pool, by its number.
+/// A page of a pool, identified by its index.
 #[derive(Clone, Copy, Debug, PartialEq, Eq)]
 pub struct PageNo {
     /// The page number, from 0 up to the pool's number of pages, exclusive.
@@ -30,7 +30,7 @@ pub struct Chain {
 }
 
 /// A pool of pages. A page is free or in a chain, which is identified by its first page, the head. Each page has 1,024 words, 1,024 bits, a
-/// fill mark, an owner and a serial. The meaning of a page's words, bits, mark, owner and serial is up to the caller.
+/// fill mark, an owner and a serial. The meaning of a page's words, bits, fill mark, owner and serial is up to the caller.
 ///
 /// After [`Pool::new`], no function of the pool allocates. The pool's memory is freed when the pool is dropped.
 #[derive(Drop)]
@@ -165,7 +165,7 @@ impl Pool {
         )
     }
 
-    /// Returns the fill mark of a page.
+    /// Returns the fill mark of a page: a number, meant to count the page's words that are filled.
     #[inline]
     pub fn fill(&self, page: PageNo) -> u32
         requires { page.number < self.now.pages }
@@ -174,7 +174,7 @@ impl Pool {
         self.block.head(header_at(page.number, FILL))
     }
 
-    /// Sets the fill mark of a page.
+    /// Sets the fill mark of a page: a number, meant to count the page's words that are filled.
     #[inline]
     pub fn set_fill(&mut self, page: PageNo, fill: u32)
         requires { page.number < self.old.pages }
@@ -201,7 +201,7 @@ impl Pool {
         self.block.set_head(header_at(page.number, OWNER), owner)
     }
 
-    /// Returns the serial of a page.
+    /// Returns the serial number of a page.
     #[inline]
     pub fn serial(&self, page: PageNo) -> u64
         requires { page.number < self.now.pages }
@@ -212,7 +212,7 @@ impl Pool {
         low as u64 + 0x1_0000_0000 * high as u64
     }
 
-    /// Sets the serial of a page.
+    /// Sets the serial number of a page.
     #[inline]
     pub fn set_serial(&mut self, page: PageNo, serial: u64)
         requires { page.number < self.old.pages }

@@ -241,7 +241,7 @@ module _ (program : Program) (r : Routine) (masks live holders : List ℕ) (call
     ]
 
     module _ (groups : List ℕ) (grouped : AreGroups holders (length holders) groups) where
-      -- If two slots have one register and belong to a set with at most one slot of each group, then they are the same slot.
+      -- If two slots have one register and are in a set with at most one slot for each register, they are the same slot.
       one_in : (set a c k j l : ℕ) → AreAlone groups set
           → HasRegister hs a k → HasRegister hs c k → HasBit masks a j → HasBit masks c l → bit_at set j ≡ 1 → bit_at set l ≡ 1 → a ≡ c
       one_in set a c k j l alone its_a its_c bit_a bit_c in_a in_c =
@@ -298,7 +298,8 @@ module _ (program : Program) (r : Routine) (masks live holders : List ℕ) (call
           ]
         ]
           where
-            -- A slot that is in a register only is not live in a handler, so if it is live later, it is live now.
+            -- A slot that is in a register only is not live in a handler. If such a slot is live at a position or
+            -- in a handler, it is live at the position.
             now : (slot k : ℕ) → HasRegister hs slot k → is_kept (home_of hs slot) ≡ false → IsLiveLater program r slot index → IsLiveAt program r slot index
             now slot k its unkept (inl here) = here
             now slot k its unkept (inr (at_try, first, handler, at, wanted)) = absurd (both_ways (is_kept (home_of hs slot)) unkept ((each slot).clause at_try first handler at wanted))
@@ -388,7 +389,7 @@ module _ (program : Program) (r : Routine) (masks live holders : List ℕ) (call
             barred = λ index a i at is. (each a).barred index i at is;
           }
             where
-              -- A slot with both a register and memory shares its register with no other slot.
+              -- A slot that is both in a register and in memory shares its register with no other slot.
               alone_of : (a c k : ℕ) → home_of hs a ≡ homes.Both k → HasRegister hs c k → IsAloneAt a k (home_of hs a) → a ≡ c
               alone_of a c k both_a its_c (inl (unkept, none)) = absurd (both_ways (is_kept (home_of hs a)) unkept (ap is_kept both_a))
               alone_of a c k both_a its_c (inr only) = only_holder a c k only its_c

@@ -169,7 +169,7 @@ module _ (masks : List ℕ) (slot j : ℕ) (has : HasBit masks slot j) where
 -- ---- a checked table
 
 module _ (program : Program) (r : Routine) (masks live : List ℕ) (calls clauses barred : ℕ) (sound : IsSound program r masks live calls clauses barred) where
-  -- The slots that an instruction reads and writes, as listed in the table of uses.
+  -- The slots that an instruction reads and writes, as listed in the table of all instructions' reads and writes.
   abbrev used : Instruction → Uses
   used i = uses_of program r.results masks i
 

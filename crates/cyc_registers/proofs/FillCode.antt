@@ -1,4 +1,4 @@
--- The code positions listed as filling delay slots may fill them.
+-- Each instruction listed as one whose first line may fill the delay slots of branches to it may indeed fill them.
 use Rattle.std.proofs.Common.{◌≡◌, ℕ, suc, ◌+◌, ◌<◌, Bool, false, true, List, length, Option, None, Some, sym, ap, subst, ◌∙◌, arith, inl, inr}
 use Rattle.std.specs.Prelude.{◌==◌, ◌&&◌, not, nat_lt, if◌then◌else◌, bit_and, bit_or, slice_get, slice_set}
 use Rattle.std.specs.Int.{bit_at}
@@ -27,7 +27,7 @@ use Rattle.cyc_registers.proofs.CheckedLiveness.{live_bit}
 -- ---- one branch at a time
 
 module _ (holders live : List ℕ) (hs : List Home) (code : List Instruction) (count : ℕ) (fills : List Bool) (left_so_far : AreLeft holders live hs code count fills) where
-  -- Excluding branch targets does not change the length of the list of code positions.
+  -- Excluding branch targets does not change the length of the list that marks the positions that fill delay slots.
   length-barring : (last : Instruction) → length (barring holders live hs code count last fills) ≡ length code
   length-barring (instructions.Branch comparison left right target) = go (nat_lt target (length fills) && not (may_fill holders live hs count (slice_get code target)))
     where
@@ -47,7 +47,7 @@ module _ (holders live : List ℕ) (hs : List Home) (code : List Instruction) (c
     | inr other ↦ sym (get_or-set_other fills at target false false other) ∙ is
   ]
 
-  -- The target of a branch is removed from the list of filling positions if its instruction may not fill the branch's delay slot.
+  -- The target of a branch is removed from the positions that fill delay slots if its instruction may not fill this branch's delay slot.
   barred_here : (index target : ℕ) (comparison : Comparison) (left right : Operand) (i : Instruction) → slice_get code target ≡ Some i
       → fills_at (barring holders live hs code count (instructions.Branch comparison left right target) fills) target ≡ true → may_fill holders live hs count (Some i) ≡ true
   barred_here index target comparison left right i there is = elim (cases_Bool (may_fill holders live hs count (Some i))) [
@@ -104,7 +104,7 @@ module _ (program : Program) (r : Routine) (masks live holders : List ℕ) (call
   free_at destination index d a k is written has has_a wanted =
       free index destination a k is (subst (λ (n : ℕ). HasRegister hs n k) (sym (eqb-true destination d written)) has) has_a wanted
 
-  -- If an instruction may fill a delay slot, the register of the slot that it writes is free there.
+  -- If an instruction may fill the delay slot of a branch, no slot live after the branch has the register that the instruction writes.
   free_of : (i : Instruction) (index d a k : ℕ) → may_fill holders live hs index (Some i) ≡ true → writes program i d ≡ true → HasRegister hs d k → HasRegister hs a k → IsLiveAt program r a (suc index) → ⊥
   free_of (instructions.Move destination source) index d a k is written has has_a wanted = free_at destination index d a k is written has has_a wanted
   free_of (instructions.Unary operator destination operand) index d a k is written has has_a wanted = free_at destination index d a k is written has has_a wanted

@@ -115,7 +115,7 @@ flag_last : (flags : List Bool) (flag : Bool) → idle_at (flags ++ flag ∷ [])
 flag_last [] flag = refl
 flag_last (f ∷ flags) flag = flag_last flags flag
 
--- If a code position is idle by some flags, it is also idle by flags that mark more positions.
+-- If some flags show that a code position needs no machine code, flags that mark more positions show this too.
 still_idle : (program : Program) (r : Routine) (hs : List Home) (flags more : List Bool) (index : ℕ) → ((k : ℕ) → idle_at flags k ≡ true → idle_at more k ≡ true)
     → (i : Instruction) → IsIdle program r hs flags index i → IsIdle program r hs more index i
 still_idle program r hs flags more index still (instructions.Move destination source) is = is
@@ -131,7 +131,7 @@ idle_before [] flag k is = absurd (false≢true is)
 idle_before (f ∷ flags) flag zero is = is
 idle_before (f ∷ flags) flag (suc k) is = idle_before flags flag k is
 
--- Says that the idle flags of the first `count` instructions are right.
+-- Says that for the first `count` instructions, the flags that mark instructions without machine code are right.
 abbrev pub AreFirstIdle : Program → Routine → List Home → (count : ℕ) → List Bool → Type 0
 AreFirstIdle program r hs count flags = AreIdle program r hs flags × (length flags ≡ count)
 
@@ -160,7 +160,7 @@ pub over_idle : (program : Program) (r : Routine) (hs : List Home) (flags : List
 over_idle program r hs flags index (instructions.Jump target) leads = leads
 over_idle program r hs flags index i leads = absurd leads
 
--- Returns the flags with one more code position marked, if the position is idle.
+-- Returns the flags with one more code position marked, if this position needs no machine code.
 abbrev pub with_place : (flags : List Bool) (place : ℕ) (is_more : Bool) → List Bool
 with_place flags place is_more = if is_more then slice_set flags place true else flags
 

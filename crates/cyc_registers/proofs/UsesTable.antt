@@ -9,7 +9,7 @@ use Rattle.cyc_registers.specs.declared.uses.Uses.{Uses}
 use Rattle.cyc_registers.specs.inside.Masks.{uses_of}
 use Rattle.cyc_words.proofs.Lists.{slice_get_last, slice_get_before}
 
--- Says that the table of uses is right for the first `count` instructions.
+-- Says that the table of read and written slots is right for the first `count` instructions.
 abbrev pub AreFirstUses : Program → Routine → (masks : List ℕ) → (count : ℕ) → List Uses → Type 0
 AreFirstUses program r masks count table =
     (length table ≡ count)

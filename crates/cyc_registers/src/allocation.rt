@@ -23,12 +23,12 @@ use std::alloc::{AllocError, Global};
 pub struct Allocation {
     /// The home of each slot: a register, memory, or both.
     pub homes: Vec<Home>,
-    /// The number of callee-saved registers assigned to slots; they are the first ones.
+    /// The number of callee-saved registers assigned to slots; the assigned ones are the first of all callee-saved registers.
     pub saved: usize,
-    /// True for each instruction that is idle, so that it needs no machine code. Instructions past the end of the list are not idle.
+    /// True for each instruction that needs no machine code (is idle). Instructions past the end of the list are not idle.
     pub idle: Vec<bool>,
     /// True for each instruction whose word may be computed before the branches to it, in their delay slots. Instructions past the
-    /// end of the list do not qualify.
+    /// end of the list fill no delay slots.
     pub fills: Vec<bool>,
 }
 
@@ -39,8 +39,8 @@ fn in_memory(alloc: Global, plain: &Plain, function: &Function) -> Result<Vec<Ho
     Ok(vec![in alloc; Home::Memory; function.slots]?)
 }
 
-/// Returns an allocation with all slots in memory, no idle instruction and no filled delay slot. An allocation of all slots in memory is
-/// correct for any code.
+/// Returns an allocation with all slots in memory, machine code for each instruction, and no filled delay slot. An allocation of all
+/// slots in memory is correct for any code.
 fn memory_alone(alloc: Global, plain: &Plain, function: &Function) -> Result<Allocation, AllocError>
     ensures homes { IfOk result (λ given. AreHomes plain.now (routine_of function.now) given.saved given.homes.items) }
     ensures saved { IfOk result (λ given. given.saved ≡ 0) }
@@ -55,7 +55,7 @@ fn memory_alone(alloc: Global, plain: &Plain, function: &Function) -> Result<All
     })
 }
 
-/// Returns a home for each slot of a function, and the idle instructions that follow from the homes. The slots with the highest
+/// Returns a home for each slot of a function, and the instructions that need no machine code with these homes. The slots with the highest
 /// spill costs get registers, which slots may share if they are never live at once. At most `most` callee-saved registers are used.
 pub fn allocate(
     alloc: Global,

@@ -71,7 +71,7 @@ struct Registers {
     handed: [u64; REGISTERS],
     /// The number of caller-saved registers that no slot has.
     free: usize,
-    /// The number of callee-saved registers assigned to slots; they are the first ones.
+    /// The number of callee-saved registers assigned to slots; the assigned ones are the first of all callee-saved registers.
     saved: usize,
     /// The maximal number of callee-saved registers that may be assigned.
     most: usize,
@@ -154,7 +154,7 @@ impl Registers {
             && mask_at(&self.slots, register as usize) & others == 0
     }
 
-    /// Returns the first caller-saved register listed for one of the given candidates that no interfering slot has.
+    /// Returns the first caller-saved register that is listed for one of the given candidates and is held by no interfering slot.
     fn first_open(&self, list: &[u8], slots: u64, others: u64) -> Option<u8> {
         let mut left = slots;
         for _ in 0..MOST_CHOSEN {
@@ -184,8 +184,8 @@ impl Registers {
         None
     }
 
-    /// Returns a register that other slots have but no interfering one. Prefers the register of a slot connected by a move, else the
-    /// register with the fewest slots, since instructions on one register cannot be reordered.
+    /// Returns a register that other slots have but no interfering one. Instructions on one register cannot be reordered. So the
+    /// function prefers the register of a slot connected by a move, else the register with the fewest slots.
     fn shared(&self, first: u8, end: u8, candidate: &Candidate) -> Option<u8> {
         let mut found = self.moved(first, end, candidate);
         if found.is_some() {
@@ -217,9 +217,9 @@ impl Registers {
         found
     }
 
-    /// Returns a caller-saved register that none of the interfering slots has. First tries the register of a slot connected by a move. If
-    /// that register is not free, the function tries the registers in which the candidate, or a slot connected by a move, is passed.
-    /// Returns another free register only while more than the reserved ones are left.
+    /// Returns a caller-saved register that none of the interfering slots has. The function first tries the register of a slot that a
+    /// move connects with the candidate. If that register is not free, the function tries the registers in which the candidate or a slot
+    /// connected by a move is passed. The function returns another free register only while more than the reserved ones are left.
     fn lost(&self, candidate: &Candidate, others: u64) -> Option<u8> {
         let moved = self.first_open(&self.given, candidate.moves, others);
         if moved.is_some() {
@@ -380,7 +380,7 @@ impl Registers {
         }
     }
 
-    /// Notes that slots passed at one position, as arguments or parameters, should share a register.
+    /// Notes that slots passed at one position in an argument or parameter list should share a register.
     fn want(&mut self, mask: u64, place: Option<usize>) {
         match place {
             Some(place) if place < MOST_LOST => {

@@ -48,7 +48,7 @@ fn may_fill(
     }
 }
 
-/// Excludes the target of the branch at `index` from the filling instructions if it may not fill the branch's delay slot.
+/// Excludes the target of the branch at `index` from the instructions that fill delay slots, if it may not fill this branch's delay slot.
 fn bar(
     holders: &[u64],
     live: &[u64],

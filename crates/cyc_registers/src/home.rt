@@ -3,7 +3,7 @@
 /// The first register that slots may have.
 pub const FIRST_REGISTER: u8 = 6;
 
-/// The number just after that of the last register that slots may have.
+/// The register number just after that of the last register that slots may have.
 pub const REGISTERS_END: u8 = 24;
 
 /// The first callee-saved register. A function that assigns callee-saved registers to slots saves those registers at its entry and restores

@@ -49,7 +49,7 @@ fn is_unkept(homes: &[Home], slot: usize) -> bool
     matches!(homes.get(slot), Some(Home::Register { .. }))
 }
 
-/// Returns true if a slot that is in a register only is not live after the instruction at `index`.
+/// Returns true if a slot is in a register only and is not live after the instruction at `index`.
 fn is_unused(masks: &[u64], live: &[u64], homes: &[Home], index: usize, slot: usize) -> bool
     requires { index < length live.now }
     ensures { result ≡ checks.is_unused masks.now live.now homes.now index slot }
@@ -58,7 +58,7 @@ fn is_unused(masks: &[u64], live: &[u64], homes: &[Home], index: usize, slot: us
     0 < mask && (mask_at(live, index + 1) & mask == 0 && is_unkept(homes, slot))
 }
 
-/// Returns true if the slot at a given offset from the first slot is unused.
+/// Returns true if the slot at a given offset from the first slot is in a register only and not live after the instruction.
 fn is_unused_after(
     masks: &[u64],
     live: &[u64],
@@ -76,7 +76,7 @@ fn is_unused_after(
     is_unused(masks, live, homes, index, first + offset)
 }
 
-/// Returns true if `count` slots from `first` on are unused.
+/// Returns true if `count` slots from `first` on are in registers only and not live after the instruction.
 fn are_unused(
     masks: &[u64],
     live: &[u64],
@@ -115,7 +115,7 @@ fn home_at(homes: &[Home], slot: usize) -> Home
     }
 }
 
-/// Returns true if the moved word is already in the slot's register, which is its only home.
+/// Returns true if the word that a move copies is already in the destination slot's register, which is the only home of this slot.
 fn is_there(homes: &[Home], slot: usize, source: Operand) -> bool
     ensures { result ≡ checks.is_there homes.now slot source }
 {
@@ -163,7 +163,8 @@ fn is_idle(
     }
 }
 
-/// Returns true if the instruction at `index` is idle. An instruction without an entry is not idle.
+/// Returns true if the instruction at `index` is marked as needing no machine code. An instruction
+/// without an entry in the list is not marked as needing no machine code.
 fn idle_at(idle: &[bool], index: usize) -> bool
     ensures { result ≡ rules.idle_at idle.now index }
 {
@@ -173,7 +174,7 @@ fn idle_at(idle: &[bool], index: usize) -> bool
     }
 }
 
-/// Returns true if the instructions from `first` up to `end`, exclusive, are idle.
+/// Returns true if the instructions from `first` up to `end`, exclusive, are marked as needing no machine code.
 fn are_idle(idle: &[bool], first: usize, end: usize) -> bool
     ensures { result ≡ true → rules.AreIdleFrom idle.now first end }
 {
@@ -185,7 +186,7 @@ fn are_idle(idle: &[bool], first: usize, end: usize) -> bool
     true
 }
 
-/// Returns true if an instruction jumps forward over idle instructions only.
+/// Returns true if an instruction jumps forward over instructions only that need no machine code.
 fn leads_over(idle: &[bool], instruction: Instruction, index: usize) -> bool
     ensures { result ≡ true → rules.LeadsOver idle.now index instruction }
 {
@@ -195,7 +196,7 @@ fn leads_over(idle: &[bool], instruction: Instruction, index: usize) -> bool
     }
 }
 
-/// Returns the idle instructions of a function's code, except jumps over idle instructions.
+/// Returns the instructions of a function that need no machine code, except jumps over such instructions.
 fn idle_alone(
     alloc: Global,
     plain: &Plain,
@@ -217,7 +218,7 @@ fn idle_alone(
     Ok(idle)
 }
 
-/// Marks the instruction at `index` as idle, if it is idle.
+/// Marks the instruction at `index` as needing no machine code, if it needs none.
 fn say(idle: &mut Vec<bool>, index: usize, is_more: bool)
     requires { index < length idle.old.items }
     ensures { idle.new.items ≡ (if is_more then slice_set idle.old.items index true else idle.old.items) }
@@ -227,8 +228,8 @@ fn say(idle: &mut Vec<bool>, index: usize, is_more: bool)
     }
 }
 
-/// Returns the idle instructions of a function's code. A jump counts as idle if it skips only idle instructions, not counting later
-/// jumps over idle instructions.
+/// Returns the instructions of a function that need no machine code (are idle). A jump counts as idle if it skips only idle
+/// instructions, not counting later jumps over idle instructions.
 pub(crate) fn idle_places(
     alloc: Global,
     plain: &Plain,

@@ -23,7 +23,7 @@ pub(crate) struct Interference {
     goes: bool,
 }
 
-/// Adds a set of slots to the row of each candidate in `to`.
+/// Adds a set of slots to the neighbours of each candidate in `to`.
 fn add(rows: &mut [u64; ROWS], to: u64, slots: u64) {
     let mut left = to;
     for _ in 0..MOST_CHOSEN {
@@ -62,7 +62,8 @@ impl Interference {
         interference
     }
 
-    /// Returns the interference graph of a function's code, given the uses of its instructions and the slots live at each instruction.
+    /// Returns the interference graph of a function's code, given the slots that its instructions read and write, and those live at
+    /// each instruction.
     pub(crate) fn of_code(
         function: &Function,
         masks: &[u64],
@@ -94,7 +95,7 @@ impl Interference {
 
     /// Adds the next instruction to the interference graph, with the slots live at the instruction and after it. Slots interfere if
     /// they are live at the entry or after an instruction that never falls through. A written slot interferes with the slots live
-    /// after the write. A slot moved along with other words interferes with all of their sources.
+    /// after the write. A destination slot of a move of several words interferes with all source slots of this move.
     fn look_at(&mut self, uses: Uses, instruction: Instruction, live: u64, following: u64) {
         if !self.goes {
             add(&mut self.meets, live, live);

@@ -19,7 +19,7 @@ pub(crate) const ALL_NUMBERS: u64 = 0xffff_ffff_ffff_ffff;
 /// The maximal number of further passes over the liveness table. Each level of nested loops takes one pass.
 const ROUNDS: usize = 16;
 
-/// Returns the liveness table's entry for the successors of an instruction.
+/// Returns the slots that the liveness table lists as live at the successors of an instruction.
 pub(crate) fn after_mask(instruction: Instruction, index: usize, live: &[u64]) -> u64
     requires { index < length live.now }
     ensures { result ≡ checks.after_mask instruction index live.now }
@@ -121,8 +121,8 @@ fn is_sound_at(
                 && is_within(uses.bars, lives.barred)))
 }
 
-/// Returns true if the liveness table misses no code position where a chosen slot is live. The check also ensures that no slot that is
-/// live after a call, live in a handler, or excluded from registers is missing from its set.
+/// Returns true if the liveness table misses no code position where a chosen slot is live. The check also ensures that the sets of
+/// slots live after a call, live in a handler, or excluded from registers miss no such slot.
 pub(crate) fn is_sound(
     plain: &Plain,
     function: &Function,

@@ -70,7 +70,7 @@ fn request_read_mask(masks: &[u64], request: Request) -> u64
     }
 }
 
-/// Returns the slots that an instruction reads, in a function with `results` results.
+/// Returns the slots that an instruction reads, in a function with `results` result words.
 pub(crate) fn read_mask(masks: &[u64], results: usize, instruction: Instruction) -> u64
     ensures { result ≡ masks_of.read_mask masks.now results instruction }
 {

@@ -1,4 +1,4 @@
-//! Numbers the candidate slots; the numbers are given as masks.
+//! Numbers the candidate slots; each number is given as a mask with one bit.
 ghost use Rattle.std.specs.Prelude.{◌≤◌, IfOk};
 ghost use Rattle.cyc_registers.specs.inside.Masks.{AreMasks};
 

@@ -39,7 +39,7 @@ pub(crate) fn holders_of(masks: &[u64], homes: &[Home]) -> [u64; REGISTERS] {
     holders
 }
 
-/// Appends a set of slots to the groups if the set has more than one slot.
+/// Appends a set of slots to the groups of slots that share a register, if the set has more than one slot.
 fn add_group(groups: &mut Vec<u64>, slots: u64) -> Result<(), AllocError>
     ensures { IfOk result (λ done. groups.new.items ≡ checks.with_group groups.old.items slots) }
 {
@@ -68,7 +68,7 @@ fn is_given(saved: usize, register: u8) -> bool
     FIRST_REGISTER <= register && (register as usize) < FIRST_PRESERVED as usize + saved
 }
 
-/// Returns true if the home of a slot is correct in isolation, and the set of slots listed for its register includes the slot.
+/// Returns true if a slot's home is correct, as far as the slot alone decides, and the set listed for its register includes the slot.
 fn suits(analysis: &Analysis, holders: &[u64], saved: usize, slot: usize, home: Home) -> bool
     requires { saved ≤ MOST_SAVED }
     ensures { result ≡ checks.suits analysis.now.masks.now analysis.now.lives.now.live.items holders.now analysis.now.lives.now.calls
@@ -93,7 +93,7 @@ fn suits(analysis: &Analysis, holders: &[u64], saved: usize, slot: usize, home: 
     }
 }
 
-/// Returns true if the home of each slot is correct in isolation.
+/// Returns true if the home of each slot is correct, as far as this depends on the slot alone.
 fn all_suit(analysis: &Analysis, holders: &[u64], saved: usize, homes: &[Home]) -> bool
     requires { saved ≤ MOST_SAVED }
     ensures { result ≡ true → checks.AllSuit analysis.now.masks.now analysis.now.lives.now.live.items holders.now analysis.now.lives.now.calls
@@ -150,7 +150,7 @@ fn saved_in_first(homes: &[Home], count: usize) -> usize
     saved
 }
 
-/// Returns true if a set contains at most one slot of each group.
+/// Returns true if a set contains at most one slot of each group of slots that share a register.
 fn are_single(groups: &[u64], set: u64) -> bool
     ensures { result ≡ true → checks.AreSingle groups.now set }
 {
@@ -162,8 +162,8 @@ fn are_single(groups: &[u64], set: u64) -> bool
     true
 }
 
-/// Returns true if a set contains at most one slot of each group, given that the set `known` does. A subset of a set with at most one
-/// slot of each group has at most one slot of each group.
+/// Returns true if a set contains at most one slot of each group (slots that share a register), given that the set `known` does. A
+/// subset of a set with at most one slot of each group has at most one slot of each group.
 fn are_alone(groups: &[u64], known: u64, set: u64) -> bool
     requires { checks.AreAlone groups.now known }
     ensures { result ≡ true → checks.AreAlone groups.now set }
@@ -203,8 +203,8 @@ fn standing_mask(uses: Uses, instruction: Instruction, index: usize, live: &[u64
     }
 }
 
-/// Returns true if no two slots of a group interfere anywhere. After an instruction, only the written slots and those live after it need
-/// a new check.
+/// Returns true if no two slots that share a register interfere anywhere. After an instruction, only the written slots and those live
+/// after it need a new check.
 fn never_meet(
     plain: &Plain,
     function: &Function,

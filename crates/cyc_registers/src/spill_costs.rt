@@ -32,7 +32,7 @@ pub(crate) struct SpillCosts {
 /// The facts about loops at one position in the code.
 #[derive(Clone, Copy)]
 struct Place {
-    /// The code position after the last backward jump to this one, or 0 if there is none.
+    /// The code position after the last backward jump to the current position, or 0 if there is none.
     end: usize,
     /// The number of loops that end just before the code position.
     closing: u64,
@@ -336,7 +336,7 @@ impl SpillCosts {
         }
     }
 
-    /// Returns the number of slots whose costs are known.
+    /// Returns the number of slots in the table of spill costs.
     pub(crate) fn count(&self) -> usize {
         self.slots.len()
     }

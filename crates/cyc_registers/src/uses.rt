@@ -7,7 +7,7 @@ use crate::masks::{bar_mask, read_mask, write_mask};
 use cyc_plain::{Function, Instruction, Plain};
 use std::alloc::{AllocError, Global};
 
-/// The effect of an instruction on the candidates: the slots that it reads, writes and excludes, as masks.
+/// The candidate slots that an instruction reads, writes and excludes from registers, as masks.
 #[derive(Clone, Copy)]
 pub(crate) struct Uses {
     /// The slots that the instruction reads.
@@ -18,7 +18,7 @@ pub(crate) struct Uses {
     pub(crate) bars: u64,
 }
 
-/// Returns the effect of an instruction on the candidates, in a function with `results` result words.
+/// Returns the slots that an instruction reads, writes and excludes from registers, in a function with `results` result words.
 fn uses_of(plain: &Plain, results: usize, masks: &[u64], instruction: Instruction) -> Uses
     ensures { result ≡ masks_of.uses_of plain.now results masks.now instruction }
 {
@@ -29,7 +29,7 @@ fn uses_of(plain: &Plain, results: usize, masks: &[u64], instruction: Instructio
     }
 }
 
-/// Returns the effect of each instruction of a function on the candidates.
+/// Returns, for each instruction of a function, the candidate slots that it reads, writes and excludes from registers.
 pub(crate) fn all_uses(
     alloc: Global,
     plain: &Plain,

@@ -114,8 +114,7 @@ fn following_byte(depth: Depth, byte: u8) -> Depth {
     }
 }
 
-/// Returns the number of declarations that begin before a signature whose brackets are closed and whose body has not begun,
-/// after one more byte.
+/// Returns the number of declarations that begin before the last signature whose body has not begun, updated by one more byte of the text.
 fn heads_after(heads: usize, starts: usize, depth: Depth, byte: u8) -> usize {
     match byte {
         b'(' if depth.braces == 0 => starts,

@@ -14,7 +14,7 @@ enum Target<'t> {
     Struct(&'t Token),
 }
 
-/// The object to which a pointer should refer.
+/// The object that the advice suggests for a pointer that is declared without a value.
 #[derive(Clone, Copy)]
 struct Object<'t> {
     target: Target<'t>,
@@ -83,7 +83,7 @@ fn is_unique(text: &[u8], region: Option<&Token>) -> Option<bool> {
     }
 }
 
-/// Returns the object to which a local should refer that these tokens declare as a pointer with one pointer sign.
+/// Returns a description of the object to which a local should refer, if these tokens declare the local as a pointer with one pointer sign.
 fn object_of<'t>(text: &[u8], tokens: &'t [Token]) -> Option<Object<'t>> {
     let (target, rest) = target_of(tokens)?;
     let (mark, region) = match rest {

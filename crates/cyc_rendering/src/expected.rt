@@ -1,8 +1,8 @@
 //! Finds the tokens that could replace an unexpected token, or follow at the premature end of a text.
 //!
 //! The expected tokens are found by trial: the text up to the fault is parsed again with each candidate on a line after it. A
-//! candidate fits if the parser does not reject the text at the candidate. If the text before the declaration is a complete program,
-//! only the declaration is parsed.
+//! candidate fits if the parser does not reject the text at the candidate. If the text before the declaration with the fault is a
+//! complete program, only that declaration is parsed.
 use crate::declarations::{extent_of, starts_of};
 use crate::reading::tree_of;
 use cyc_words::{Code, Fault};

@@ -76,7 +76,7 @@ fn is_after_try(text: &[u8], span: Span, fault: Fault) -> bool {
     }
 }
 
-/// Returns true if the variable at a source position is a key that an item opens.
+/// Returns true if the variable at a source position is a key that a declaration opens.
 fn is_opened(text: &[u8], line: u32, column: u32) -> bool {
     is_given_to(b"open(", text, line, column)
 }
@@ -101,8 +101,8 @@ fn title_of(text: &[u8], fault: Fault, cause: Cause) -> &'static str {
     }
 }
 
-/// Returns the words on a change of the variable. If a variable was assigned or locked but is reported as empty, the body of a `try` may
-/// have emptied it.
+/// Returns the words of a message on the change that made a variable empty or locked. If a variable was assigned or locked but is
+/// reported as empty, the body of a `try` may have emptied it.
 fn words_of(text: &[u8], code: Code, cause: Cause) -> &'static str {
     let span = cause.span;
     match (cause.change, code, goal_of(text, span.line, span.column)) {

@@ -150,7 +150,7 @@ pub fn tell_readings(
         let Some(found) = refused_reading(alloc, &left) else {
             return Ok(());
         };
-        // If no declaration remains, the end of the text cuts off none.
+        // If no declaration remains in the text, then the end of the text leaves no declaration incomplete.
         if found.code == Code::UnexpectedEnd && starts_of(alloc, &left)?.is_empty() {
             return Ok(());
         }

@@ -88,7 +88,7 @@ impl fmt::Display for Signed {
     }
 }
 
-/// The lines of an explanation of a violated rule, split into parts.
+/// The lines of an explanation of a violated rule, split into the first line, the other lines, and the hint.
 #[derive(Clone, Copy)]
 struct Parts<'a> {
     first: &'a [u8],
@@ -117,7 +117,7 @@ fn without_hint(lines: &[u8]) -> &[u8] {
     rest.strip_suffix(b"\n").unwrap_or(rest)
 }
 
-/// Returns the parts of the lines of an explanation.
+/// Returns the lines of an explanation, split into the first line, the other lines, and the hint.
 fn parts_of(lines: &[u8]) -> Parts<'_> {
     let hint = last_of(lines).strip_prefix(b"hint: ");
     let lines = without_hint(lines);
@@ -136,7 +136,7 @@ fn parts_of(lines: &[u8]) -> Parts<'_> {
 }
 
 impl Message<'_> {
-    /// Returns the parts of the explanation of the violated rule.
+    /// Returns the explanation of the violated rule, split into the first line, the other lines, and the hint.
     fn parts(&self) -> Parts<'_> {
         match &self.refusal.words {
             Some(words) => parts_of(words),

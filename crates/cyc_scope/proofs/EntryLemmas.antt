@@ -1,4 +1,4 @@
--- The entries found in a program's tables agree with the view of the tables that the typing rules use.
+-- The declarations that the code finds in a program's tables agree with the view of the tables that the typing rules use.
 use Rattle.std.proofs.Common.{◌≡◌, ℕ, ◌≤◌, ◌<◌, List, [], ◌∷◌, ◌++◌, length, map, drop, get_or, Option, Some, option_map, unwrap_or, refl, sym, ap, ◌∙◌}
 use Rattle.std.specs.List.{slice_get}
 use Rattle.std.proofs.lemmas.List.{map-append, length-map, drop_all}

@@ -127,7 +127,7 @@ declared_lost r x (v ∷ vs) e = by_test (declared_lost r x vs) (nat_eq v.name x
 
 -- ---- removing a local
 
--- the name of the oldest binding is a valid index of the table of locals
+-- the number that identifies the name of the oldest local is a valid index of the table of locals
 pub local_in_range : (table : List (Option ℕ)) (bs old : List Binding) (b : Binding) → Finds table old → old ≡ bs ++ b ∷ [] → b.local.name < length table
 local_in_range table bs old b f e =
     get_or_within table b.local.name (length (local_names (locals_of bs)))

@@ -9,7 +9,7 @@ use Rattle.cyc_types.specs.declared.ty.Ty.{Ty as TyCode}
 use Rattle.cyc_types.specs.TypeView.{view_ty}
 use Rattle.cyc_scope.specs.inside.Plain.{regions_in, all_regions, Ascend}
 
--- regions that ascend from the number b also ascend from a lower number a
+-- region variables whose numbers increase from b on are also region variables whose numbers increase from a lower number a on
 ascend_lower : (a b : ℕ) (rs : List Region) (c : ℕ) → a ≤ b → Ascend b rs c → Ascend a rs c
 ascend_lower a b [] c le h = omega (arith, le, h)
 ascend_lower a b (Variable n ∷ rs) c le h = (omega (arith, le, h.0), h.1)
@@ -22,14 +22,15 @@ ascend_append a (Variable n ∷ rs) b ss c h k = (h.0, ascend_append (suc n) rs 
 ascend_append a (Heap ∷ rs) b ss c h k = absurd h
 ascend_append a (Unique ∷ rs) b ss c h k = absurd h
 
--- regions that ascend up to the number b also ascend up to a higher number c
+-- region variables whose increasing numbers are below b are also region variables whose increasing numbers are below a higher number c
 pub ascend_higher : (a : ℕ) (rs : List Region) (b c : ℕ) → b ≤ c → Ascend a rs b → Ascend a rs c
 ascend_higher a [] b c le h = omega (arith, le, h)
 ascend_higher a (Variable n ∷ rs) b c le h = (h.0, ascend_higher (suc n) rs b c le h.1)
 ascend_higher a (Heap ∷ rs) b c le h = absurd h
 ascend_higher a (Unique ∷ rs) b c le h = absurd h
 
--- if regions ascend and one more region ascends after them, the longer list also ascends
+-- if regions are variables with increasing numbers and one more such region follows with a higher
+-- number, the longer list is also increasing
 pub ascend_more : (o : Option ℕ) (a b : ℕ) (rs : List Region) (r : Region) → Ascend a rs b → IfSome o (λ n. Ascend b (r ∷ []) n) → IfSome o (λ n. Ascend a (rs ++ r ∷ []) n)
 ascend_more None a b rs r h k = tt
 ascend_more (Some n) a b rs r h k = ascend_append a rs b (r ∷ []) n h k
@@ -40,12 +41,12 @@ none_at_all (x ∷ xs) h = let none : suc (length xs) ≡ 0 = eqb-true (suc (len
 
 -- ---- loops
 
--- if the region at index i ascends and the regions after it do, the regions from index i on ascend
+-- if the region at index i and the regions after it are variables with increasing numbers, so are all regions from index i on
 pub ascend_from : (a b c : ℕ) (rs : List Region) (i : ℕ) (d : Region) → i < length rs → Ascend a (get_or rs i d ∷ []) b → Ascend b (drop (i + 1) rs) c → Ascend a (drop i rs) c
 ascend_from a b c rs i d lt one rest =
     subst (λ xs. Ascend a xs c) (sym (drop_more rs i d lt)) (ascend_append a (get_or rs i d ∷ []) b (drop (i + 1) rs) c one rest)
 
--- if the regions of the type at index i ascend and those of the types after it do, the regions of the types from index i on ascend
+-- if the regions of the type at index i and of the types after it are variables with increasing numbers, so is the whole list
 pub types_from : (a b c : ℕ) (ts : List TyCode) (i : ℕ) (t : TyCode) → i < length ts → t ≡ get_or ts i t → Ascend a (regions_in (view_ty t)) b
     → Ascend b (all_regions (map view_ty (drop (i + 1) ts))) c → Ascend a (all_regions (map view_ty (drop i ts))) c
 types_from a b c ts i t lt is one rest =

@@ -1,4 +1,4 @@
--- The table of first entries stores, for each name, the index of the first entry with the name.
+-- The table of first entries stores, for each name, the index of the first declaration with the name in a list of declarations.
 use Rattle.std.proofs.Common.{◌≡◌, ◌≢◌, ℕ, suc, ◌<◌, Bool, true, false, cond, nat_eq, List, [], ◌∷◌, ◌++◌, length, map, set, get_or, Option, Some, None, option_map, refl, sym, ap, ◌∙◌, arith}
 use Rattle.std.specs.List.{slice_get}
 use Rattle.std.proofs.lemmas.Bool.{eqb-true, eq-eqb}
@@ -48,7 +48,7 @@ first_old ys y x f = by_place (first_place ys x) refl
     by_place None e = first_new ys y x e ∙ ap (λ t. cond t (Some (length ys)) None) f ∙ sym e
     by_place (Some i) e = first_known ys y x i e ∙ sym e
 
--- storing a name that is new to the table keeps the table of first entries correct
+-- storing a name that is new to the table keeps the table correct in which each name has the index of its first declaration
 pub set_first : (table : List (Option ℕ)) (ys : List ℕ) (y n x : ℕ) → n ≡ length ys → y < length table → ((z : ℕ) → get_or table z None ≡ first_place ys z) → first_place ys y ≡ None
     → get_or (set table y (Some n)) x None ≡ first_place (ys ++ y ∷ []) x
 set_first table ys y n x at lt finds none = by_test (nat_eq y x) refl
@@ -63,7 +63,7 @@ set_first table ys y n x at lt finds none = by_test (nat_eq y x) refl
         ∙ sym (first_new ys y x (ap (first_place ys) (sym same) ∙ none) ∙ ap (λ t. cond t (Some (length ys)) None) f)
     by_test false f = get_or-set_other table y x (Some n) None (other f) ∙ finds x ∙ sym (first_old ys y x f)
 
--- the table of first entries stays correct, unchanged, when a name that it already contains is declared again
+-- the table of first declarations stays correct, unchanged, when a name that it already contains is declared again
 pub keep_first : (table : List (Option ℕ)) (ys : List ℕ) (y i x : ℕ) → ((z : ℕ) → get_or table z None ≡ first_place ys z) → first_place ys y ≡ Some i → get_or table x None ≡ first_place (ys ++ y ∷ []) x
 keep_first table ys y i x finds known = by_test (nat_eq y x) refl
   where
@@ -134,7 +134,7 @@ among_first (e ∷ es) x = by_test (among_first es x) (nat_eq e.name x)
     by_test h true = refl
     by_test h false = h
 
--- the number of an exception is the index of its first entry plus one
+-- the number that identifies an exception is one more than the index of the first declaration with its name
 pub number_first : (es : List Exception) (x i : ℕ) → first_place (exception_names es) x ≡ Some i → exception_number es x ≡ suc i
 number_first [] x i e = cc
 number_first (c ∷ es) x i e = by_test (number_first es x) (nat_eq c.name x) e

@@ -1,5 +1,4 @@
--- contracts that other crates use: the relation of the code's results to the rules, the meaning of a name, and the state after leaving a
--- scope
+-- contracts that other crates use: how the code's results relate to the typing rules, a name's meaning, and the state after leaving a scope
 pub mod Code
 pub mod Meanings
 pub mod Marks

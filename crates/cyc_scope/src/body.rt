@@ -18,8 +18,8 @@ use cyc_syntax::{Ident, Member};
 use cyc_types::{Kind, NameSet, Region, RegionNames, Signature, Ty};
 use std::alloc::Global;
 
-/// The tables of a function's names. The tables have an entry for each name of the source text, so the check of the next function
-/// reuses them.
+/// The tables of a function's names. The tables have an entry for each name of the source text, so they are reused for the check
+/// of the next function.
 #[derive(Drop)]
 pub struct Tables {
     /// The region names known at the start of a function's body, except the name of the function's own region.

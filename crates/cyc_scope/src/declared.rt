@@ -26,7 +26,7 @@ pub(crate) struct Entry {
 #[derive(Drop)]
 pub(crate) struct Declared {
     entries: Vec<Entry>,
-    /// For each name, the index of the first entry with the name.
+    /// For each name, the index of the first declared function or global with the name.
     by_name: Vec<Option<usize>>,
 }
 
@@ -70,7 +70,7 @@ impl Entry {
         }
     }
 
-    /// Returns true if the entry is a function with a plain signature.
+    /// Returns true if the table entry is a function with a plain signature (each region of its parameters occurs only once).
     fn is_plain(&self) -> bool
         ensures { IsTrue result → IsPlainRoutine (view_entity self.now.entity) }
     {
@@ -99,7 +99,7 @@ impl Declared {
         }
     }
 
-    /// Returns the index of the first entry with the given name.
+    /// Returns the index of the first declared function or global with the given name.
     fn place(&self, name: usize) -> Option<usize>
         ensures { result ≡ first_place (declared_names self.now) name }
     {
@@ -109,7 +109,7 @@ impl Declared {
         }
     }
 
-    /// Returns the first entry with the given name.
+    /// Returns the first declared function or global with the given name.
     fn find(&self, name: usize) -> Option<&Entry>
         ensures { option_map (λ e. view_entry e.now) result ≡ first_declared self.now name }
     {
@@ -129,7 +129,7 @@ impl Declared {
         }
     }
 
-    /// Returns true if the name denotes a function with a plain signature.
+    /// Returns true if the name denotes a function with a plain signature (each region of its parameters occurs only once).
     pub(crate) fn is_plain(&self, name: usize) -> bool
         ensures { IsTrue result → IsPlainRoutine (meaning_in self.now name) }
     {

@@ -1,4 +1,4 @@
-//! The demands of the typing rules on a type as written in the source.
+//! The requirements of the typing rules on a type as written in the source.
 ghost use Rattle.std.specs.Prelude.{◌≡◌, Bool, not, map, option_map};
 ghost use Rattle.cyc_words.specs.declared.fault.Code.TheVariants as codes;
 ghost use Rattle.cyc_syntax.specs.inside.TreeView.{place_of_span, view_name, view_base, view_pointer, view_type};
@@ -22,7 +22,7 @@ pub fn is_name_of(names: &RegionNames, region: Region, name: Ident) -> bool
     }
 }
 
-/// Demands that a region name is declared; in a parameter, demands instead that the name is not the function's name.
+/// Requires that a region name is declared; in a parameter, requires instead that the name is not the function's name.
 pub fn demand_name(settled: &mut Settled, names: &RegionNames, own: Option<usize>, name: Ident)
     ensures { settled.new.known ≡ noted settled.old.known (name_demanded names.now own (view_name name)) }
 {
@@ -35,7 +35,7 @@ pub fn demand_name(settled: &mut Settled, names: &RegionNames, own: Option<usize
     }
 }
 
-/// Demands that a region name does not denote the given region.
+/// Requires that a region name does not denote the given region.
 pub fn demand_other(settled: &mut Settled, names: &RegionNames, region: Region, name: Ident)
     ensures { settled.new.known ≡ noted settled.old.known
         (demand codes.RegionOrKeyMisused (place_of_span name.span) (not (is_name_of names.now region (view_name name)))) }
@@ -44,7 +44,7 @@ pub fn demand_other(settled: &mut Settled, names: &RegionNames, region: Region, 
     settled.demand(Code::RegionOrKeyMisused, name.span, is_other);
 }
 
-/// Checks the demands on the region arguments of a struct.
+/// Checks the requirements on the region arguments of a struct.
 pub fn demand_names(
     settled: &mut Settled,
     names: &RegionNames,
@@ -69,7 +69,7 @@ fn is_count(count: Option<usize>, regions: &[Ident]) -> bool
     }
 }
 
-/// Checks the demands on a struct with its region arguments; `span` is where the written type begins.
+/// Checks the typing rules' requirements on a struct type as written with its region arguments; `span` is where the written type begins.
 pub fn demand_struct(
     settled: &mut Settled,
     structs: &StructNames,
@@ -88,7 +88,8 @@ pub fn demand_struct(
     demand_names(settled, names, own, regions);
 }
 
-/// Checks the demands on the part of a written type before its pointer marks; `span` is where the written type begins.
+/// Checks the requirements on a written type's base, which precedes its pointer signs (`*`, `@` or `?`); `span` is
+/// where the written type begins.
 fn demand_base(
     settled: &mut Settled,
     structs: &StructNames,
@@ -151,8 +152,8 @@ fn is_shape(base: &BaseType, marks: &[Pointer]) -> bool
     }
 }
 
-/// Checks the demands on a written type, from the known structs and region names. The type of a parameter of the function `own` may
-/// declare region names.
+/// Checks the requirements on a written type, from the known structs and region names. The type of a parameter of the function
+/// `own` may declare region names.
 #[tactic(auto, using(cyc_types::proofs::RuleLaws::settled_append))]
 pub fn demand_type(
     settled: &mut Settled,
@@ -178,7 +179,7 @@ fn is_key(base: &BaseType) -> bool
     }
 }
 
-/// Checks the demands on the written type of a field.
+/// Checks the requirements on the written type of a field.
 #[tactic(auto, using(cyc_types::proofs::RuleLaws::settled_append))]
 pub fn demand_field(
     settled: &mut Settled,
@@ -206,7 +207,7 @@ fn is_global_shape(base: &BaseType, marks: &[Pointer]) -> bool
     }
 }
 
-/// Checks the demands on the written type of a global.
+/// Checks the requirements on the written type of a global.
 #[tactic(auto, using(cyc_types::proofs::RuleLaws::settled_append))]
 pub fn demand_global(
     settled: &mut Settled,

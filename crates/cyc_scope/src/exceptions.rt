@@ -5,7 +5,7 @@ use crate::table::grow;
 use std::alloc::Global;
 use std::marker::Model;
 
-/// An exception that can be thrown and caught: its number, and a flag that is true if it carries an int.
+/// An exception that can be thrown and caught: the number that identifies it, and a flag that is true if it carries an int.
 #[derive(Clone, Copy)]
 pub struct Thrown {
     pub number: usize,

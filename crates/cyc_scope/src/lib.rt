@@ -1,5 +1,5 @@
 //! The context of the type checker at an expression or a statement: declarations, meaning of names, live regions, and entry and exit of
-//! scopes. The crate also defines the reasons for which checking stops, and the accumulation of demands.
+//! scopes. The crate also defines the reasons for which checking stops, and the accumulation of the typing rules' requirements.
 #![tactic(auto)]
 
 pub use body::Tables;

@@ -19,14 +19,14 @@ pub(crate) enum Sort {
     OfLoop,
 }
 
-/// A local variable or a parameter, or the counter of an array `for`.
+/// A local variable or a parameter, or the loop counter of an array `for`.
 #[derive(Drop)]
 pub(crate) struct Local {
     pub(crate) name: usize,
-    /// The number of the local in its function; for the counter of a `for`, its level.
+    /// The index of the local in its function; for the loop counter of a `for`, its nesting level.
     pub(crate) number: usize,
     pub(crate) of_type: Ty,
-    /// The number of the region of the block that declares the local.
+    /// The number that identifies the region of the block that declares the local.
     pub(crate) region: usize,
     pub(crate) sort: Sort,
 }
@@ -71,7 +71,7 @@ impl Local {
     ghost use Rattle.cyc_scope.specs.inside.Meanings.{view_meaning};
     ghost use Rattle.cyc_scope.specs.inside.Entries.{view_sort, view_local};
 
-    /// Returns the meaning of a name that denotes this local; the name is at position `name.span`.
+    /// Returns the meaning of a name that denotes this local; `name.span` is the name's source position.
     fn meaning(&self, name: Ident) -> Meaning<'_>
         ensures { view_meaning result ≡ local_meaning (view_local self.now).sort (view_local self.now) (view_name name).place }
     {

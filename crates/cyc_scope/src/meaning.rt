@@ -3,7 +3,7 @@
 use cyc_types::typed::{Callee, Lvalue};
 use cyc_types::{Region, Signature, Ty};
 
-/// The meaning of a name at a position where it is used.
+/// The meaning of a name at a source position where it is used.
 #[derive(Clone, Copy)]
 pub enum Meaning<'a> {
     Unknown,
@@ -13,12 +13,13 @@ pub enum Meaning<'a> {
         of_type: &'a Ty,
         home: Region,
     },
-    /// The name denotes the handle declared by a `region` item, which may not be assigned.
+    /// The name denotes the handle declared by a `region` declaration, which may not be assigned.
     Fixed {
         target: Lvalue,
         of_type: &'a Ty,
     },
-    /// The name denotes the counter of an array `for`, numbered by the number of enclosing `for`s; a counter may not be assigned.
+    /// The name denotes the loop counter of an array `for`, identified by the number of enclosing `for`s; a loop counter may not
+    /// be assigned.
     Counter {
         level: usize,
     },

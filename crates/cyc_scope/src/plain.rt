@@ -1,4 +1,4 @@
-//! Recognises plain signatures, whose calls have the fewest demands.
+//! Recognises plain signatures, whose calls have the fewest requirements.
 ghost use Rattle.std.specs.Prelude.{◌≡◌, [], ◌∷◌, suc, IsTrue, IfSome, map, option_map, List};
 ghost use Rattle.cyc_types.specs.declared.region.Region.{Region};
 ghost use Rattle.cyc_types.specs.Types.{substituted_ty};
@@ -82,7 +82,7 @@ fn are_apart(signature: &Signature) -> bool
     }
 }
 
-/// Returns true if a signature is plain.
+/// Returns true if a signature is plain: each region of its parameters occurs only once, and it has no constraints.
 pub(crate) fn is_plain(signature: &Signature) -> bool
     ensures { IsTrue result → IsPlain (view_signature signature.now) }
 {

@@ -21,7 +21,7 @@ pub struct Field {
 #[derive(Drop)]
 pub struct Program {
     known: Known,
-    /// The fields of each struct, indexed by the struct's number.
+    /// The fields of each struct, in the order of the structs' indices.
     fields: Vec<Vec<Field>>,
     exceptions: Exceptions,
     /// The functions and globals of the program.
@@ -75,7 +75,7 @@ impl Program {
         &self.known
     }
 
-    /// Returns the fields of the struct with the given number, or an empty list if the struct does not exist.
+    /// Returns the fields of the struct with the given index, or an empty list if the struct does not exist.
     pub fn fields(&self, number: usize) -> &[Field]
         ensures { map view_field result.now ≡ unwrap_or (slice_get self.now.fields number) [] }
     {
@@ -100,7 +100,7 @@ impl Program {
         self.declared.meaning(name)
     }
 
-    /// Returns true if a name denotes a function with a plain signature, provided that no local has the name.
+    /// Returns true if a name that no local has denotes a function with a plain signature (each region of its parameters occurs only once).
     pub(crate) fn is_plain(&self, name: usize) -> bool
         ensures { IsTrue result → IsPlainRoutine (scopes.meaning_in self.now.declared name) }
     {
@@ -124,7 +124,7 @@ impl Program {
         self.exceptions.declare(name, has_int)
     }
 
-    /// Declares the global with the given number; the heap region contains the global.
+    /// Declares the global with the given index; the heap region contains the global.
     pub fn declare_global(&mut self, name: usize, number: usize, of_type: Ty) -> Result<(), Stop>
         ensures declared { OnOk result (self.new ≡ record self.old { declared = self.old.declared ++ record { name = name; meaning = scopes.Variable (typed.Global number) (view_ty of_type) regions.Heap } ∷ [] }) }
         ensures memory { IfErr result (λ e. e ≡ Memory) }
@@ -133,7 +133,7 @@ impl Program {
             .declare(name, Entity::Global { number, of_type })
     }
 
-    /// Declares a function of the program with its number and its signature.
+    /// Declares a function of the program with its index and its signature.
     pub fn declare_function(
         &mut self,
         name: usize,

@@ -1,4 +1,4 @@
-//! A function signature, together with a flag that is true if the signature is plain.
+//! A function signature, with a flag that is true if it is plain (each region of its parameters occurs only once).
 
 use crate::plain::is_plain;
 use cyc_types::Signature;

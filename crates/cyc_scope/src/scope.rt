@@ -15,11 +15,11 @@ use std::marker::Model;
 /// The size of a scope at some point. The function `leave` removes the names that came into scope since that point.
 #[derive(Clone, Copy)]
 pub struct Mark {
-    /// The numbers of locals, of region names and of open scopes.
+    /// How many locals, region names and open scopes the scope has.
     pub locals: usize,
     pub names: usize,
     pub opened: usize,
-    /// The number of the region of the innermost enclosing block.
+    /// The number that identifies the region of the innermost enclosing block.
     pub region: usize,
     pub in_loop: bool,
     /// The number of enclosing array `for`s.
@@ -44,7 +44,7 @@ pub struct Scope<'a> {
     pub(crate) locals: Locals,
     pub(crate) next_local: usize,
     pub(crate) next_region: usize,
-    /// The number of the region of the innermost enclosing block.
+    /// The number that identifies the region of the innermost enclosing block.
     pub(crate) region: usize,
     pub(crate) in_loop: bool,
     /// The number of enclosing array `for`s.
@@ -112,7 +112,7 @@ impl<'a> Scope<'a> {
         self.program.known().structs()
     }
 
-    /// Returns the fields of the struct with the given number, or an empty list if the struct does not exist.
+    /// Returns the fields of the struct with the given index, or an empty list if the struct does not exist.
     pub fn fields(&self, number: usize) -> &[Field]
         ensures { map view_field result.now ≡ unwrap_or (slice_get self.now.fields number) [] }
     {
@@ -144,14 +144,14 @@ impl<'a> Scope<'a> {
         }
     }
 
-    /// Returns the number that the next declared local gets.
+    /// Returns the index that the next declared local gets.
     pub fn next_local(&self) -> usize
         ensures { result ≡ self.now.next_local }
     {
         self.next_local
     }
 
-    /// Returns the number that the next declared region gets.
+    /// Returns the number that will identify the next declared region.
     pub fn next_region(&self) -> usize
         ensures { result ≡ self.now.next_region }
     {
@@ -182,7 +182,7 @@ impl<'a> Scope<'a> {
         }
     }
 
-    /// Returns true if a name denotes a function with a plain signature at this point.
+    /// Returns true if a name denotes, at this point, a function with a plain signature (each region of its parameters occurs only once).
     pub fn is_plain(&self, name: Ident) -> bool
         ensures { IsTrue result → IsPlainRoutine (meaning_of self.now (view_name name)) }
     {
@@ -275,7 +275,7 @@ impl<'a> Scope<'a> {
         self.declare(Sort::Ordinary, name, of_type)
     }
 
-    /// Declares the handle of a `region` item, which may not be assigned.
+    /// Declares the handle of a `region` declaration, which may not be assigned.
     pub fn declare_fixed(&mut self, name: Ident, of_type: Ty) -> Result<(), Stop>
         ensures declared { OnOk result (self.new ≡ with_local scopes.OfRegion (view_name name) (view_ty of_type) self.old) }
         ensures memory { IfErr result (λ e. e ≡ Memory) }
@@ -283,7 +283,7 @@ impl<'a> Scope<'a> {
         self.declare(Sort::OfRegion, name, of_type)
     }
 
-    /// Declares the counter variable of an array `for` and enters the element expression.
+    /// Declares the loop counter of an array `for` and enters the element expression.
     pub fn declare_counter(&mut self, name: Ident) -> Result<(), Stop>
         ensures declared { OnOk result (self.new ≡ with_counter (view_name name) self.old) }
         ensures memory { IfErr result (λ e. e ≡ Memory) }
@@ -301,7 +301,7 @@ impl<'a> Scope<'a> {
         Ok(())
     }
 
-    /// Gives the region with the next number the given name.
+    /// Gives the given name to the region that will be declared next.
     pub fn name_region(&mut self, name: Ident) -> Result<(), Stop>
         ensures named { OnOk result (self.new ≡ with_name (view_name name) self.old) }
         ensures memory { IfErr result (λ e. e ≡ Memory) }
@@ -312,7 +312,7 @@ impl<'a> Scope<'a> {
         Ok(())
     }
 
-    /// Declares and opens the region with the next number, which already has a name.
+    /// Declares and opens the next region, whose name is already known.
     pub fn open_next(&mut self, kind: Kind) -> Result<(), Stop>
         ensures opened { OnOk result (self.new ≡ with_next_opened kind self.old) }
         ensures memory { IfErr result (λ e. e ≡ Memory) }
@@ -368,7 +368,8 @@ impl<'a> Scope<'a> {
         }
     }
 
-    /// Removes the names that came into scope since the mark was taken. Numbers that were used and region names that were taken stay so.
+    /// Removes the names that came into scope since the mark (a record of the scope's size) was taken. Numbers of locals and regions,
+    /// and names of regions, that were used stay used after the names leave the scope.
     pub fn leave(&mut self, mark: Mark)
         requires { IsInOrder (left_to mark self.old) }
         ensures { self.new ≡ left_to mark self.old }

@@ -1,5 +1,5 @@
-//! Accumulates the demands of a construct in order. Of several broken demands, the one with the lowest code is reported, and the first if
-//! several have that code.
+//! Accumulates the typing rules' requirements of a construct in order. Of several violated requirements, the one with the lowest code is
+//! reported, and the first if several have that code.
 ghost use Rattle.std.specs.Prelude.{◌≡◌, None};
 ghost use Rattle.cyc_syntax.specs.inside.TreeView.{place_of_span};
 ghost use Rattle.cyc_types.specs.Rules.{demand, noted};
@@ -8,23 +8,23 @@ ghost use Rattle.cyc_scope.specs.inside.Code.{Ends};
 use crate::stop::Stop;
 use cyc_words::{Code, Fault, Span};
 
-/// The fault of the demands that were checked so far.
+/// The fault of the requirements that were checked so far.
 #[derive(Clone, Copy)]
 pub struct Settled {
-    /// The fault of the demands that were checked so far, or `None` if all were satisfied.
+    /// The fault of the requirements that were checked so far, or `None` if all were satisfied.
     pub known: Option<Fault>,
 }
 
 impl Settled {
-    /// Returns the state before any demand is checked.
+    /// Returns the state before any requirement is checked.
     pub fn new() -> Settled
         ensures { result.known ≡ None }
     {
         Settled { known: None }
     }
 
-    /// Checks one more demand. If the demand is broken, its fault is recorded, unless a fault with an equal or a lower code
-    /// is already recorded.
+    /// Checks one more requirement. If the requirement is violated, its fault is recorded, unless a fault with an equal or
+    /// a lower code is already recorded.
     pub fn demand(&mut self, code: Code, span: Span, kept: bool)
         ensures { self.new.known ≡ noted self.old.known (demand code (place_of_span span) kept) }
     {
@@ -43,7 +43,7 @@ impl Settled {
         });
     }
 
-    /// Succeeds if all demands were satisfied; otherwise returns the recorded fault.
+    /// Succeeds if all requirements were satisfied; otherwise returns the recorded fault.
     pub fn end(&self) -> Result<(), Stop>
         ensures { Ends result self.now.known }
     {

@@ -1,4 +1,4 @@
-//! Tables of indices; each table is indexed by the numbers of names.
+//! Tables of indices; each table is indexed by the numbers that identify names.
 ghost use Rattle.std.specs.Prelude.{◌≡◌, ℕ, ◌<◌, length, get_or, None, OnOk, IfErr};
 ghost use Rattle.cyc_scope.specs.declared.stop.Stop.TheVariants.{Memory};
 

@@ -1,4 +1,4 @@
--- Examples: the number of MIPS lines selected for some pieces of plain code, proved by computation.
+-- Examples: the number of MIPS lines selected for some pieces of plain (three-address) code, proved by computation.
 use Rattle.std.proofs.Common.{◌≡◌, ℕ, false, List, [], ◌∷◌, refl}
 use Rattle.std.specs.Prelude.{sum_by, length}
 use Rattle.cyc_plain.specs.declared.instruction.Instruction.{Instruction}
@@ -36,7 +36,7 @@ element_of_a_fat_pointer :
     ≡ 20
 element_of_a_fat_pointer = refl
 
--- A load from a slot at a small frame offset takes no extra line to compute the address.
+-- A load from a slot at a small frame offset takes no extra MIPS line to compute the address.
 near_load : length (load_at frame LoadWord 0 (Slot 1) 32767) ≡ 3
 near_load = refl
 
@@ -49,8 +49,8 @@ far_store = refl
 three_words_moved : lines_of (MoveWords 0 3 3 ∷ []) ≡ 6
 three_words_moved = refl
 
--- Example: the lines that open a lexical region, allocate a block of two words in it and close it. The region's
--- handle and the number that closes it are in the slots 0 and 1.
+-- Example: the lines that open a lexical region, allocate a block of two words in it and close it. Slot 0 holds
+-- the region's handle, and slot 1 holds the number that is passed to close the region.
 block_in_a_region : lines_of (Ask (OpenLexical 0) ∷ Ask (Allocate 2 (Slot 0) (Word 2)) ∷ Ask (CloseTo (Slot 1)) ∷ []) ≡ 14
 block_in_a_region = refl
 

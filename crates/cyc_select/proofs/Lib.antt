@@ -8,5 +8,5 @@ pub mod steps
 pub mod runs
 -- the theorems from which the contract of `select` follows
 pub mod Laws
--- examples: the numbers of lines selected for some pieces of code, proved by computation
+-- examples: the numbers of MIPS lines selected for some pieces of code, proved by computation
 pub mod Examples

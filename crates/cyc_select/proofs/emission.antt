@@ -1,4 +1,4 @@
--- the contracts of the methods that emit lines, and the numbers of lines that they emit
+-- the contracts of the methods that emit lines, and the numbers of MIPS lines that they emit
 pub mod Emitting
 pub mod Counts
 pub mod Numbering

@@ -1,4 +1,4 @@
--- the registers after the lines that compute operands, plans and tests
+-- the values in registers after the lines that compute operands, plans (sequences of machine operations) and tests
 pub mod Blocks
 pub mod Operations
 pub mod Halves

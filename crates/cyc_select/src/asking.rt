@@ -1,4 +1,4 @@
-//! Emits the lines of requests to the store (the heap of regions).
+//! Emits the MIPS lines of requests to the store (the heap of regions).
 ghost use Rattle.std.specs.Prelude.{◌≡◌, ◌+◌, ◌≤◌, [], ◌∷◌, OnOk};
 ghost use Rattle.cyc_plain.specs.inside.Requests.{first_operand, second_operand, answer_count, destination_of};
 ghost use Rattle.cyc_select.specs.inside.Slots.{give_code};
@@ -19,7 +19,7 @@ use cyc_machine_model::constants::{
 use cyc_plain::{MOST_FRAME_WORDS, Request};
 use std::alloc::AllocError;
 
-/// Returns the number of the machine service that serves a request.
+/// Returns the number of the system call that performs a request to the store (the heap of regions).
 fn service_number(request: Request) -> u16
     ensures { result ≡ service_number request }
 {
@@ -33,7 +33,7 @@ fn service_number(request: Request) -> u16
     }
 }
 
-/// Returns the number of lines emitted for a request to the store.
+/// Returns the number of MIPS lines emitted for a request to the store.
 pub(crate) fn ask_count(frame: &Frame, request: Request) -> usize
     requires { destination_of request + answer_count request ≤ MOST_FRAME_WORDS }
     ensures value { result ≡ ask_count frame.now request }
@@ -56,7 +56,7 @@ pub(crate) fn ask_count(frame: &Frame, request: Request) -> usize
 }
 
 impl Emitter {
-    /// Emits the lines that load the first operand of a request, if it has one.
+    /// Emits the MIPS lines that load the first operand of a request, if it has one.
     fn first_argument(&mut self, frame: &Frame, request: Request) -> Result<(), AllocError>
         requires { IsArgumentFound frame.now (first_operand request) }
         ensures { AddsLines result self.old self.new (ordinary (argument_code frame.now ARGUMENT (first_operand request))) }
@@ -71,7 +71,7 @@ impl Emitter {
         }
     }
 
-    /// Emits the lines that load the second operand of a request, if it has one.
+    /// Emits the MIPS lines that load the second operand of a request, if it has one.
     fn second_argument(&mut self, frame: &Frame, request: Request) -> Result<(), AllocError>
         requires { IsArgumentFound frame.now (second_operand request) }
         ensures { AddsLines result self.old self.new (ordinary (argument_code frame.now SECOND_ARGUMENT (second_operand request))) }
@@ -98,7 +98,7 @@ impl Emitter {
         }
     }
 
-    /// Emits the lines that move the result of a request to the store (the heap of regions) to slots.
+    /// Emits the MIPS lines that copy to slots the result of a request made to the store (the heap of regions).
     fn answer(&mut self, frame: &Frame, request: Request) -> Result<(), AllocError>
         requires { AreReached frame.now (destination_of request) (answer_count request) }
         ensures { AddsLines result self.old self.new (ordinary (answer_code frame.now request)) }
@@ -128,7 +128,7 @@ impl Emitter {
         }
     }
 
-    /// Emits the lines that write the number of open lexical regions to a slot.
+    /// Emits the MIPS lines that write the number of open lexical regions to a slot.
     pub(crate) fn count_lexical(
         &mut self,
         frame: &Frame,
@@ -140,7 +140,7 @@ impl Emitter {
         self.give(frame, REGIONS, destination)
     }
 
-    /// Emits all lines of a request to the store: loading its arguments, the service call, and writing its result.
+    /// Emits all MIPS lines of a request to the store: loading its arguments, the system call, and writing its result.
     pub(crate) fn ask(&mut self, frame: &Frame, request: Request) -> Result<(), AllocError>
         requires { IsRequestFound frame.now request }
         ensures { AddsLines result self.old self.new (ask_code frame.now request) }

@@ -18,7 +18,7 @@ use cyc_plain::Instruction;
 use std::alloc::AllocError;
 
 impl Emitter {
-    /// Emits the lines of an instruction's body; the first line has number `here`.
+    /// Emits the MIPS lines of an instruction's body; the first line has the line number `here`.
     fn body(
         &mut self,
         tables: &Tables,
@@ -139,7 +139,7 @@ impl Emitter {
         }
     }
 
-    /// Emits the lines that follow a call and are executed after it returns.
+    /// Emits the MIPS lines that follow a call and are executed after it returns.
     fn following(&mut self, tables: &Tables, instruction: Instruction) -> Result<(), AllocError>
         requires known { IsKnown tables.now }
         requires in_range { IsInRange tables.now.plain.now (routine_at tables.now.plain.now tables.now.function) instruction }
@@ -156,7 +156,7 @@ impl Emitter {
         }
     }
 
-    /// Emits all lines of the instruction at `index`: its body, and those that follow a call.
+    /// Emits all MIPS lines of the instruction at `index`: its body, and those that follow a call.
     pub(crate) fn instruction(
         &mut self,
         tables: &Tables,

@@ -1,4 +1,4 @@
-//! Emits the lines of calls and returns, and of moves of several words.
+//! Emits the MIPS lines of calls and returns, and of moves of several words.
 ghost use Rattle.std.specs.Prelude.{◌≡◌, ◌+◌, ◌*◌, ◌<◌, ◌≤◌, [], ◌∷◌, ◌++◌, true, length, OnOk};
 ghost use Rattle.cyc_select.specs.inside.Instructions.{load, store};
 ghost use Rattle.cyc_select.specs.inside.Slots.{coming, load_all, load_words, store_all, saves, restores, way_code, saving_code, restoring_code};
@@ -22,10 +22,10 @@ use cyc_plain::{GREATEST_VALUE, MOST_FRAME_WORDS, Operand};
 use cyc_registers::{FIRST_PRESERVED, MOST_SAVED, is_crossing};
 use std::alloc::AllocError;
 
-/// The registers that hold the result words of a function or of a service.
+/// The registers that hold the result words of a function or of a system call.
 pub(crate) const RESULTS: [u8; 3] = [FIRST_RESULT, SECOND_RESULT, THIRD_RESULT];
 
-/// Returns the instruction that saves the callee-saved register with this number.
+/// Returns the instruction that saves the callee-saved register with this index among the callee-saved registers.
 fn save(frame: &Frame, number: usize) -> Instr
     requires few { number < MOST_SAVED }
     requires inside { frame.now.first_saved ≤ MOST_FRAME_WORDS }
@@ -37,7 +37,7 @@ fn save(frame: &Frame, number: usize) -> Instr
     )
 }
 
-/// Returns the instruction that restores the callee-saved register with this number.
+/// Returns the instruction that restores the callee-saved register with this index among the callee-saved registers.
 fn restore(frame: &Frame, number: usize) -> Instr
     requires few { number < MOST_SAVED }
     requires inside { frame.now.first_saved ≤ MOST_FRAME_WORDS }
@@ -50,8 +50,8 @@ fn restore(frame: &Frame, number: usize) -> Instr
 }
 
 impl Emitter {
-    /// Emits the lines that pass one argument from the caller's slot to the callee's, after the switch to the callee's frame. An argument
-    /// passed from memory goes through the callee's register for it.
+    /// Emits the MIPS lines that pass one argument from the caller's slot to the callee's, after the switch to the callee's frame. An
+    /// argument passed from memory goes through the callee's register for it.
     fn argument(
         &mut self,
         caller: &Frame,
@@ -73,7 +73,7 @@ impl Emitter {
         }
     }
 
-    /// Emits the store of a slot that is in a register only to its word in memory, if the argument is passed from memory.
+    /// If an argument is passed from memory and its slot is in a register only, emits the store of this slot in memory.
     fn spill(
         &mut self,
         caller: &Frame,
@@ -110,7 +110,7 @@ impl Emitter {
         Ok(())
     }
 
-    /// Emits the lines that pass the arguments from the caller's slots to the callee's first slots.
+    /// Emits the MIPS lines that pass the arguments from the caller's slots to the callee's first slots.
     fn arguments(
         &mut self,
         caller: &Frame,
@@ -128,7 +128,7 @@ impl Emitter {
         Ok(())
     }
 
-    /// Emits the lines that end the run if no further call is allowed.
+    /// Emits the MIPS lines that end the run if no further call is allowed.
     pub(crate) fn test_room(&mut self, here: usize) -> Result<(), AllocError>
         requires { here ≤ most_lines + MOST_FRAME_WORDS }
         ensures { AddsLines result self.old self.new (room_code here) }
@@ -137,7 +137,7 @@ impl Emitter {
         self.ordinary(&[small(SERVICE, END_FULL as u16), syscall()])
     }
 
-    /// Emits the lines that call the function whose first line has this label.
+    /// Emits the MIPS lines that call the function whose first line has this label.
     pub(crate) fn call(
         &mut self,
         caller: &Frame,
@@ -158,7 +158,7 @@ impl Emitter {
         self.line(Line::Call { label })
     }
 
-    /// Emits the lines that write registers to the slots from `slot` on.
+    /// Emits the MIPS lines that write registers to the slots from `slot` on.
     fn store_all(&mut self, frame: &Frame, slot: usize, sources: &[u8]) -> Result<(), AllocError>
         requires { AreReached frame.now slot (length sources.now) }
         ensures { AddsLines result self.old self.new (ordinary (store_all frame.now slot sources.now)) }
@@ -171,7 +171,7 @@ impl Emitter {
         Ok(())
     }
 
-    /// Emits the lines that load the slots from `slot` on into registers.
+    /// Emits the MIPS lines that load the slots from `slot` on into registers.
     fn load_all(&mut self, frame: &Frame, slot: usize, targets: &[u8]) -> Result<(), AllocError>
         requires { AreReached frame.now slot (length targets.now) }
         ensures { AddsLines result self.old self.new (ordinary (load_all frame.now slot targets.now)) }
@@ -184,7 +184,7 @@ impl Emitter {
         Ok(())
     }
 
-    /// Emits the lines that load the slots from `slot` on, which are in memory only, into registers.
+    /// Emits the MIPS lines that load the slots from `slot` on, which are in memory only, into registers.
     fn load_words(&mut self, frame: &Frame, slot: usize, targets: &[u8]) -> Result<(), AllocError>
         requires { AreReached frame.now slot (length targets.now) }
         ensures { AddsLines result self.old self.new (ordinary (load_words frame.now slot targets.now)) }
@@ -197,7 +197,7 @@ impl Emitter {
         Ok(())
     }
 
-    /// Emits the lines that copy words from slots to slots, one by one.
+    /// Emits the MIPS lines that copy words from slots to slots, one by one.
     fn move_each(
         &mut self,
         frame: &Frame,
@@ -218,7 +218,7 @@ impl Emitter {
         Ok(())
     }
 
-    /// Emits the lines that copy words from slots to slots, loading all words before the first is written.
+    /// Emits the MIPS lines that copy words from slots to slots, loading all words before the first is written.
     fn move_all(
         &mut self,
         frame: &Frame,
@@ -235,7 +235,7 @@ impl Emitter {
         self.store_all(frame, destination, &RESULTS[..count])
     }
 
-    /// Emits the lines that copy words from slots to slots.
+    /// Emits the MIPS lines that copy words from slots to slots.
     pub(crate) fn move_words(
         &mut self,
         frame: &Frame,
@@ -255,7 +255,7 @@ impl Emitter {
         }
     }
 
-    /// Emits the lines that move the results of a call to the caller's slots.
+    /// Emits the MIPS lines that move the results of a call to the caller's slots.
     pub(crate) fn returned(
         &mut self,
         frame: &Frame,
@@ -271,7 +271,8 @@ impl Emitter {
         self.reloads(frame)
     }
 
-    /// Emits the line that saves the return address in the frame, at the entry of a function that overwrites the return address register.
+    /// Emits the MIPS line that saves the return address in the frame, at the entry of a function that overwrites the return address
+    /// register.
     fn keep_way(&mut self, frame: &Frame) -> Result<(), AllocError>
         requires { frame.now.return_address ≤ MOST_FRAME_WORDS }
         ensures { AddsLines result self.old self.new (ordinary (way_code frame.now)) }
@@ -282,7 +283,7 @@ impl Emitter {
         self.ordinary(&[store(RETURN_ADDRESS, offset_of(frame.return_address))])
     }
 
-    /// Emits the lines that save in the frame the callee-saved registers that the function uses.
+    /// Emits the MIPS lines that save in the frame the callee-saved registers that the function uses.
     fn saves(&mut self, frame: &Frame) -> Result<(), AllocError>
         requires few { frame.now.saved ≤ MOST_SAVED }
         requires inside { frame.now.first_saved ≤ MOST_FRAME_WORDS }
@@ -294,7 +295,7 @@ impl Emitter {
         Ok(())
     }
 
-    /// Emits the lines that restore the callee-saved registers from the frame.
+    /// Emits the MIPS lines that restore the callee-saved registers from the frame.
     fn restores(&mut self, frame: &Frame) -> Result<(), AllocError>
         requires few { frame.now.saved ≤ MOST_SAVED }
         requires inside { frame.now.first_saved ≤ MOST_FRAME_WORDS }
@@ -306,7 +307,7 @@ impl Emitter {
         Ok(())
     }
 
-    /// Emits the lines at a function's entry: they save registers, then load the parameters that belong in these registers.
+    /// Emits the MIPS lines at a function's entry: they save registers, then load the parameters that belong in these registers.
     pub(crate) fn saving(&mut self, frame: &Frame) -> Result<(), AllocError>
         requires return_address { frame.now.return_address ≤ MOST_FRAME_WORDS }
         requires few { frame.now.saved ≤ MOST_SAVED }
@@ -319,7 +320,7 @@ impl Emitter {
         self.arrivals(frame)
     }
 
-    /// Emits the line that restores the return address from the frame when the function returns.
+    /// Emits the MIPS line that restores the return address from the frame when the function returns.
     fn restoring(&mut self, frame: &Frame) -> Result<(), AllocError>
         requires { frame.now.return_address ≤ MOST_FRAME_WORDS }
         ensures { AddsLines result self.old self.new (ordinary (restoring_code frame.now)) }
@@ -330,7 +331,7 @@ impl Emitter {
         self.ordinary(&[load(RETURN_ADDRESS, offset_of(frame.return_address))])
     }
 
-    /// Emits the lines that end the run if the return is that of the first call of `main`.
+    /// Emits the MIPS lines that end the run if the return is that of the first call of `main`.
     fn ending(
         &mut self,
         is_main: bool,

@@ -62,7 +62,7 @@ impl Code {
         Code { lines, globals }
     }
 
-    /// Returns the lines of the program. Execution starts at the first line.
+    /// Returns the MIPS lines of the program. Execution starts at the first line.
     pub fn lines(&self) -> &[Line]
         ensures value { result.now ≡ self.now.lines }
         ensures code { IsCode self.now }

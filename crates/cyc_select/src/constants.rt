@@ -48,8 +48,8 @@ pub const GLOBALS_MIDDLE: u32 = DATA_BASE + 0x8000;
 /// The number of globals that offsets from the base register reach.
 pub const NEAR_GLOBALS: usize = 16_384;
 
-/// The number of lines of the start code.
+/// The number of MIPS lines of the start code.
 pub const START_LINES: usize = 6;
 
-/// The most words that the start code takes.
+/// The greatest number of machine words that the start code takes.
 pub const MAX_START_WORDS: usize = 7;

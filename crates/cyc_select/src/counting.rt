@@ -80,7 +80,7 @@ fn operator_count(frame: &Frame, operator: BinaryOperator, parts: Parts) -> usiz
     }
 }
 
-/// Returns the number of lines of a move that copies several words one by one.
+/// Returns the number of MIPS lines of a move that copies several words one by one.
 #[tactic(auto, using(crate::proofs::emission::Counts::moves_next))]
 fn moves_count(frame: &Frame, destination: usize, source: usize, count: usize) -> usize
     requires few { count ≤ GREATEST_VALUE }
@@ -98,7 +98,7 @@ fn moves_count(frame: &Frame, destination: usize, source: usize, count: usize) -
     lines
 }
 
-/// Returns the number of lines of a move of several words.
+/// Returns the number of MIPS lines of a move of several words.
 fn move_words_count(frame: &Frame, destination: usize, source: usize, count: usize) -> usize
     requires few { count ≤ GREATEST_VALUE }
     requires source { source + count ≤ MOST_FRAME_WORDS }
@@ -122,7 +122,7 @@ fn spill_count(caller: &Frame, callee: &Frame, source: usize, slot: usize) -> us
     }
 }
 
-/// Returns the number of lines before a call that store to memory the slots passed from memory.
+/// Returns the number of MIPS lines before a call that store to memory the slots passed from memory.
 #[tactic(auto, using(crate::proofs::emission::Counts::spills_next))]
 pub(crate) fn spills_count(caller: &Frame, callee: &Frame, source: usize, count: usize) -> usize
     requires { source + count ≤ MOST_FRAME_WORDS }
@@ -146,7 +146,7 @@ fn pass_count(caller: &Frame, callee: &Frame, source: usize, slot: usize) -> usi
     }
 }
 
-/// Returns the number of lines of a call that pass the arguments to the callee's slots.
+/// Returns the number of MIPS lines of a call that pass the arguments to the callee's slots.
 #[tactic(auto, using(crate::proofs::emission::Counts::copies_next))]
 fn copies_count(caller: &Frame, callee: &Frame, source: usize, count: usize) -> usize
     requires { source + count ≤ MOST_FRAME_WORDS }
@@ -160,7 +160,7 @@ fn copies_count(caller: &Frame, callee: &Frame, source: usize, count: usize) -> 
     lines
 }
 
-/// Returns the number of lines of a call from its first line to the jump to the callee.
+/// Returns the number of MIPS lines of a call from its first line to the jump to the callee.
 fn call_count(caller: &Frame, callee: &Frame, arguments: usize, count: usize) -> usize
     requires { arguments + count ≤ MOST_FRAME_WORDS }
     ensures { result ≡ spills_count caller.now (coming callee.now) arguments 0 count + 5 + copies_count caller.now (coming callee.now) arguments 0 count }
@@ -178,7 +178,7 @@ pub(crate) fn way_count(frame: &Frame) -> usize
     if frame.saves { 1 } else { 0 }
 }
 
-/// Returns the number of lines at a function's entry that save registers and load parameters into them.
+/// Returns the number of MIPS lines at a function's entry that save registers and load parameters into them.
 pub(crate) fn saving_count(frame: &Frame) -> usize
     requires saved { frame.now.saved ≤ MOST_SAVED }
     requires arrivals { arrival_count frame.now ≤ MOST_SAVED }
@@ -188,7 +188,7 @@ pub(crate) fn saving_count(frame: &Frame) -> usize
     way_count(frame) + (frame.saved + arrival_count(frame))
 }
 
-/// Returns the number of lines of a return instruction.
+/// Returns the number of MIPS lines of a return instruction.
 fn return_count(plain: &Plain, frames: &[Frame], function: usize) -> usize
     requires fit { AreFrames plain.now frames.now }
     requires function { function < length plain.now.functions }
@@ -201,7 +201,7 @@ fn return_count(plain: &Plain, frames: &[Frame], function: usize) -> usize
     way_count(frame) + ending + (results_of(plain, function) + frame.saved + 2)
 }
 
-/// Returns the number of lines of an instruction, without those executed after a call returns.
+/// Returns the number of MIPS lines of an instruction, without those executed after a call returns.
 fn body_count(plain: &Plain, frames: &[Frame], function: usize, instruction: Instruction) -> usize
     requires fit { AreFrames plain.now frames.now }
     requires function { function < length plain.now.functions }
@@ -300,7 +300,7 @@ fn body_count(plain: &Plain, frames: &[Frame], function: usize, instruction: Ins
     }
 }
 
-/// Returns the number of lines that follow a call and are executed after it returns.
+/// Returns the number of MIPS lines that follow a call and are executed after it returns.
 fn after_count(plain: &Plain, frames: &[Frame], function: usize, instruction: Instruction) -> usize
     requires fit { AreFrames plain.now frames.now }
     requires function { function < length plain.now.functions }
@@ -315,7 +315,7 @@ fn after_count(plain: &Plain, frames: &[Frame], function: usize, instruction: In
     }
 }
 
-/// Returns true if the instruction at `index` has no lines. Only an instruction that always continues with the next one may be idle.
+/// Returns true if the instruction at `index` has no lines. Only an instruction that always continues with the next one may have no lines.
 pub(crate) fn is_idle(frame: &Frame, index: usize, instruction: Instruction) -> bool
     ensures { result ≡ is_idle frame.now index instruction }
 {
@@ -330,7 +330,7 @@ pub(crate) fn is_idle(frame: &Frame, index: usize, instruction: Instruction) -> 
     }
 }
 
-/// Returns the number of lines of the instruction at `index`, including those that follow a call.
+/// Returns the number of MIPS lines of the instruction at `index`, including those that follow a call.
 fn count_of(
     plain: &Plain,
     frames: &[Frame],
@@ -354,14 +354,16 @@ fn count_of(
     }
 }
 
-/// The line numbers of a function's instructions, and the number of the line after the function's last one.
+/// The line numbers in the labelled code at which a function's instructions begin, and the number of the
+/// line after the function's last one.
 #[derive(Drop)]
 struct Counted {
     lines: Vec<usize>,
     following: usize,
 }
 
-/// Returns the number of the first line of each instruction of a function, if the first instruction begins at line `here`.
+/// Returns the line number in the labelled code at which each instruction of a function begins, if the first instruction
+/// begins at line `here`.
 fn instruction_lines(
     alloc: Global,
     plain: &Plain,
@@ -391,7 +393,7 @@ fn instruction_lines(
     })
 }
 
-/// Returns the line numbers of a function that begins at this line, and the number of the line after the function's last one.
+/// Returns the line numbers of the instructions of a function that begins at this line, and the number of the line after its last one.
 fn function_lines(
     alloc: Global,
     plain: &Plain,
@@ -417,14 +419,16 @@ fn function_lines(
     )
 }
 
-/// The line numbers of all functions, and the number of the line after the last function.
+/// The line numbers in the labelled code at which functions and their instructions begin, and the
+/// number of the line after the last function.
 #[derive(Drop)]
 pub(crate) struct Numbered {
     pub(crate) functions: Vec<FunctionLines>,
     pub(crate) following: usize,
 }
 
-/// Returns the line numbers of all functions of a program. Only `number_lines` counts the lines of instructions.
+/// Returns the line numbers in the labelled code at which functions and their instructions begin. Only
+/// `number_lines` counts the lines of instructions.
 pub(crate) fn number_lines(
     alloc: Global,
     plain: &Plain,

@@ -1,4 +1,4 @@
-//! The emitter, which holds the lines emitted so far.
+//! The emitter, which holds the MIPS lines emitted so far.
 ghost use Rattle.std.specs.Prelude.{◌≡◌, [], ◌∷◌, IfOk, OnOk};
 ghost use Rattle.cyc_isa.specs.Decoding.{register_of};
 ghost use Rattle.cyc_select.specs.declared.code.Condition.TheVariants as conditions;
@@ -11,7 +11,7 @@ use crate::instructions::register;
 use cyc_isa::{BranchOp, Instr};
 use std::alloc::{AllocError, Global};
 
-/// The lines of a program that have been emitted so far.
+/// The MIPS lines of a program that have been emitted so far.
 #[derive(Drop)]
 pub(crate) struct Emitter {
     pub(crate) lines: Vec<Line>,

@@ -73,7 +73,7 @@ impl Emitter {
         }
     }
 
-    /// Emits the lines that load a global into a slot.
+    /// Emits the MIPS lines that load a global into a slot.
     pub(crate) fn load_global(
         &mut self,
         frame: &Frame,
@@ -90,7 +90,7 @@ impl Emitter {
         self.keep(frame, destination)
     }
 
-    /// Emits the lines that store an operand in a global.
+    /// Emits the MIPS lines that store an operand in a global.
     pub(crate) fn store_global(
         &mut self,
         frame: &Frame,

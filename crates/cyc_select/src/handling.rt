@@ -1,4 +1,4 @@
-//! Emits the lines of exception handlers and of thrown exceptions.
+//! Emits the MIPS lines of exception handlers and of thrown exceptions.
 ghost use Rattle.std.specs.Prelude.{◌≡◌, suc, ◌+◌, ◌*◌, ◌<◌, ◌≤◌, [], ◌∷◌, length, OnOk};
 ghost use Rattle.cyc_plain.specs.declared.limits.TheConstants.{RECORD_WORDS};
 ghost use Rattle.cyc_registers.specs.declared.home.TheConstants.{MOST_BOTH};
@@ -35,7 +35,7 @@ fn load_record(target: u8, offset: u16) -> Instr
 }
 
 impl Emitter {
-    /// Emits the lines that fill the fields of a handler's record, except the line at which an exception arrives.
+    /// Emits the MIPS lines that fill the fields of a handler's record, except the line at which an exception arrives.
     fn recorded(&mut self, frame: &Frame, first: usize) -> Result<(), AllocError>
         requires { AreReached frame.now first RECORD_WORDS }
         ensures { AddsLines result self.old self.new (ordinary (recorded_code frame.now first)) }
@@ -46,7 +46,7 @@ impl Emitter {
         ])
     }
 
-    /// Emits the lines that store an exception's tag and value in the record of the handler that it reaches.
+    /// Emits the MIPS lines that store an exception's tag and value in the record of the handler that it reaches.
     fn landed(&mut self, frame: &Frame, first: usize) -> Result<(), AllocError>
         requires { AreReached frame.now first RECORD_WORDS }
         ensures { AddsLines result self.old self.new (ordinary (store_slot frame.now ARGUMENT first ∷ store_slot frame.now SECOND_ARGUMENT (suc first) ∷ [])) }
@@ -57,7 +57,7 @@ impl Emitter {
         ])
     }
 
-    /// Emits the lines at which an exception arrives at a handler.
+    /// Emits the MIPS lines at which an exception arrives at a handler.
     fn caught(&mut self, frame: &Frame, first: usize) -> Result<(), AllocError>
         requires target { AreReached frame.now first RECORD_WORDS }
         requires homes { AreReached frame.now 0 (length frame.now.homes) }
@@ -67,7 +67,7 @@ impl Emitter {
         self.reloads(frame)
     }
 
-    /// Emits the lines that fill the other words of a handler's record and make it the newest record.
+    /// Emits the MIPS lines that store in a handler's record the address at which an exception arrives, and make the record the newest one.
     fn opened(&mut self, frame: &Frame, first: usize) -> Result<(), AllocError>
         requires { AreReached frame.now first RECORD_WORDS }
         ensures { AddsLines result self.old self.new (ordinary (opened_code frame.now first)) }
@@ -78,7 +78,7 @@ impl Emitter {
         ])
     }
 
-    /// Emits the lines that open a handler, whose first line has this label.
+    /// Emits the MIPS lines that open a handler, whose first line has this label.
     pub(crate) fn open_handler(
         &mut self,
         frame: &Frame,
@@ -101,7 +101,7 @@ impl Emitter {
         self.opened(frame, first)
     }
 
-    /// Emits the line that closes the handler with this record.
+    /// Emits the MIPS line that closes the handler with this record.
     pub(crate) fn leave(&mut self, frame: &Frame, first: usize) -> Result<(), AllocError>
         requires target { AreReached frame.now first RECORD_WORDS }
         ensures { AddsLines result self.old self.new (ordinary (load HANDLERS (slot_offset frame.now first) ∷ [])) }
@@ -109,7 +109,7 @@ impl Emitter {
         self.ordinary(&[load_word(frame, HANDLERS, first)])
     }
 
-    /// Emits the lines that restore the frame of the call whose handler is the newest.
+    /// Emits the MIPS lines that restore the frame of the call whose handler is the newest.
     fn unwound(&mut self) -> Result<(), AllocError>
         ensures { AddsLines result self.old self.new (ordinary unwound_code) }
     {
@@ -120,7 +120,7 @@ impl Emitter {
         ])
     }
 
-    /// Emits the lines that throw an exception.
+    /// Emits the MIPS lines that throw an exception.
     pub(crate) fn throw(
         &mut self,
         frame: &Frame,

@@ -22,7 +22,7 @@ use cyc_isa::Instr;
 use cyc_machine_model::constants::{ARGUMENT, GET_BYTE, SERVICE};
 use cyc_plain::{Instruction, Operand};
 
-/// Returns the first line of the code that loads a word into a register.
+/// Returns the first line of the code that loads a constant word into a register.
 fn word_first(target: u8, word: u32) -> Instr
     ensures { result ≡ word_first target word }
 {
@@ -36,7 +36,7 @@ fn word_first(target: u8, word: u32) -> Instr
 }
 
 /// Returns the first line that loads an operand into a register, or `following` if no line is needed. Returns `None`
-/// if the line reads memory.
+/// if the line that loads the operand reads memory.
 fn operand_first(
     frame: &Frame,
     register: u8,
@@ -90,7 +90,7 @@ fn operation_first(operation: Operation, target: u8, left: u8, right: u8) -> Opt
     }
 }
 
-/// Returns the first line of the code of a plan, whose result is computed in this register.
+/// Returns the first line of the code of a plan (a sequence of machine operations), whose result is computed in this register.
 fn plan_first(frame: &Frame, target: u8, plan: Plan) -> Option<Instr>
     ensures { result ≡ plan_first frame.now target plan }
 {
@@ -262,7 +262,7 @@ fn may_write(condition: Condition, own: Option<u8>, target: Option<u8>) -> bool
     }
 }
 
-/// Returns the line if it may stand before the branch, otherwise `None`.
+/// Returns the first line of the branch target if this line may stand before the branch, otherwise `None`.
 fn copied_if(condition: Condition, own: Option<u8>, first: Option<Instr>) -> Option<Instr>
     ensures { result ≡ copied_if condition own first }
 {
@@ -278,7 +278,8 @@ fn copied_if(condition: Condition, own: Option<u8>, first: Option<Instr>) -> Opt
     }
 }
 
-/// Returns the line hoisted before a branch with this test: the first line of the target instruction, if it may stand before the branch.
+/// Returns the MIPS line hoisted before a branch with this test: the first line of the target instruction, if it may stand before the
+/// branch.
 pub(crate) fn hoisted(
     frame: &Frame,
     code: &[Instruction],
@@ -301,7 +302,7 @@ pub(crate) fn hoisted(
     }
 }
 
-/// Returns the number of lines of a branch, including its test and the hoisted line.
+/// Returns the number of MIPS lines of a branch, including its test and the hoisted line.
 pub(crate) fn branch_count(frame: &Frame, code: &[Instruction], test: Test, target: usize) -> usize
     ensures { result ≡ test_count frame.now test + hoisted_count (hoisted frame.now code.now test target) + 1 }
 {

@@ -1,4 +1,4 @@
-//! Emits the lines that load and store words of memory.
+//! Emits the MIPS lines that load and store words of memory.
 ghost use Rattle.std.specs.Prelude.{◌≡◌, ◌+◌, ◌≤◌, OnOk};
 ghost use Rattle.cyc_select.specs.inside.Operands.{far_plan, address_code, address_register, near_half, at_address, address_count};
 ghost use Rattle.cyc_select.specs.inside.Selection.{ordinary, address_of, load_at, store_at};
@@ -27,7 +27,7 @@ fn address_register(frame: &Frame, address: Operand, offset: u32) -> u8
     }
 }
 
-/// Returns the offset that a load or store instruction contains: 0 if the offset is too large for it.
+/// Returns the offset that a load or store instruction contains: 0 if the offset is too large for the instruction.
 fn near_half(offset: u32) -> u16
     ensures { result ≡ near_half offset }
 {
@@ -50,7 +50,7 @@ fn at_address(frame: &Frame, op: MemoryOp, target: u8, address: Operand, offset:
     }
 }
 
-/// Returns the number of lines that compute the address of a load or store.
+/// Returns the number of MIPS lines that compute the address of a load or store.
 pub(crate) fn address_count(frame: &Frame, address: Operand, offset: u32) -> usize
     ensures value { result ≡ address_count frame.now address offset }
     ensures few { result ≤ 6 }
@@ -63,7 +63,8 @@ pub(crate) fn address_count(frame: &Frame, address: Operand, offset: u32) -> usi
 }
 
 impl Emitter {
-    /// Emits the lines that compute an address in a register, without an offset that fits the load or store instruction.
+    /// Emits the MIPS lines that compute an address in a register. The lines that compute an address do not add an
+    /// offset that fits the load or store instruction itself.
     fn address(&mut self, frame: &Frame, address: Operand, offset: u32) -> Result<(), AllocError>
         requires { IsFound frame.now address }
         ensures { AddsLines result self.old self.new (ordinary (address_code frame.now address offset)) }
@@ -74,7 +75,7 @@ impl Emitter {
         self.operation_of(frame, FIRST, far_plan(address, offset))
     }
 
-    /// Emits the lines that write the address of a slot to another slot.
+    /// Emits the MIPS lines that write the address of a slot to another slot.
     pub(crate) fn address_of(
         &mut self,
         frame: &Frame,
@@ -91,7 +92,7 @@ impl Emitter {
         self.keep(frame, destination)
     }
 
-    /// Emits the lines that load a word or a byte of memory into a slot.
+    /// Emits the MIPS lines that load a word or a byte of memory into a slot.
     pub(crate) fn load_at(
         &mut self,
         frame: &Frame,
@@ -110,7 +111,7 @@ impl Emitter {
         self.keep(frame, destination)
     }
 
-    /// Emits the lines that store an operand to a word or a byte of memory.
+    /// Emits the MIPS lines that store an operand to a word or a byte of memory.
     pub(crate) fn store_at(
         &mut self,
         frame: &Frame,

@@ -1,4 +1,4 @@
-//! Emits the lines that load an operand into a register.
+//! Emits the MIPS lines that load an operand into a register.
 ghost use Rattle.std.specs.Prelude.{◌≡◌, ◌≤◌, length, OnOk};
 ghost use Rattle.cyc_registers.specs.inside.Interference.{home_of, both_count, saved_count};
 ghost use Rattle.cyc_registers.specs.declared.home.TheConstants.{MOST_BOTH, MOST_SAVED};
@@ -178,7 +178,7 @@ pub(crate) fn operand_register(frame: &Frame, register: u8, operand: Operand) ->
     }
 }
 
-/// Returns the number of lines that store a slot's word in the frame.
+/// Returns the number of MIPS lines that store a slot's word in the frame.
 pub(crate) fn keep_count(frame: &Frame, slot: usize) -> usize
     ensures value { result ≡ keep_count frame.now slot }
     ensures few { result ≤ 1 }
@@ -186,7 +186,7 @@ pub(crate) fn keep_count(frame: &Frame, slot: usize) -> usize
     if is_kept(frame, slot) { 1 } else { 0 }
 }
 
-/// Returns the number of lines that write a register to a slot.
+/// Returns the number of MIPS lines that write a register to a slot.
 pub(crate) fn give_count(frame: &Frame, slot: usize) -> usize
     ensures value { result ≡ give_count frame.now slot }
     ensures few { result ≤ 2 }
@@ -197,7 +197,7 @@ pub(crate) fn give_count(frame: &Frame, slot: usize) -> usize
     }
 }
 
-/// Returns the number of lines that store an argument in the callee's frame: 0 if it does not arrive there.
+/// Returns the number of MIPS lines that store an argument in the callee's frame: 0 if it does not arrive there.
 pub(crate) fn keep_coming_count(callee: &Frame, slot: usize) -> usize
     ensures value { result ≡ keep_count (coming callee.now) slot }
     ensures few { result ≤ 1 }
@@ -214,7 +214,7 @@ fn is_own_coming(callee: &Frame, source: u8, slot: usize) -> bool
     }
 }
 
-/// Returns the number of lines that write a register to the callee's slot for an argument.
+/// Returns the number of MIPS lines that write a register to the callee's slot for an argument.
 pub(crate) fn hand_coming_count(callee: &Frame, source: u8, slot: usize) -> usize
     ensures value { result ≡ hand_count (coming callee.now) source slot }
     ensures few { result ≤ 2 }
@@ -256,7 +256,7 @@ fn saved_count(home: Home) -> usize
     }
 }
 
-/// Returns the number of lines that load parameters into callee-saved registers.
+/// Returns the number of MIPS lines that load parameters into callee-saved registers.
 pub(crate) fn arrival_count(frame: &Frame) -> usize
     requires { arrival_count frame.now ≤ MOST_SAVED }
     ensures { result ≡ arrival_count frame.now }
@@ -268,7 +268,7 @@ pub(crate) fn arrival_count(frame: &Frame) -> usize
     count
 }
 
-/// Returns the number of lines that reload the registers of slots whose word is also in memory.
+/// Returns the number of MIPS lines that reload the registers of slots whose word is also in memory.
 pub(crate) fn reload_count(frame: &Frame) -> usize
     requires { reload_count frame.now ≤ MOST_BOTH }
     ensures { result ≡ reload_count frame.now }
@@ -291,7 +291,7 @@ pub(crate) fn word_count(word: u32) -> usize
     }
 }
 
-/// Returns the number of lines that load an operand into a given register.
+/// Returns the number of MIPS lines that load an operand into a given register.
 pub(crate) fn load_count(operand: Operand) -> usize
     ensures value { result ≡ load_count operand }
     ensures few { result ≤ 2 }
@@ -302,7 +302,7 @@ pub(crate) fn load_count(operand: Operand) -> usize
     }
 }
 
-/// Returns the number of lines that make an operand available in a register.
+/// Returns the number of MIPS lines that make an operand available in a register.
 pub(crate) fn operand_count(frame: &Frame, operand: Operand) -> usize
     ensures value { result ≡ operand_count frame.now operand }
     ensures few { result ≤ 2 }
@@ -322,7 +322,7 @@ pub(crate) fn operand_count(frame: &Frame, operand: Operand) -> usize
     }
 }
 
-/// Returns the number of lines that copy an operand into a slot.
+/// Returns the number of MIPS lines that copy an operand into a slot.
 pub(crate) fn move_count(frame: &Frame, destination: usize, source: Operand) -> usize
     ensures value { result ≡ move_count frame.now destination source }
     ensures few { result ≤ 3 }
@@ -334,7 +334,7 @@ pub(crate) fn move_count(frame: &Frame, destination: usize, source: Operand) -> 
 }
 
 impl Emitter {
-    /// Emits the lines that load a constant word into a register.
+    /// Emits the MIPS lines that load a constant word into a register.
     pub(crate) fn word(&mut self, target: u8, word: u32) -> Result<(), AllocError>
         ensures { AddsLines result self.old self.new (ordinary (word_code target word)) }
     {
@@ -350,7 +350,7 @@ impl Emitter {
         self.ordinary(&[load_upper(target, word), or_lower(target, word)])
     }
 
-    /// Emits the lines that load an operand into a register.
+    /// Emits the MIPS lines that load an operand into a register.
     pub(crate) fn load(
         &mut self,
         frame: &Frame,
@@ -366,7 +366,7 @@ impl Emitter {
         }
     }
 
-    /// Emits the lines that make an operand available in a register.
+    /// Emits the MIPS lines that make an operand available in a register.
     pub(crate) fn operand(
         &mut self,
         frame: &Frame,
@@ -403,7 +403,7 @@ impl Emitter {
         self.ordinary(&[store_slot(frame, made_in(frame, slot), slot)])
     }
 
-    /// Emits the lines that write a register to a slot.
+    /// Emits the MIPS lines that write a register to a slot.
     pub(crate) fn give(&mut self, frame: &Frame, source: u8, slot: usize) -> Result<(), AllocError>
         requires { IsReached frame.now slot }
         ensures { AddsLines result self.old self.new (ordinary (give_code frame.now source slot)) }
@@ -417,8 +417,8 @@ impl Emitter {
         }
     }
 
-    /// Emits the lines that write a register to a slot. If registers are reloaded afterwards, a slot with a register and memory is
-    /// written in memory only.
+    /// Emits the MIPS lines that write a register to a slot. If registers are reloaded afterwards, a slot whose home is a register
+    /// and memory is written in memory only.
     fn bring(
         &mut self,
         frame: &Frame,
@@ -435,7 +435,7 @@ impl Emitter {
         self.give(frame, source, slot)
     }
 
-    /// Emits the lines that write registers to the slots from `slot` on.
+    /// Emits the MIPS lines that write registers to the slots from `slot` on.
     pub(crate) fn bring_all(
         &mut self,
         frame: &Frame,
@@ -465,7 +465,7 @@ impl Emitter {
         self.ordinary(&[store_slot(callee, comes_by(callee, slot), slot)])
     }
 
-    /// Emits the lines that write a register to the callee's slot for an argument.
+    /// Emits the MIPS lines that write a register to the callee's slot for an argument.
     fn give_coming(&mut self, callee: &Frame, source: u8, slot: usize) -> Result<(), AllocError>
         requires { IsReached callee.now slot }
         ensures { AddsLines result self.old self.new (ordinary (give_code (coming callee.now) source slot)) }
@@ -479,8 +479,8 @@ impl Emitter {
         }
     }
 
-    /// Emits the lines that write a register to the callee's slot for an argument. If the argument arrives
-    /// in this register, no copy is needed.
+    /// Emits the MIPS lines that write a register to the callee's slot for an argument. If the argument
+    /// arrives in this register, no copy is needed.
     pub(crate) fn hand_coming(
         &mut self,
         callee: &Frame,
@@ -518,7 +518,7 @@ impl Emitter {
         Ok(())
     }
 
-    /// Emits the lines that load parameters that arrived in memory into their callee-saved registers.
+    /// Emits the MIPS lines that load parameters that arrived in memory into their callee-saved registers.
     pub(crate) fn arrivals(&mut self, frame: &Frame) -> Result<(), AllocError>
         requires { AreReached frame.now 0 (length frame.now.homes) }
         ensures { AddsLines result self.old self.new (ordinary (arrivals frame.now)) }

@@ -1,4 +1,4 @@
-//! Emits the lines of operators and tests, and of other instructions that access only the function's own slots.
+//! Emits the MIPS lines of operators and tests, and of other instructions that access only the function's own slots.
 ghost use Rattle.std.specs.Prelude.{◌≡◌, ◌+◌, ◌*◌, ◌<◌, ◌≤◌, ◌^◌, [], ◌∷◌, ◌++◌, OnOk};
 ghost use Rattle.cyc_select.specs.inside.Instructions.{small, syscall, arithmetic_of, immediate_of, shift_of, shift_by_of, multiply_divide_of, move_from_of};
 ghost use Rattle.cyc_select.specs.inside.Slots.{give_code};
@@ -123,7 +123,7 @@ fn outcome_count(outcome: Outcome) -> usize
     }
 }
 
-/// Returns the number of lines of a plan (a computation from two operands) without its final step.
+/// Returns the number of MIPS lines of a plan (a computation from two operands) without its final step.
 pub(crate) fn count_of_operation(frame: &Frame, plan: Plan) -> usize
     ensures value { result ≡ count_of_operation frame.now plan }
     ensures few { result ≤ 6 }
@@ -133,14 +133,14 @@ pub(crate) fn count_of_operation(frame: &Frame, plan: Plan) -> usize
         + operation_count(plan.operation)
 }
 
-/// Returns the number of lines that compute a plan and write its result to a slot.
+/// Returns the number of MIPS lines that compute a plan (a computation from two operands) and write its result to a slot.
 pub(crate) fn plan_count(frame: &Frame, plan: Plan, destination: usize) -> usize
     ensures { result ≡ plan_count frame.now plan destination }
 {
     count_of_operation(frame, plan) + outcome_count(plan.outcome) + keep_count(frame, destination)
 }
 
-/// Returns the number of lines that compute the test of a branch.
+/// Returns the number of MIPS lines that compute the test of a branch.
 pub(crate) fn test_count(frame: &Frame, test: Test) -> usize
     ensures value { result ≡ test_count frame.now test }
     ensures few { result ≤ 6 }
@@ -154,7 +154,7 @@ pub(crate) fn test_count(frame: &Frame, test: Test) -> usize
     }
 }
 
-/// Returns the branch that is taken if a plan's final step would compute 1.
+/// Returns the branch that is taken if the final step of a plan (a computation from two operands) would compute 1.
 fn branch_on(outcome: Outcome) -> BranchOp
     ensures { result ≡ branch_on outcome }
 {
@@ -217,7 +217,7 @@ fn product(which: MoveFromOp, left: u8) -> Instr
 }
 
 impl Emitter {
-    /// Emits the lines that copy an operand to a slot.
+    /// Emits the MIPS lines that copy an operand to a slot.
     pub(crate) fn copy(
         &mut self,
         frame: &Frame,
@@ -261,7 +261,7 @@ impl Emitter {
         }
     }
 
-    /// Emits the final step of a plan on the word in a register.
+    /// Emits the final step of a plan (a computation from two operands) on the word in a register.
     fn outcome(&mut self, outcome: Outcome, target: u8) -> Result<(), AllocError>
         ensures { AddsLines result self.old self.new (ordinary (outcome_code outcome target)) }
     {
@@ -274,7 +274,7 @@ impl Emitter {
         }
     }
 
-    /// Emits the lines that make two operands available, each in a register.
+    /// Emits the MIPS lines that make two operands available, each in a register.
     fn operands(&mut self, frame: &Frame, left: Operand, right: Operand) -> Result<(), AllocError>
         requires left { IsFound frame.now left }
         requires right { IsFound frame.now right }
@@ -284,7 +284,7 @@ impl Emitter {
         self.operand(frame, SECOND, right)
     }
 
-    /// Emits the lines that compute a plan, without its final step, in a register.
+    /// Emits the MIPS lines that compute a plan (a computation from two operands), without its final step, in a register.
     pub(crate) fn operation_of(
         &mut self,
         frame: &Frame,
@@ -303,7 +303,7 @@ impl Emitter {
         )
     }
 
-    /// Emits the lines that compute a plan in a register.
+    /// Emits the MIPS lines that compute a plan (a computation from two operands) in a register.
     fn computed(&mut self, frame: &Frame, target: u8, plan: Plan) -> Result<(), AllocError>
         requires { IsPlanFound frame.now plan }
         ensures { AddsLines result self.old self.new (ordinary (computed_code frame.now target plan)) }
@@ -312,7 +312,7 @@ impl Emitter {
         self.outcome(plan.outcome, target)
     }
 
-    /// Emits the lines that compute a plan and write its result to a slot.
+    /// Emits the MIPS lines that compute a plan (a computation from two operands) and write its result to a slot.
     pub(crate) fn plan(
         &mut self,
         frame: &Frame,
@@ -327,7 +327,7 @@ impl Emitter {
         self.keep(frame, destination)
     }
 
-    /// Emits the lines that compute the test of a branch.
+    /// Emits the MIPS lines that compute the test of a branch.
     fn test(&mut self, frame: &Frame, test: Test) -> Result<(), AllocError>
         requires { IsTestFound frame.now test }
         ensures { AddsLines result self.old self.new (ordinary (test_code frame.now test)) }
@@ -365,7 +365,7 @@ impl Emitter {
         }
     }
 
-    /// Emits the lines that make the dividend and the divisor available in registers and load -1 into a third one.
+    /// Emits the MIPS lines that make the dividend and the divisor available in registers and load -1 into a third one.
     fn dividend_and_divisor(
         &mut self,
         frame: &Frame,
@@ -380,7 +380,7 @@ impl Emitter {
         self.ordinary(&[add_immediate(THIRD, ZERO, minus(1))])
     }
 
-    /// Emits the lines that divide one register by another and write the quotient or the remainder to a slot.
+    /// Emits the MIPS lines that divide one register by another and write the quotient or the remainder to a slot.
     fn quotient(
         &mut self,
         frame: &Frame,
@@ -427,7 +427,7 @@ impl Emitter {
         self.quotient(frame, which, parts.destination, left, right)
     }
 
-    /// Emits the lines of an operator on two operands.
+    /// Emits the MIPS lines of an operator on two operands.
     pub(crate) fn binary(
         &mut self,
         frame: &Frame,
@@ -448,7 +448,7 @@ impl Emitter {
         self.plan(frame, plan, parts.destination)
     }
 
-    /// Emits the lines that read an input byte into a slot.
+    /// Emits the MIPS lines that read an input byte into a slot.
     pub(crate) fn read_byte(&mut self, frame: &Frame, destination: usize) -> Result<(), AllocError>
         requires { IsReached frame.now destination }
         ensures { AddsLines result self.old self.new (ordinary (small SERVICE GET_BYTE ∷ syscall ∷ give_code frame.now SERVICE destination)) }
@@ -457,7 +457,7 @@ impl Emitter {
         self.give(frame, SERVICE, destination)
     }
 
-    /// Emits the lines that print an operand's low byte.
+    /// Emits the MIPS lines that print an operand's low byte.
     pub(crate) fn write_byte(&mut self, frame: &Frame, source: Operand) -> Result<(), AllocError>
         requires { IsFound frame.now source }
         ensures { AddsLines result self.old self.new (write_code frame.now source) }
@@ -466,7 +466,7 @@ impl Emitter {
         self.ordinary(&[small(SERVICE, PUT_BYTE as u16), syscall()])
     }
 
-    /// Emits the lines that end the run with an uncaught exception.
+    /// Emits the MIPS lines that end the run with an uncaught exception.
     pub(crate) fn uncaught(
         &mut self,
         frame: &Frame,

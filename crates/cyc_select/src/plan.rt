@@ -51,8 +51,8 @@ pub(crate) enum Outcome {
     WhetherNotZero,
 }
 
-/// A plan is a computation from two operands. If its instruction contains an immediate, the right operand is the word 0, which
-/// needs no line.
+/// A plan is a computation from two operands. If a plan's instruction contains an immediate, the right operand is the word 0,
+/// which needs no machine code.
 #[derive(Clone, Copy)]
 pub(crate) struct Plan {
     pub(crate) operation: Operation,
@@ -75,7 +75,7 @@ pub(crate) enum Test {
         op: BranchZeroOp,
         operand: Operand,
     },
-    /// Tests that the word that a plan computes is not 0.
+    /// Tests that the word that a plan (a computation from two operands) computes is not 0.
     Computed {
         plan: Plan,
     },
@@ -111,7 +111,7 @@ fn immediate_plan(op: ImmediateOp, left: Operand, half: u16, outcome: Outcome) -
     }
 }
 
-/// Returns a plan with the immediate, if one is given, otherwise the plan `other`.
+/// Returns the plan whose instruction has the given immediate, or the plan `other` if no immediate is given.
 fn immediate_or(
     half: Option<u16>,
     op: ImmediateOp,
@@ -176,7 +176,7 @@ fn product_plan(left: Operand, right: Operand) -> Plan
     }
 }
 
-/// Returns the comparison that holds for the exchanged operands exactly if this one holds for the operands in order.
+/// Returns the comparison that holds for the exchanged operands exactly if the given comparison holds for the operands in order.
 fn mirrored(comparison: Comparison) -> Comparison
     ensures { result ≡ mirrored comparison }
 {

@@ -41,7 +41,7 @@ impl Emitter {
         self.line(Line::Jump { label })
     }
 
-    /// Emits the lines of all instructions of a function.
+    /// Emits the MIPS lines of all instructions of a function.
     fn code(&mut self, tables: &Tables, code: &[Instruction]) -> Result<(), AllocError>
         requires known { IsKnown tables.now }
         requires code { code.now ≡ (routine_at tables.now.plain.now tables.now.function).code }
@@ -55,7 +55,7 @@ impl Emitter {
         Ok(())
     }
 
-    /// Emits the lines of a function: those at its entry, then those of its instructions.
+    /// Emits the MIPS lines of a function: those at its entry, then those of its instructions.
     fn function(&mut self, program: &Ready, function: usize) -> Result<(), AllocError>
         requires ready { IsReady program.now }
         requires function { function < length program.now.plain.now.functions }
@@ -76,7 +76,7 @@ impl Emitter {
         self.code(&tables, code)
     }
 
-    /// Emits the lines of all functions of the program.
+    /// Emits the MIPS lines of all functions of the program.
     fn functions(&mut self, program: &Ready) -> Result<(), AllocError>
         requires { IsReady program.now }
         ensures { AddsLines result self.old self.new (function_lines program.now.plain.now program.now.frames.now 0 START_LINES
@@ -90,7 +90,7 @@ impl Emitter {
     }
 }
 
-/// Returns the line numbers of each function of a plain program, in the code that `select` returns.
+/// Returns, for each function of a plain program, the line numbers of its instructions in the labelled code that `select` returns.
 pub fn lines_of(
     alloc: Global,
     plain: &Plain,
@@ -128,7 +128,8 @@ fn selected(alloc: Global, plain: &Plain, frames: &Frames) -> Result<Code, Alloc
 /// The only error that `select` returns is lack of memory.
 pub fn select(alloc: Global, plain: &Plain, frames: &Frames) -> Result<Code, Fault>
     requires { AreFrames plain.now frames.now }
-    // Each line of the selected code belongs to one instruction of the program or to the start code. The code behaves as the program does.
+    // Each MIPS line of the selected code belongs to one instruction of the program or to the start code. The code behaves as the program
+    // does.
     ensures selected { IfOk result (λ code. IsCodeOf plain.now code) }
     // The data range of the selected code begins with the program's globals.
     ensures globals { IfOk result (λ code. code.globals ≡ plain.now.globals) }

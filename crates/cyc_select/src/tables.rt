@@ -1,4 +1,4 @@
-//! The tables of frames and line numbers from which the lines of a function are emitted.
+//! The tables of frames and of labelled-code line numbers from which the MIPS lines of a function are emitted.
 ghost use Rattle.std.specs.Prelude.{◌≡◌, ◌+◌, ◌<◌, ◌≤◌, ◌==◌, length};
 ghost use Rattle.cyc_plain.specs.inside.Program.{routine_at};
 ghost use Rattle.cyc_frame.specs.inside.Layout.{frame_at};
@@ -11,16 +11,16 @@ use crate::counting::{frame_in, results_of};
 use cyc_frame::Frame;
 use cyc_plain::{GREATEST_VALUE, MOST_FRAME_WORDS, Plain};
 
-/// The line numbers of a function's instructions.
+/// The line numbers in the labelled code at which a function and its instructions begin.
 #[derive(Drop)]
 pub struct FunctionLines {
-    /// The number of the function's first line.
+    /// The line number in the labelled code at which the function begins.
     pub first: usize,
-    /// The number of the first line of each instruction. An instruction without lines has the number of the next line.
+    /// The line number at which the code of each instruction begins. An instruction without lines has the number of the next line.
     pub lines: Vec<usize>,
 }
 
-/// A program with the frames of its functions and their line numbers.
+/// A program with the frames of its functions and their line numbers in the labelled code.
 #[derive(Clone, Copy)]
 pub(crate) struct Ready<'a> {
     pub(crate) plain: &'a Plain,
@@ -28,14 +28,14 @@ pub(crate) struct Ready<'a> {
     pub(crate) functions: &'a [FunctionLines],
 }
 
-/// A function of a program, with the tables of frames and line numbers that its lines refer to.
+/// A function of a program, with the tables of frames and of labelled-code line numbers that are used to emit its lines.
 #[derive(Clone, Copy)]
 pub(crate) struct Tables<'a> {
     pub(crate) plain: &'a Plain,
     pub(crate) frames: &'a [Frame],
-    /// The line numbers of each function of the program.
+    /// The line numbers in the labelled code at which each function of the program and its instructions begin.
     pub(crate) functions: &'a [FunctionLines],
-    /// The number of the first line of each instruction of the current function.
+    /// The line number at which the code of each instruction of the current function begins.
     pub(crate) lines: &'a [usize],
     pub(crate) function: usize,
 }
@@ -56,7 +56,7 @@ impl<'a> Tables<'a> {
         frame_in(self.plain, self.frames, function)
     }
 
-    /// Returns the number of the first line of a function.
+    /// Returns the line number in the labelled code at which a function begins.
     pub(crate) fn start(&self, function: usize) -> usize
         requires known { IsKnown self.now }
         requires function { function < length self.now.plain.now.functions }
@@ -65,7 +65,7 @@ impl<'a> Tables<'a> {
         self.functions[function].first
     }
 
-    /// Returns the number of the first line of an instruction.
+    /// Returns the line number in the labelled code at which an instruction begins.
     pub(crate) fn line(&self, index: usize) -> usize
         requires known { IsKnown self.now }
         requires index { index < length (routine_at self.now.plain.now self.now.function).code }

@@ -1,5 +1,6 @@
--- This file is about computing the number of words that a frame needs. The need of the first elements of a list combined with the need of
--- the remaining elements is the need of the list. The file also proves this fact about lists for nodes that have lists.
+-- This file is about computing the number of words that a frame needs. The need (number of words) of a list's first elements, combined
+-- with that of the remaining elements, is the need of the list. The fact about the needs of lists is also proved for typed tree nodes
+-- that have lists.
 use Rattle.std.proofs.Common.{◌≡◌, ℕ, ◌+◌, ◌<◌, max, List, [], ◌∷◌, length, get_or, drop, map, Option, sym, ap, ◌∙◌, arith}
 use Rattle.std.proofs.lemmas.List.{drop_more}
 use Rattle.std.specs.declared.vec.Vec.{Vec}
@@ -29,8 +30,8 @@ use Rattle.cyc_sizes.specs.inside.Needs.{operands_need}
 
 -- ---- arguments
 
--- Says that the need of the arguments so far, combined with the need of the remaining arguments, is the need of all; `first` words
--- precede the first argument.
+-- Says that the frame words needed by the arguments so far, combined with those of the remaining ones, are those of all; `first`
+-- words precede the first argument.
 abbrev pub ArgumentsLeft : List ConvertedCode → (first i need before : ℕ) → Type 0
 ArgumentsLeft cs first i need before =
     (max need (arguments_need (arguments_of (drop i cs)) before) ≡ arguments_need (arguments_of cs) first)
@@ -46,7 +47,8 @@ OperationsLeft os t first i need left = max need (operations_need (operations_of
 abbrev pub ItemsLeft : List ItemCode → (i need : ℕ) → Type 0
 ItemsLeft js i need = max need (items_need (items_of (drop i js))) ≡ items_need (items_of js)
 
--- Says that the words kept by the items so far, plus the words kept by the remaining items, are the words kept by the complete block.
+-- Says that the frame words reserved for the declarations and statements so far, plus those for the remaining ones, are those of the
+-- complete block.
 abbrev pub ItemsKeptLeft : List ItemCode → (i words : ℕ) → Type 0
 ItemsKeptLeft js i words = words + kept_by_items (items_of (drop i js)) ≡ kept_by_items (items_of js)
 
@@ -58,7 +60,7 @@ ClausesLeft cs i need = max need (clauses_need (clauses_of (drop i cs) NoClauses
 abbrev pub ClausesKeptLeft : List Clause → (i words : ℕ) → Type 0
 ClausesKeptLeft cs i words = words + kept_by_clauses (clauses_of (drop i cs) NoClauses) ≡ kept_by_clauses (clauses_of cs NoClauses)
 
--- The need of clauses with a `default` clause is the maximum of its need and the need of the other clauses.
+-- The frame words that catch clauses with a `default` clause need are the maximum of those of this clause and those of the other clauses.
 pub clauses_need_with : (cs : List Clause) (default : Clauses) → clauses_need (clauses_of cs default) ≡ max (clauses_need (clauses_of cs NoClauses)) (clauses_need default)
 clauses_need_with [] default = omega arith
 clauses_need_with (c ∷ cs) default = omega (arith, clauses_need_with cs default)

@@ -76,7 +76,7 @@ parameters_weigh (t ∷ ts) = omega (arith, more_parameters ts)
 
 -- ---- nodes that contain lists
 
--- The tokens of clauses with a `default` clause are its tokens plus those of the other clauses.
+-- The tokens of catch clauses with a `default` clause are those of this clause plus those of the other clauses.
 default_weighs : (cs : List Clause) (default : Clauses) → clauses_weight (clauses_of cs default) ≡ clauses_weight (clauses_of cs NoClauses) + clauses_weight default
 default_weighs [] default = omega arith
 default_weighs (c ∷ cs) default = omega (arith, default_weighs cs default)

@@ -18,19 +18,19 @@ use cyc_types::typed::{
     Placement, Side, Stmt, UnaryOperator, ValueType,
 };
 
-/// The number of words of an address: the target of an assignment or of `&`, or a side of a swap.
+/// The number of frame words of an address: for the target of an assignment, for the operand of `&`, or for an operand of a swap.
 const PLACE_WORDS: usize = 3;
 
-/// The number of words that an array `for` keeps while its element is evaluated.
+/// The number of frame words that an array `for` occupies while its element is evaluated.
 const ARRAY_WORDS: usize = 4;
 
 /// The number of words that are reserved in each frame.
 const KEPT_WORDS: usize = 24;
 
-/// The number of frame words that each `try` keeps.
+/// The number of frame words that are reserved for each `try`.
 const HANDLER_WORDS: usize = 6;
 
-/// Returns the number of words of a value of a kind.
+/// Returns the number of words of a value of the given representation kind (int, char, pointer, ..).
 pub fn words_of_kind(kind: Kind) -> usize
     ensures words { result ≡ words_of_kind kind }
     ensures few { result ≤ 3 }
@@ -106,7 +106,7 @@ fn typed_words(of_type: &ValueType) -> usize
     }
 }
 
-/// Returns the larger of an operand's sizes before and after its conversion.
+/// Returns the number of words of an operand before or after its conversion, whichever is larger.
 fn converted_words(value: &Converted) -> usize
     ensures { result ≡ converted_words (view_converted value.now) }
 {
@@ -295,7 +295,7 @@ fn operations_need(operations: &[Operation], of_type: &Ty, first: usize) -> usiz
     need
 }
 
-/// Returns the frame words that an optional value needs.
+/// Returns the frame words that the evaluation of an optional expression needs.
 fn initial_need(value: &Option<Converted>) -> usize
     requires { initial_need (option_map view_converted value.now) ≤ most_frame_count }
     ensures { result ≡ initial_need (option_map view_converted value.now) }
@@ -327,7 +327,7 @@ fn side_need(side: &Side) -> usize
 }
 
 /// Returns the frame words that a statement needs: the maximum over its expressions. A swap is counted like an expression without a value
-/// whose operands are its two sides.
+/// whose operands are the swap's left and right operand.
 #[cycle(greatest)]
 fn statement_need(statement: &Stmt) -> usize
     requires { statement_need (view_statement statement.now) ≤ most_frame_count }
@@ -394,7 +394,7 @@ pub fn items_need(items: &[Item]) -> usize
     need
 }
 
-/// Returns the greatest number of frame words that an expression in clauses needs.
+/// Returns the greatest number of frame words that an expression in catch clauses needs.
 #[cycle(greatest)]
 fn clauses_need(clauses: &[Clause]) -> usize
     requires { clauses_need (clauses_of clauses.now NoClauses) ≤ most_frame_count }
@@ -418,8 +418,8 @@ fn default_need(default: &Option<Body>) -> usize
     }
 }
 
-/// Returns the number of words that a statement keeps in addition to the variables: some words for each `try`, and one
-/// word for each lexical region.
+/// Returns the number of frame words that are reserved for a statement in addition to the variables: some words for
+/// each `try`, and one word for each lexical region.
 #[cycle(kept)]
 fn kept_by(statement: &Stmt) -> usize
     requires { kept_by (view_statement statement.now) ≤ most_frame_count }
@@ -458,7 +458,7 @@ fn kept_by_item(item: &Item) -> usize
     }
 }
 
-/// Returns the number of words that the items of a block keep in addition to the variables.
+/// Returns the number of frame words that are reserved for the declarations and statements of a block in addition to the variables.
 #[cycle(kept)]
 pub fn kept_by_items(items: &[Item]) -> usize
     requires { kept_by_items (items_of items.now) ≤ most_frame_count }

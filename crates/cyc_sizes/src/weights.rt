@@ -95,7 +95,7 @@ fn placement_weight(placement: &Placement) -> usize
     }
 }
 
-/// Returns the number of tokens of the initial contents of an object.
+/// Returns the number of tokens of the initial value or values of an object.
 #[cycle(expressions)]
 fn initial_weight(initial: &Initial) -> usize
     requires { initial_weight (view_initial initial.now) ≤ max_tokens }
@@ -197,7 +197,7 @@ fn thrown_weight(value: &Option<Expr>) -> usize
     }
 }
 
-/// Returns the number of tokens of the local for an exception's int in a clause, with its parentheses.
+/// Returns the number of tokens of the local for an exception's int in a catch clause, with its parentheses.
 fn caught_weight(number: Option<usize>) -> usize
     ensures { result ≡ caught_weight number }
 {
@@ -259,7 +259,7 @@ fn statement_weight(statement: &Stmt) -> usize
     }
 }
 
-/// Returns the number of tokens of an item of a block.
+/// Returns the number of tokens of one declaration or statement of a block.
 #[cycle(statements)]
 fn item_weight(item: &Item) -> usize
     requires { item_weight (view_item item.now) ≤ max_tokens }
@@ -275,7 +275,7 @@ fn item_weight(item: &Item) -> usize
     }
 }
 
-/// Returns the number of tokens of the items of a block.
+/// Returns the number of tokens of the declarations and statements of a block.
 #[cycle(statements)]
 fn items_weight(items: &[Item]) -> usize
     requires { items_weight (items_of items.now) ≤ max_tokens }
@@ -288,7 +288,7 @@ fn items_weight(items: &[Item]) -> usize
     weight
 }
 
-/// Returns the number of tokens of clauses, each of which catches one exception.
+/// Returns the number of tokens of catch clauses, each of which catches one exception.
 #[cycle(statements)]
 fn clauses_weight(clauses: &[Clause]) -> usize
     requires { clauses_weight (clauses_of clauses.now NoClauses) ≤ max_tokens }
@@ -313,7 +313,7 @@ fn default_weight(default: &Option<Body>) -> usize
     }
 }
 
-/// Returns the number of tokens of `=` and the value of a global, if the value must have been written.
+/// Returns the number of tokens of `=` and the initial value of a global, if the source must write that value.
 fn constant_weight(value: Constant) -> usize
     ensures { result ≡ constant_weight (view_constant value) }
 {

@@ -4,7 +4,8 @@ mod guard
 mod flow
 mod states
 mod steps
--- These modules prove the soundness theorem, for the class and for programs of texts, which the crates above cite.
+-- These modules prove the soundness theorem, which dependent crates cite: for the programs of the class, and for
+-- programs that the typing rules derive from source texts.
 mod Whole
 pub mod FormedLemmas
 -- examples

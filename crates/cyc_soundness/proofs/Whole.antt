@@ -164,7 +164,7 @@ value_typed g v (inr (inr (k, t, r, pointer, null, is))) =
     subst (λ z. HasType g (at as_heap v.of_type) (constant_value z)) (sym is)
     (subst (λ u. HasType g (at as_heap u) values.Null) (sym pointer) (null_typed g k t r (subst (λ u. is_non_null u ≡ false) pointer null)))
 
--- A key of the heap is not a linear resource.
+-- If every region variable denotes the heap, then a value of a key type is not a linear resource.
 key_keyless : (r : Region) → IsKeyless (at as_heap (types.Key r))
 key_keyless regions.Heap = tt
 key_keyless regions.Unique = tt

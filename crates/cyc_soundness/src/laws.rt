@@ -20,13 +20,13 @@ ghost use Rattle.cyc_soundness.specs.inside.Awaited.{Want};
 ghost use Rattle.cyc_soundness.specs.inside.Stacks.{IsStack};
 ghost use Rattle.cyc_soundness.specs.Sound.{IsSound};
 
-/// A well-typed tree that satisfies the flow rules is guarded.
+/// A well-typed tree that satisfies the flow rules also satisfies them in the form for proofs about runs (it is guarded).
 pub fn allowed_programs_are_guarded()
     ensures { (program : Program) → IsWellTypedProgram program → IsAllowedProgram program → IsGuardedProgram program }
 {}
 
-/// The facts about a world only grow, and typed parts of a state stay typed. A value keeps its type for ever; a control stack keeps its
-/// type as long as no resource changes its holder.
+/// The facts about a heap state (regions and objects) only grow, and typed parts of a run state stay typed. A value keeps its type for
+/// ever; a control stack keeps its type as long as no resource changes its holder.
 pub fn typings_stay()
     ensures values { (g h : Typing) → Grows g h → (t : RunTy) (v : Value) → HasType g t v → HasType h t v }
     ensures stacks { (p : Program) (g h : Typing) → Stays g h → (x : Exits) (locals : List InScope) (want : Want) (stack : List Entry)

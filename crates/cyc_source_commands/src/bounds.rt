@@ -9,7 +9,7 @@ use cyc_words::Span;
 use std::alloc::Global;
 use std::fmt;
 
-/// Returns the number of code words in the image of a program, if the program compiles.
+/// Returns the number of machine-code words in the image of a program, if the program compiles.
 fn words_of(alloc: Global, text: &[u8]) -> Option<u32> {
     let image = compile(alloc, text).ok()?;
     let outline = read_outline(alloc, image.as_slice()).ok()?;
@@ -17,7 +17,7 @@ fn words_of(alloc: Global, text: &[u8]) -> Option<u32> {
     Some(header.memory_size / 4)
 }
 
-/// Returns the number of code words if the program's steps have a bound; otherwise the number is not needed.
+/// Returns the number of machine-code words in a program's image if the program's steps have a bound; otherwise the number is not needed.
 pub fn words_by(alloc: Global, text: &[u8], bounds: &Bounds) -> Option<u32> {
     match bounds.steps {
         StepBound::Steps { .. } => words_of(alloc, text),
@@ -34,7 +34,7 @@ pub struct Needs<'a> {
     pub name: &'a str,
     pub text: &'a [u8],
     pub bounded: &'a Bounded,
-    /// The number of code words of the image, if the program was compiled; no step takes more instructions.
+    /// The number of machine-code words of the image, if the program was compiled; no step takes more instructions.
     pub words: Option<u32>,
 }
 

@@ -140,7 +140,7 @@ fn limits_by(bounds: &Bounds) -> Option<GivenLimits> {
     }
 }
 
-/// Reports the needs of a program that lacks a bound.
+/// Reports what a program that lacks a bound needs: calls, pages and steps.
 fn tell_needs(rt: &HostRuntime, source: Source<'_>) -> Answer {
     match bounds_with_tokens(rt.alloc(), source.text) {
         Ok(bounded) => {
@@ -254,7 +254,7 @@ impl Made {
     }
 }
 
-/// Compiles a program together with its source positions, and reports the findings.
+/// Compiles a program together with its source positions, and reports the findings (faults or warnings).
 fn make_placed(rt: &HostRuntime, source: Source<'_>, limits: GivenLimits) -> Result<Made, Answer> {
     match compile_placed(rt.alloc(), source.text, limits) {
         Ok(compiled) => {

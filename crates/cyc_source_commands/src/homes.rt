@@ -1,5 +1,6 @@
 //! Adapts messages about a text that was joined from several files: each source position names the file that contains it. A position in
-//! the program's own file is unchanged. The program's file comes first in the joined text, so its line numbers are those of the text.
+//! the program's own file is unchanged. The program's own file comes first in the joined text, so its line numbers are those of the
+//! joined text.
 use cyc_cli::{FileName, Quoted, Shown};
 use cyc_places::Part;
 use std::alloc::{AllocError, Global};
@@ -13,8 +14,8 @@ fn home_of<'a>(parts: &[Part<'a>], line: u32) -> Option<(&'a str, u32)> {
     Some((part.name, part.line.saturating_add(beyond)))
 }
 
-/// Reads a line number followed by `sign` at the start of a text. Returns the other file and line for
-/// that number, and the rest of the text.
+/// Reads a line number followed by `sign` at the start of a text. Returns the other file that
+/// contains this line of the joined text, the line's number in it, and the rest of the text.
 fn home_in<'a, 't>(
     parts: &[Part<'a>],
     text: &'t str,

@@ -13,7 +13,7 @@ pub struct Library<'a> {
     pub tokens: Vec<Token>,
 }
 
-/// A declaration of a library: the library's number, and the range of the declaration's tokens.
+/// A declaration of a library: the library's index, and the range of the declaration's tokens.
 #[derive(Clone, Copy)]
 struct Declaration {
     library: usize,
@@ -22,12 +22,12 @@ struct Declaration {
     is_reached: bool,
 }
 
-/// The facts known about a name: its declarations, and a flag that is true once the name was followed.
+/// The facts known about a name: its declarations, and a flag that is true once the search for needed declarations has reached the name.
 #[derive(Clone, Copy)]
 struct Known {
     /// The library declaration that declares the name, if any.
     declared_by: Option<usize>,
-    /// The position at which the program itself declares the name, if it does.
+    /// The source position at which the program itself declares the name, if it does.
     own: Option<Span>,
     was_met: bool,
 }
@@ -42,8 +42,8 @@ pub enum Clash {
         second: usize,
         token: usize,
     },
-    /// The program declares, at `own`, a name that a library also declares. A needed library declaration uses the name at `token`; `by`
-    /// is the token of that declaration's own name.
+    /// The program declares, at `own`, a name that a library also declares. A needed library declaration uses the name at the token
+    /// with index `token`; `by` is the index of the token of that declaration's own name.
     Taken {
         own: Span,
         declared_in: usize,
@@ -59,7 +59,7 @@ impl From<AllocError> for Clash {
     }
 }
 
-/// Appends an item to a list.
+/// Appends an element to a list.
 fn put<T: Drop>(list: &mut Vec<T>, item: T) -> Result<(), AllocError> {
     list.push(item)?;
     Ok(())
@@ -169,19 +169,19 @@ fn declares(tokens: &[Token], place: usize) -> bool {
     }
 }
 
-/// The declarations of all libraries, and the flags of those that a program needs.
+/// The declarations of all libraries, with a flag for each declaration that a program needs.
 #[derive(Drop)]
 pub struct Shelf<'a> {
     alloc: Global,
     libraries: Vec<Library<'a>>,
     declarations: Vec<Declaration>,
     names: Names,
-    /// The facts known about each name, indexed by the name's number.
+    /// The facts known about each name, indexed by the number that identifies the name.
     known: Vec<Known>,
 }
 
 impl<'a> Shelf<'a> {
-    /// Returns a shelf with the given libraries, whose declarations have not been found yet.
+    /// Returns a collection of the given libraries, whose declarations have not been found yet.
     pub fn new(alloc: Global, libraries: Vec<Library<'a>>) -> Result<Shelf<'a>, AllocError> {
         Ok(Shelf {
             alloc,
@@ -216,7 +216,7 @@ impl<'a> Shelf<'a> {
         }
     }
 
-    /// Returns the number of a name; a new name gets the next number.
+    /// Returns the number that identifies a name; a new name gets the next number.
     fn number_of(&mut self, name: &[u8]) -> Result<usize, AllocError> {
         let number = self.names.intern(name)?.number;
         if number >= self.known.len() {
@@ -229,7 +229,7 @@ impl<'a> Shelf<'a> {
         Ok(number)
     }
 
-    /// Returns the number of the name at a token of a library, if the token is a name.
+    /// Returns the number that identifies the name at a token of a library, if the token is a name.
     fn name_at(&mut self, library: usize, place: usize) -> Result<Option<usize>, AllocError> {
         let Some(found) = self.libraries.get(library) else {
             return Ok(None);
@@ -335,7 +335,7 @@ impl Shelf<'_> {
         Ok(())
     }
 
-    /// Returns the library declaration of a name, if the name is followed for the first time, and marks the declaration as needed.
+    /// Returns the library declaration of a name, if the search reaches the name for the first time, and marks the declaration as needed.
     fn meet(&mut self, name: usize) -> Option<usize> {
         let known = self.known.get_mut(name)?;
         if known.was_met {
@@ -351,14 +351,14 @@ impl Shelf<'_> {
         Some(number)
     }
 
-    /// If both the program and a library declare a name, returns the position of the program's declaration and the library.
+    /// If both the program and a library declare a name, returns the source position of the program's declaration and the library.
     fn taken(&self, name: usize) -> Option<(Span, usize)> {
         let known = self.known.get(name)?;
         let declaration = self.declarations.get(known.declared_by?)?;
         Some((known.own?, declaration.library))
     }
 
-    /// Adds the names in a needed declaration to the list of names that still have to be followed.
+    /// Adds the names in a needed declaration to the list of names whose declarations are still to be looked up.
     fn follow(&mut self, number: usize, names: &mut Vec<usize>) -> Result<(), Clash> {
         let Some(declaration) = self.declarations.get(number) else {
             return Ok(());

@@ -53,7 +53,8 @@ fn file_of<'s>(shelf: &'s Shelf<'_>, library: usize) -> &'s str {
     }
 }
 
-/// Reports that the program declares a name, at position `own`, that a needed library declaration uses as the library's name.
+/// Reports that the program declares a name, at source position `own`, that a needed library declaration uses for the
+/// library's declaration of that name.
 fn tell_taken(rt: &HostRuntime, source: Source<'_>, own: Span, words: String) -> Answer {
     let fault = Fault {
         code: Code::DeclaredTwice,

@@ -1,4 +1,5 @@
-//! Reports the findings about a program: as messages to the user on standard error, or as JSON objects on standard output.
+//! Reports the findings (faults or warnings) about a program: as messages to the user on standard error, or as JSON
+//! objects on standard output.
 ghost use Rattle.std.specs.Prelude.{◌≡◌, ◌⊎◌};
 ghost use Rattle.cyc_host.specs.inside.Answer.{answer_of_fault};
 ghost use Rattle.cyc_host.specs.declared.answer.Answer.TheVariants.{WriteFault};
@@ -16,14 +17,15 @@ use std::fmt::Display;
 use std::io;
 use std::io::Write;
 
-/// A source file, and the way in which findings about it are reported.
+/// A source file, and the way in which findings (faults or warnings) about it are reported.
 #[derive(Clone, Copy)]
 pub(crate) struct Source<'a> {
     pub(crate) name: &'a str,
     pub(crate) text: &'a [u8],
     /// The parts of the text that come from other files.
     pub(crate) parts: &'a [Part<'a>],
-    /// If true, findings are printed as JSON objects on standard output; if false, as messages to the user on standard error.
+    /// If true, findings (faults or warnings) are printed as JSON objects on standard output; if false, as messages to the
+    /// user on standard error.
     pub(crate) is_json: bool,
 }
 

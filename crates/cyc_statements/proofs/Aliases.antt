@@ -1,4 +1,4 @@
--- This file states the rule for an alias by the facts of its scope, after the declaration of its region.
+-- This file states the typing rule for an alias in terms of those properties of its scope that hold after its region is declared.
 use Rattle.std.proofs.Common.{◌≡◌, ℕ, [], ◌∷◌, Option, None, refl, sym, ap, subst, ◌∙◌}
 use Rattle.cyc_words.specs.declared.fault.Fault.{Fault}
 use Rattle.cyc_syntax.specs.Symbols.{Place}
@@ -31,7 +31,7 @@ following_region g r x w y new =
     ap (λ (m : Rule typed.Item). and_then (run (demands (type_demanded g.structs (with_name r g).names None w))) (λ u. run m)) (same_alias g r x w (meaning_of g y) y.place)
     ∙ sym (ap (λ (o : Option Fault). and_then (unless o (tt {0})) (λ v. and_then (run (demands (type_demanded g.structs (with_name r g).names None w))) (λ u. run (aliased g r x w (meaning_of g y) y.place)))) new)
 
--- If an alias has a valid type, then a fault of the alias that is found after its region is the fault of the item.
+-- If an alias has a valid type, then a fault of the alias found after its region is the fault of the whole declaration.
 pub alias_stops : (g s : Scope) (own : ℕ) (r x : Named) (w : WrittenType) (y : Named) (e : Stop) → s ≡ with_opened kinds.Alias r g → own ≡ g.next_region
     → settled None (new_name_demanded g r ∷ []) ≡ None → settled None (type_demanded s.structs s.names None w) ≡ None → Stops e (run (alias_in s own x w y)) → Stops e (run (rule_alias g r w x y))
 alias_stops g s own r x w y e opened number new known stops =

@@ -1,3 +1,3 @@
--- The contracts refer to the typing rules of `cyc_types`. The modules below are the views of the results of the functions.
+-- The contracts refer to the typing rules of `cyc_types`. The modules below define the mathematical views of the functions' results.
 pub mod Nodes
 pub mod Aliases

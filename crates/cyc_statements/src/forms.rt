@@ -74,7 +74,7 @@ pub fn returned(
     Ok(Some(converted(value, of_type)))
 }
 
-/// Checks that the contents of two lvalues may be swapped; the first lvalue begins at this source position.
+/// Checks that the values in two lvalues may be swapped; the first lvalue begins at this source position.
 fn swap_wanted(left: &Found, right: &Found, span: Span) -> Result<(), Stop>
     ensures { Ends result (settled None (demand codes.TypeMismatch (place_of_span span)
         (ty_eq (type_of_side (typed_view.view_side left.now.side)) (type_of_side (typed_view.view_side right.now.side))
@@ -90,7 +90,7 @@ fn swap_wanted(left: &Found, right: &Found, span: Span) -> Result<(), Stop>
     settled.end()
 }
 
-/// Returns the statement that swaps the contents of two lvalues.
+/// Returns the statement that swaps the values in two lvalues.
 #[inline(never)]
 fn swap_of(
     alloc: Global,
@@ -105,7 +105,7 @@ fn swap_of(
     boxed(alloc, typed::Stmt::Swap { span, left, right })
 }
 
-/// Returns the checked swap of the contents of two lvalues; the first lvalue begins at this source position.
+/// Returns the checked swap of the values in two lvalues; the first lvalue begins at this source position.
 pub fn swapped(
     alloc: Global,
     span: Span,
@@ -161,7 +161,8 @@ pub fn thrown(
     throw_of(scope.alloc(), span, known.number, value)
 }
 
-/// Returns the number of the exception of a `catch` clause with or without an int; the exceptions of the earlier clauses are in `before`.
+/// Returns the number that identifies the exception of a `catch` clause with or without an int; the exceptions of the earlier clauses are
+/// in `before`.
 pub fn caught(
     scope: &Scope<'_>,
     before: &NameSet,

@@ -1,4 +1,4 @@
-//! This file handles the declarations of the items of blocks.
+//! This file handles the declarations in blocks.
 ghost use Rattle.std.specs.Prelude.{◌≡◌, [], ◌∷◌, None, OnOk, IfOk, IfErr, option_map};
 ghost use Rattle.cyc_words.specs.declared.fault.Code.TheVariants as codes;
 ghost use Rattle.cyc_syntax.specs.Trees.{Named};
@@ -197,7 +197,7 @@ pub fn uninitialised(
     })
 }
 
-/// Returns the declaration of the local with this number.
+/// Returns the tree node that declares the local with this index.
 fn declaration(span: Span, number: usize, local: Initialised) -> typed::Item
     ensures { typed_view.view_item result ≡ nodes.Declare number (view_initialised local).0 (view_initialised local).1 }
 {
@@ -214,7 +214,7 @@ fn declaration(span: Span, number: usize, local: Initialised) -> typed::Item
     }
 }
 
-/// Returns the typed item that declares a local, and adds the local to the scope.
+/// Returns the typed tree node that declares a local, and adds the local to the scope.
 pub fn declare_local(
     scope: &mut Scope<'_>,
     name: Ident,
@@ -229,7 +229,7 @@ pub fn declare_local(
     Ok(declaration(name.span, number, local))
 }
 
-/// Declares the local that receives the int of an exception, if the clause has one.
+/// Declares the local that receives the int of an exception, if the catch clause has one.
 pub fn declare_caught(scope: &mut Scope<'_>, variable: Option<Ident>) -> Result<Option<usize>, Stop>
     ensures number { IfOk result (λ n. n ≡ option_map (λ (y : Named). scope.old.next_local) (option_map view_name variable)) }
     ensures caught { OnOk result (scope.new ≡ with_caught (option_map view_name variable) scope.old) }
@@ -313,7 +313,7 @@ fn local_number(variable: Lvalue) -> usize
     }
 }
 
-/// Returns the item that opens the region of the key with this name.
+/// Returns the tree node that opens the region of the key with this name.
 fn opened(scope: &Scope<'_>, region: Ident, handle: Ident, key: Ident) -> Result<typed::Item, Stop>
     ensures { Gives typed_view.view_item result (run (opened scope.now (view_name region) (view_name handle) (meaning_of scope.now (view_name key))
         (place_of_span key.span))) }
@@ -356,7 +356,7 @@ fn opened(scope: &Scope<'_>, region: Ident, handle: Ident, key: Ident) -> Result
     }
 }
 
-/// Returns the typed item that opens the dynamic region of a key, and adds the region's handle to the scope.
+/// Returns the typed tree node that opens the dynamic region of a key, and adds the region's handle to the scope.
 pub fn open_dynamic(
     scope: &mut Scope<'_>,
     region: Ident,
@@ -404,8 +404,8 @@ fn is_alias_type(written: &Ty, of_type: &Ty, own: Region) -> bool
     }
 }
 
-/// Checks that a local with this written type may share the variable whose name is at this source position. The region of the local has
-/// the number `own`.
+/// Checks that a local with this written type may share the object of the variable whose name is at this source position. The number
+/// `own` identifies the region of this local.
 fn is_aliased(
     scope: &Scope<'_>,
     own: usize,
@@ -441,7 +441,7 @@ fn alias_type(scope: &Scope<'_>, written: &WrittenType, of_type: &Ty) -> Result<
     )
 }
 
-/// Returns the alias of the variable with this name; the region of the alias is already in scope and has the number `own`.
+/// Returns the alias of the variable with this name; the region of the alias, identified by the number `own`, is already in scope.
 fn aliased(
     scope: &Scope<'_>,
     own: usize,
@@ -523,7 +523,7 @@ fn alias_item(
     }
 }
 
-/// Returns the type of the local that an item declares.
+/// Returns the type of the local that a typed declaration declares.
 fn declared_type(item: &typed::Item) -> Result<Ty, AllocError>
     ensures { IfOk result (λ t. view_ty t ≡ declared_type (typed_view.view_item item.now)) }
 {

@@ -1,4 +1,5 @@
-//! This crate checks the requirements of statements and block items themselves, and handles their declarations.
+//! This crate checks the requirements that statements and declarations in blocks have themselves, apart from
+//! those of their parts, and handles the declarations.
 //!
 //! Each function of this crate handles one form: its requirements, its additions to the scope, and its typed node. The tree traversal that
 //! calls these functions is in `cyc_check`.

@@ -43,7 +43,7 @@ pub fn evaluation(
     boxed(alloc, typed::Stmt::Evaluate { span, value })
 }
 
-/// Returns the node of a block, with the number of its region.
+/// Returns the node of a block, with the number that identifies its region.
 #[inline(never)]
 pub fn block_of(
     alloc: Global,
@@ -128,7 +128,7 @@ pub fn throw_of(
     boxed(alloc, typed::Stmt::Throw { span, tag, value })
 }
 
-/// Returns the node of a `try` with its clauses.
+/// Returns the node of a `try` with its catch clauses.
 #[inline(never)]
 pub fn try_of(
     alloc: Global,
@@ -151,7 +151,7 @@ pub fn try_of(
     )
 }
 
-/// Returns the item of a statement in a block.
+/// Returns the element of a block that consists of a statement.
 pub fn execution(statement: Box<typed::Stmt>) -> typed::Item
     ensures { typed_view.view_item result ≡ nodes.Execute (view_boxed_statement statement) }
 {

@@ -1,4 +1,5 @@
--- A store with a layout in pages has a choice for each call that is not refused, after which the store has a layout again.
+-- If a store with a layout in pages does not refuse a call, then it can choose a handle, an address and a memory such that
+-- a layout remains.
 use Rattle.std.proofs.Common.{◌≡◌, ℕ, zero, suc, ◌+◌, ◌*◌, ◌^◌, ◌<◌, ◌≤◌, Bool, true, false, List, [], ◌∷◌, length, Option, None, Some, refl, sym, ap, subst, ◌∙◌, inl, inr, arith}
 use Rattle.std.specs.Prelude.{◌⊎◌, ◌-◌, nat_le, is_some, slice_index, if◌then◌else◌}
 use Rattle.std.proofs.lemmas.Bool.{cases_lt, cases_eq, and_parts, leb-true}
@@ -67,7 +68,7 @@ module _ (s : StoreState) (o : IsOrdered s) where
   sound : IsSound s
   sound = o.laid.sound
 
-  -- The choice with this handle and address; it leaves all words of the store unchanged.
+  -- The store's choice of this handle and this address, which leaves all words of the store unchanged.
   abbrev chosen : (handle address : ℕ) → Choice
   chosen handle address = record { handle = handle; address = address; memory = s.memory }
 
@@ -236,7 +237,7 @@ module _ (s : StoreState) (o : IsOrdered s) where
           all : (m d p : ℕ) → d ≡ 0 → m + d ≡ p → m ≡ p
           all m d p nothing count = omega (arith, nothing, count)
 
-      -- If all slots of a class are live, then one more block needs one more page.
+      -- If all slots of a size class are live, then one more block of the class needs one more page.
       raised-is : raised s.classes (class_of (2 ^ class)) (suc (live_in (class_of (2 ^ class)) s.unique)) ≡ (with_page s class).classes
       raised-is = ap (λ c. raised s.classes c (suc (live_in c s.unique))) (class-power class bound) ∙ raised-past s.classes class (live_in class s.unique) bound all-live
 

@@ -1,4 +1,4 @@
--- This file is about counts of blocks, the pages of classes, and the number of pages that a store needs.
+-- This file is about counts of blocks, the pages of size classes, and the number of pages that a store needs.
 use Rattle.std.proofs.Common.{◌≡◌, ℕ, zero, suc, ◌+◌, ◌-◌, ◌*◌, ◌/◌, ◌^◌, ◌<◌, ◌≤◌, max, List, [], ◌∷◌, ◌++◌, length, refl, sym, ap, subst, ◌∙◌, inl, inr, arith, get_or-set_same, get_or-set_other, length-set, zero-add}
 use Rattle.std.specs.Prelude.{nat_le, slice_index}
 use Rattle.std.proofs.Math.Nat.{div-mul-le_self, pow-le-pow_right, le-max_left, le-max_right}
@@ -30,7 +30,7 @@ class_from-holds (suc left) class size fits = cond_both (nat_le size (2 ^ class)
     shift : (m n : ℕ) → suc m + n ≡ m + suc n
     shift m n = omega arith
 
--- A block of a class is large enough for each request for which the class is chosen.
+-- A block of a size class is large enough for each request for which the class is chosen.
 pub class_of-holds : (size : ℕ) → size ≤ page_words → size ≤ 2 ^ class_of size
 class_of-holds size fits = class_from-holds 10 0 size fits
 
@@ -104,7 +104,7 @@ raised-other classes class live c other = get_or-set_other classes class c (max 
 pub raised-length : (classes : List ℕ) (class live : ℕ) → length (raised classes class live) ≡ length classes
 raised-length classes class live = length-set classes class (max (slice_index classes class) (pages_for class live))
 
--- Raising the pages of a class does not reduce the pages of any class.
+-- Giving one size class more pages does not reduce the number of pages of any size class.
 pub raised-more : (classes : List ℕ) (class live c : ℕ) → class < length classes → slice_index classes c ≤ slice_index (raised classes class live) c
 raised-more classes class live c below = elim (cases_eq c class) [
   | inl same ↦

@@ -7,7 +7,7 @@ use Rattle.cyc_store.specs.declared.range.TheConstants.{HEAP, STORE_BASE, UNIQUE
 abbrev choose : (handle address : ℕ) → Choice
 choose handle address = record { handle = handle; address = address; memory = λ (x : ℕ). 0 }
 
--- The address of a word, given the word's page and its position in the page.
+-- The address of a word, given the index of the word's page and the index of the word in the page.
 abbrev at : (page word : ℕ) → ℕ
 at page word = STORE_BASE + 4 * (1024 * page + word)
 

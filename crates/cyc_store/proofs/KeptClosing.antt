@@ -88,7 +88,7 @@ other-role sort (Some h) class e = elim (cases_eq h UNIQUE) [
 ]
 
 module _ (t : PageTable) (lexicals : List ℕ) (classes : List ClassSlots) (b : Blocks) (k : IsKept t lexicals classes b) where
-  -- The handle of a region is twice the number of an existing page, plus one.
+  -- The handle of a region is twice the index of an existing page, plus one.
   pub handle-page : (h : ℕ) (r : Home) → lookup handle_of b.regions h ≡ Some r → (page : ℕ) × (h ≡ 2 * page + 1) × (page < length t.rows.items)
   handle-page h r found =
       let region : IsRooted (table_of t).row k.layout.pages r = k.tied.roots h r found in
@@ -130,7 +130,7 @@ module _ (t : PageTable) (lexicals : List ℕ) (classes : List ClassSlots) (b : 
         ap (λ (x : Row). x.role) (sym (row_at-read t.rows.items page first there read))
         ∙ ((k.tied.rows page).plays ∙ ap (λ (p : Option Home). role_of (sort_of p) (k.layout.pages.owner page) (k.layout.class page)) is)
 
-    -- If a page is not the first page of any region, then its handle names no region.
+    -- If a page is not the first page of any region, then the handle computed from the page's index names no region.
     pub other-none : (first.role ≡ role.Heap → ⊥) → (first.role ≡ role.Lexical → ⊥) → (first.role ≡ role.Dynamic → ⊥) → lookup handle_of b.regions (handle_of_page page) ≡ None
     other-none heap lexical dynamic = elim (none_or_some (lookup handle_of b.regions (handle_of_page page))) [
       | inl none ↦ none
@@ -143,7 +143,7 @@ module _ (t : PageTable) (lexicals : List ℕ) (classes : List ClassSlots) (b : 
         by Dynamic e = dynamic e
         by Uniques e = heap e
 
-    -- If a page has the role of a first page, then its handle names a region.
+    -- If a page has the role of a region's first page, then the handle computed from the page's index names a region.
     pub root-named : (first.role ≡ role.Heap) ⊎ ((first.role ≡ role.Lexical) ⊎ (first.role ≡ role.Dynamic)) → is_some (lookup handle_of b.regions (handle_of_page page)) ≡ true
     root-named is = elim (none_or_some (lookup handle_of b.regions (handle_of_page page))) [
       | inl none ↦ absurd (by none is)

@@ -62,7 +62,7 @@ module _ (t : PageTable) (lexicals : List ℕ) (classes : List ClassSlots) (b : 
   abbrev memory : Memory
   memory = put s.memory (place_of word) slots.dead
 
-  -- The first words of dead slots were not in live blocks before.
+  -- The first words of slots that were dead before the free were in no live block, so the free leaves them unchanged.
   dead-away : (c : ℕ) (xs : List ℕ) → AllByRecursion (IsDeadSlot b.unique k.layout.pages.owner k.layout.class c) xs → AllByRecursion (λ x. written x ≡ slice_index t.words.items x) xs
   dead-away c [] all = tt
   dead-away c (x ∷ xs) all = (
@@ -112,7 +112,7 @@ module _ (t : PageTable) (lexicals : List ℕ) (classes : List ClassSlots) (b : 
       (record slots { dead = word }) (word ∷ k.layout.dead class) written own-stock
       (λ c away few old. other-stock c few (slice_index_or classes c no_slots) old)
 
-  -- The live marks of the freed slot and the first word of the slot are written.
+  -- The flags that mark the freed slot's words as live are cleared, and the first word of the slot is written.
   module _ (address : ℕ) (at : address ≡ 536870912 + 4 * word) (c : Blocks) (noted : c ≡ after b (Freed address)) (v : PageTable) (most_is : v.most ≡ t.most)
       (words_is : v.words.items ≡ set t.words.items word slots.dead)
       (size : ℕ) (many : size ≡ 2 ^ class) (live_is : (other : ℕ) → slice_index_or v.live.items other false ≡ marked_between (λ (i : ℕ). slice_index_or t.live.items i false) word size false other)

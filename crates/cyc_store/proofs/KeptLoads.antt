@@ -38,7 +38,7 @@ pub memory-word : (words : List ℕ) (x : ℕ) → x % 4 ≡ 0 → 536870912 ≤
 memory-word words x even low = cond-true ((x % 4 == 0) && nat_le 536870912 x) (slice_index words ((x - 536870912) / 4)) 0
     (ap (λ a. a && nat_le 536870912 x) (eq-eqb (x % 4) 0 even) ∙ le-leb 536870912 x low)
 
--- The address of an aligned word is computed from the number of the word.
+-- The address of an aligned word is computed from the index of the word.
 pub word-place : (x : ℕ) → x % 4 ≡ 0 → 536870912 ≤ x → 536870912 + 4 * ((x - 536870912) / 4) ≡ x
 word-place x even low = omega (arith, even, low)
 

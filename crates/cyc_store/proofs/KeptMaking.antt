@@ -46,7 +46,7 @@ region-few (q ∷ rs) h r classes there = elim (cases_eq q.handle h) [
     later : (m q n : ℕ) → m ≤ n → m ≤ q + n
     later m q n e = omega (arith, e)
 
--- The rows of two pages are written; the second row is read after the first write.
+-- The rows of two pages in the page table are written; the second row is read after the first write.
 twice-table : (u v : PageTable) (page root : ℕ) (a : Row) (newest : ℕ) → page < length u.rows.items → root < length u.rows.items → v.most ≡ u.most → v.words.items ≡ u.words.items
     → v.live.items ≡ u.live.items → v.free ≡ u.free → v.rows.items ≡ set (set u.rows.items page a) root (longer_row (row_at (set u.rows.items page a) root) newest)
     → table_of v ≡ with_row (with_row (table_of u) page a) root (longer_row ((with_row (table_of u) page a).row root) newest)
@@ -213,7 +213,7 @@ module _ (t : PageTable) (lexicals : List ℕ) (classes : List ClassSlots) (b : 
             reach : (p m o : ℕ) → p < m → m ≤ o → p < o
             reach p m o less more = omega (arith, less, more)
 
-        -- After a page is taken, the rows of the new page and of the region's first page are written.
+        -- After a page is taken, the page table's rows for the new page and for the region's first page are written.
         pub draws-kept : (c : Blocks) → c ≡ blocks_of (made_in (plain_store b) h (new_block page)) → (v : PageTable) → v.most ≡ u.most → v.words.items ≡ u.words.items
             → v.live.items ≡ u.live.items → v.free ≡ u.free
             → v.rows.items ≡ set (set u.rows.items page (next_row n rooted.chain.newest.page)) root (longer_row (row_at (set u.rows.items page (next_row n rooted.chain.newest.page)) root) page)
@@ -248,7 +248,7 @@ module _ (t : PageTable) (lexicals : List ℕ) (classes : List ClassSlots) (b : 
                 (longer_row ((with_row (table_of u) page (next_row n rooted.chain.newest.page)).row root) page)
             table_is = twice-table u v page root (next_row n rooted.chain.newest.page) page taken.there root-in-u most_is words_is live_is free_is rows_is
 
-  -- The rows that are read for the first page and for the newest page of a region.
+  -- The rows of the page table that are read for the first page and for the newest page of a region.
   module _ (first : Row) (read : first ≡ slice_index_or t.rows.items root first) where
     pub first-newest : first.newest ≡ rooted.chain.newest.page
     first-newest = ap (λ (x : Row). x.newest) (sym (row_at-read t.rows.items root first root-there read)) ∙ newest-is

@@ -144,11 +144,11 @@ module _ (t : PageTable) (lexicals : List ℕ) (classes : List ClassSlots) (b : 
   abbrev s : StoreState
   s = store_of t.most t.words.items b
 
-  -- A table of pages that is full has no free page.
+  -- If a table of pages is out of pages, then its layout has no free page.
   pub kept-full : length t.rows.items ≤ t.free → t.most ≤ length t.rows.items → k.layout.free ≡ []
   kept-full past most = none-free (table_of t) lexicals slots b k.layout k.tied past most
 
-  -- A table of pages that is not full has a free page.
+  -- If a table of pages is not out of pages, then its layout has a free page.
   pub kept-some : ((length t.rows.items ≤ t.free) × (t.most ≤ length t.rows.items) → ⊥) → (page : ℕ) × (rest : List ℕ) × (k.layout.free ≡ page ∷ rest)
   kept-some room = by (cases_lt t.free (length t.rows.items))
     where
@@ -160,7 +160,7 @@ module _ (t : PageTable) (lexicals : List ℕ) (classes : List ClassSlots) (b : 
           less : (n m : ℕ) → (m ≤ n → ⊥) → n < m
           less n m not = elim (cases_lt n m) [ inl is ↦ is | inr over ↦ absurd (not over) ]
 
-  -- If no used page is free, then the words of the table are exactly those of the pages that the store needs.
+  -- If no page of the table is free, then the table has exactly the words of the pages that the store's regions and blocks need.
   pub kept-used : length t.rows.items ≤ t.free → length t.words.items ≡ PAGE_WORDS * demand s
   kept-used past = k.whole.words ∙ ap (λ n. PAGE_WORDS * n) (counted (length t.rows.items) t.most (length k.layout.free) (demand s) k.tied.few fresh k.laid.paged.count)
     where
@@ -213,7 +213,7 @@ module _ (t : PageTable) (lexicals : List ℕ) (classes : List ClassSlots) (b : 
         within : (p : ℕ) → p < 65536 → 2 * p + 1 < 4294967296
         within p less = omega (arith, less)
 
-    -- Writing a row in addition leaves the content of the store unchanged.
+    -- Writing one more row of the page table does not change the store that the table represents.
     drawn-also : (v : PageTable) (r : Row) (other : Blocks) → Rewrites u v page r → store_of v.most v.words.items other ≡ store_of t.most t.words.items other
     drawn-also v r other is = held-same t.most t.words.items v.most v.words.items other (is.most ∙ draws.most)
         (λ i. ap (λ ws. slice_index ws i) is.words ∙ draws.words i)

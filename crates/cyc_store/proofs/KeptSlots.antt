@@ -30,7 +30,7 @@ use Rattle.cyc_store.proofs.KeptServices.{held-same, Rewrites, rewritten-table, 
 
 -- ---- the first dead slot
 
--- The first dead slot of a class is a slot of the class, and the remaining dead slots are represented after it is removed.
+-- The first dead slot of a size class is a slot of the class, and the remaining dead slots are represented after it is removed.
 pub record IsFirst (word : ℕ → ℕ) (class : ℕ) (dead : List ℕ) (next : ℕ × ClassSlots) : Type 0 where
   pub rest : List ℕ
   pub first : dead ≡ next.0 ∷ rest
@@ -43,7 +43,7 @@ slots-first size word (suc count) some = ap (λ n. word ∷ slots_from size (wor
     less : (n : ℕ) → n ≡ suc n - 1
     less n = omega arith
 
--- For each class there is a request whose block is of this class.
+-- For each size class there is a request whose block is of this class.
 asked : (class : ℕ) → class ≤ greatest_class → (n : ℕ) × (1 ≤ n) × (n ≤ MOST_BLOCK_WORDS) × (class_of n ≡ class)
 asked zero bound = (1, omega arith, omega arith, refl)
 asked (suc zero) bound = (2, omega arith, omega arith, refl)
@@ -58,7 +58,7 @@ asked (suc (suc (suc (suc (suc (suc (suc (suc (suc zero))))))))) bound = (512, o
 asked (suc (suc (suc (suc (suc (suc (suc (suc (suc (suc zero)))))))))) bound = (1000, omega arith, omega arith, refl)
 asked (suc (suc (suc (suc (suc (suc (suc (suc (suc (suc (suc class))))))))))) bound = absurd (omega (arith, bound))
 
--- Changing the page counts of classes does not affect the representation by the table.
+-- Changing the numbers of pages of size classes does not affect how the page table represents the layout.
 recounted : (t : Table) (lexicals : List ℕ) (classes : ℕ → ClassSlots) (b : Blocks) (l : Layout) (counts : List ℕ) → IsTied t lexicals classes b l
     → IsTied t lexicals classes (record b { classes = counts }) l
 recounted t lexicals classes b l counts tied = record {
@@ -129,7 +129,7 @@ module _ (t : PageTable) (lexicals : List ℕ) (classes : List ClassSlots) (b : 
       past : (w n : ℕ) → w ≡ 4294967295 → w < n → n ≤ 67108864 → ⊥
       past w n none less few = omega (arith, none, less, few)
 
-  -- If a dead slot has contained a block before, then it is linked to the other dead slots.
+  -- If some dead slot of a class contained a block before, then the first of these slots links to the remaining ones.
   linked-first : (slots.dead ≡ NONE → ⊥) → IsFirst (table_of t).word class dead (slots.dead, record slots { dead = slice_index t.words.items slots.dead })
   linked-first some = by stock-is.chain stock-is.all stock-is.linked
     where
@@ -198,7 +198,7 @@ module _ (t : PageTable) (lexicals : List ℕ) (classes : List ClassSlots) (b : 
   pub dead-there : (slots.dead ≡ NONE → ⊥) → slots.dead < length t.words.items
   dead-there some = let linked = linked-first some in first-there slots.dead linked.rest linked.first
 
-  -- Each link fits in a 32-bit word, so the number of the first dead slot fits too.
+  -- Each link from one dead slot to the next fits in a 32-bit word, so the word index of the first dead slot fits too.
   pub link-word : slots.dead < 4294967296
   link-word = elim (cases_eq slots.dead NONE) [
     | inl none ↦ last slots.dead none
@@ -269,7 +269,7 @@ module _ (t : PageTable) (lexicals : List ℕ) (classes : List ClassSlots) (b : 
           (drawn-none t lexicals classes b k u page draws room) (drawn-away t lexicals classes b k u page draws room) taken.there class
           k.laid.sound.regions.handles.0 (page-empty s k.layout k.laid page taken.rest taken.first class bound none-dead)
 
-      -- Writing the row of the page that is cut into slots preserves the invariant.
+      -- Writing the page table's row for the page that is cut into slots preserves the invariant.
       pub stock-kept : (c : Blocks) → c ≡ after b (Stocked class) → (v : PageTable) → Rewrites u v page (slots_row class)
           → IsKept v lexicals (set classes class (record { dead = NONE; fresh = 1024 * page; left = 1024 / 2 ^ class })) c
       stock-kept c noted v is = subst (IsKept v lexicals (set classes class (fresh_slots page class))) (sym noted) (record {
@@ -344,7 +344,7 @@ module _ (t : PageTable) (lexicals : List ℕ) (classes : List ClassSlots) (b : 
           (λ first other. lookup-append_other address_of b.unique block first (λ e. other (sym e)))
           next.1 first-next.rest (table_of t).word first-next.stock (λ other away few old. old)
 
-      -- Writing the live marks of the allocated slot preserves the invariant.
+      -- Setting the flags that mark the allocated slot's words as live preserves the invariant.
       pub fill-kept : (v : PageTable) → v.most ≡ t.most → v.words.items ≡ t.words.items
           → ((word : ℕ) → slice_index_or v.live.items word false ≡ marked_between (λ (i : ℕ). slice_index_or t.live.items i false) next.0 size true word) → length v.live.items ≡ length t.live.items
           → v.free ≡ t.free → v.rows.items ≡ t.rows.items → IsKept v lexicals (set classes class next.1) c

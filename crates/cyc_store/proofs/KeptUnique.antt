@@ -1,5 +1,5 @@
 -- This file is about the answer of a store on a table of pages to a request for a unique block. A slot is filled; if there is no empty
--- slot, a page is cut into slots first. The store is full if no page is free.
+-- slot, a page is cut into slots first. If no page is free, the store is out of pages.
 use Rattle.std.proofs.Common.{◌≡◌, ℕ, suc, ◌+◌, ◌*◌, ◌^◌, ◌<◌, ◌≤◌, List, length, None, refl, sym, ap, subst, ◌∙◌, inl, inr, arith, get_or-set_same}
 use Rattle.std.specs.Prelude.{◌⊎◌, true, slice_index}
 use Rattle.std.proofs.Math.Nat.{suc-mul}
@@ -54,7 +54,7 @@ module _ (t : PageTable) (lexicals : List ℕ) (classes : List ClassSlots) (b : 
     class-is : class_of (2 ^ class) ≡ class
     class-is = class-power class unique-bound
 
-    -- If all slots of a class are live, then one more block needs one more page.
+    -- If all slots of a size class are live, then one more block of the class needs one more page.
     raised-is : raised b.classes (class_of (2 ^ class)) (suc (live_in (class_of (2 ^ class)) b.unique)) ≡ (with_page s class).classes
     raised-is = ap (λ c. raised b.classes c (suc (live_in c b.unique))) class-is ∙ raised-past b.classes class (live_in class b.unique) unique-bound all-live
 

@@ -80,7 +80,7 @@ newest-is [] left h distinct is = absurd (empty left is)
     empty (x ∷ xs) e = cc
 newest-is (r ∷ rs) left h distinct is = by left is (cases_Bool (is_lexical r.sort)) (λ xs e. newest-is rs xs h distinct.1 e)
   where
-    -- If a further lexical region follows, then the last handle does not name the newest lexical region.
+    -- If a newer lexical region follows a lexical region in the list, then the older region's handle is not the last handle.
     following : (xs : List ℕ) → IsNewest rs xs h → (r.handle ≡ h → ⊥)
     following xs rest e = never_none_and_some (subst (λ n. lookup handle_of rs n ≡ None) e distinct.0) rest.named
 
@@ -179,7 +179,7 @@ module _ (t : PageTable) (lexicals : List ℕ) (classes : List ClassSlots) (b : 
         → Unwinds (record { pages = t.most; words = t.words.items; blocks = b; room = old }) (record { pages = v.most; words = v.words.items; blocks = c; room = new })
     newest-unwinds v old new most words room = record { count = newest-count; regions = newest-down; same = newest-same v old new most words room }
 
--- After the loop, all regions that should be closed are closed.
+-- After the loop, the open regions are those that remain if all lexical regions except the oldest `mark` ones are closed at once.
 pub unwound : (old new : Stored) (mark : ℕ) → new ≡ record old { blocks = record old.blocks { regions = new.blocks.regions } }
     → down_to mark new.blocks.regions ≡ down_to mark old.blocks.regions → lexical_count new.blocks.regions ≤ mark
     → held_of new ≡ record (held_of old) { regions = down_to mark old.blocks.regions }

@@ -1,4 +1,4 @@
--- This file determines the live words of a table of pages from the table's rows and live marks.
+-- This file determines the live words of a table of pages from the table's rows and from the flags that mark words as live.
 use Rattle.std.proofs.Common.{◌≡◌, ℕ, zero, suc, ◌+◌, ◌*◌, ◌/◌, ◌%◌, ◌^◌, ◌<◌, ◌≤◌, true, false, List, Option, None, Some, refl, sym, ap, subst, ◌∙◌, inl, inr, arith}
 use Rattle.std.specs.Prelude.{is_some}
 use Rattle.std.proofs.Math.Nat.{mul-le-mul_right, suc-mul, div-mul-le_self, lt-div-mul-add, div-add-mod}
@@ -19,7 +19,7 @@ use Rattle.cyc_store.proofs.LookupLemmas.{when_other, lookup-key}
 use Rattle.cyc_store.proofs.HolderLemmas.{covers_from}
 use Rattle.cyc_store.proofs.SlotLemmas.{slot-apart, slot-live, filled-live, past-dead}
 
--- the slots of a class fill its page exactly
+-- the slots of a size class fill a page of the class exactly
 pub blocks-whole : (class : ℕ) → class ≤ greatest_class → blocks_in_page class * 2 ^ class ≡ PAGE_WORDS
 blocks-whole zero bound = refl
 blocks-whole (suc zero) bound = refl
@@ -75,7 +75,7 @@ sort-slots Lexical c e = cc
 sort-slots Dynamic c e = cc
 sort-slots Uniques c e = cc
 
--- Only a page of a class of unique blocks has the role of this class.
+-- Only a page that is cut into slots of a size class has the role of this class in the page table.
 pub slots-owner : (sort : Option Sort) (owner : Option ℕ) (class c : ℕ) → role_of sort owner class ≡ role.Slots c → (owner ≡ Some UNIQUE) × (class ≡ c)
 slots-owner (Some sort) owner class c e = absurd (sort-slots sort c e)
 slots-owner None None class c e = absurd (rest-slots c e)
@@ -95,7 +95,7 @@ module _ (t : Table) (lexicals : List ℕ) (classes : ℕ → ClassSlots) (b : B
   abbrev s : StoreState
   s = store_of t.most words b
 
-  -- A page of a class of unique blocks is not the first page of a region.
+  -- A page of a size class of unique blocks is not the first page of a region.
   pub unique-role : (page : ℕ) → l.pages.owner page ≡ Some UNIQUE → (t.row page).role ≡ role.Slots (l.class page)
   unique-role page owned =
       (tied.rows page).plays
@@ -188,7 +188,7 @@ module _ (t : Table) (lexicals : List ℕ) (classes : ℕ → ClassSlots) (b : B
       | inr other ↦ subst (λ n. n ≤ offset) ((tied.rows page).marks ∙ (ap (λ o. limit o (l.pages.filled page)) owned ∙ when_other h UNIQUE 0 (l.pages.filled page) other)) past
     ]))
 
-    -- After the fill mark of a page, a word is live exactly if its live mark is set.
+    -- Past the filled words of a page, a word is live exactly if the flag that marks it as live is set.
     pub live-marks : (t.row page).filled ≤ offset → is_some (holder (homes s) (place_of (PAGE_WORDS * page + offset))) ≡ t.live (PAGE_WORDS * page + offset)
     live-marks past = by (l.pages.owner page) refl
       where
@@ -204,6 +204,6 @@ module _ (t : Table) (lexicals : List ℕ) (classes : ℕ → ClassSlots) (b : B
           | inr other ↦ apart (λ e. other (same_from_some (sym owned ∙ e)))
         ]
 
--- The number of a word is computed from the word's page and its position in the page.
+-- The index of a word among all words is computed from the index of its page and its index in the page.
 pub word-split : (word : ℕ) → PAGE_WORDS * (word / 1024) + word % 1024 ≡ word
 word-split word = div-add-mod word 1024

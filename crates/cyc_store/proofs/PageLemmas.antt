@@ -25,7 +25,7 @@ one_page : (base p q u v m n x a c : ℕ) → a ≡ base + 4 * (1024 * p) + 4 * 
     → a ≤ x → x < a + 4 * m → c ≤ x → x < c + 4 * n → u + m ≤ 1024 → v + n ≤ 1024 → p ≡ q
 one_page base p q u v m n x a c a_is c_is a_low a_high c_low c_high a_in c_in = omega arith
 
--- A position past the fill mark of a page is not below the mark.
+-- An address past the fill mark of a page (the end of its filled words) is not among the page's filled words.
 below_mark : (base p q u v n x a c f g : ℕ) → p ≡ q → f ≡ g → a ≡ base + 4 * (1024 * p) + 4 * u → c ≡ base + 4 * (1024 * q) + 4 * v
     → a ≤ x → x < c + 4 * n → f ≤ u → v + n ≤ g → ⊥
 below_mark base p q u v n x a c f g same marks a_is c_is a_low c_high past below = omega arith
@@ -48,7 +48,7 @@ holder-laid pages (r ∷ rs) x k laid found = elim (or_else-cases (holder_in r.h
   | inr there ↦ holder-laid pages rs x k laid.1 there.1
 ]
 
--- a block past the fill mark of its page is disjoint from all laid-out blocks
+-- a block past the fill mark of its page (the end of the filled words) is disjoint from all laid-out blocks
 pub laid-apart : (pages : Pages) (rs : List Home) (page : ℕ) (b : Block) → AreLaid pages rs → AreFilled pages
     → LiesIn page (pages.filled page) PAGE_WORDS b → IsApart rs b
 laid-apart pages rs page b laid full new x inside = elim (none_or_some (holder rs x)) [
@@ -180,7 +180,7 @@ laid-changed pages h (r ∷ rs) b laid new = elim (cases_eq r.handle h) [
       (laid.0, laid-changed pages h rs b laid.1 new)
 ]
 
--- Allocating a block past the fill mark of a page, and moving the mark past the block, preserves the layout.
+-- Allocating a block past the filled words of a page, and moving the page's fill mark (their end) past the block, preserves the layout.
 pub laid-made : (pages : Pages) (rs : List Home) (page h word size : ℕ) → pages.owner page ≡ Some h → pages.filled page ≤ word → 0 < size → AreLaid pages rs
     → AreLaid (filled_to pages page (word + size)) (changed handle_of (with_block (record { address = page_start page + 4 * word; size = size })) rs h)
 laid-made pages rs page h word size owned past some laid =
@@ -235,7 +235,7 @@ mark-pages m (size ∷ sizes) =
     mark-pages (next_mark m size) sizes
     ∙ pages-chosen (record { pages = m.pages; filled = m.filled + size }) (record { pages = suc m.pages; filled = size }) sizes (nat_le (m.filled + size) page_words)
 
--- Adding one more block moves the fill mark once.
+-- Adding one more block to a region advances the region's fill mark (the end of its filled words) by one step.
 pub mark-append : (m : Mark) (sizes : List ℕ) (size : ℕ) → mark_from m (sizes ++ size ∷ []) ≡ next_mark (mark_from m sizes) size
 mark-append m [] size = refl
 mark-append m (first ∷ sizes) size = mark-append (next_mark m first) sizes size

@@ -1,5 +1,5 @@
--- This file is about allocation in a region by pages: if the newest page has no room, another page is taken. The store is full exactly
--- if no page is free.
+-- This file is about allocation in a region by pages: if the newest page has too little space, another page is taken. The store is out
+-- of pages exactly if no page is free.
 use Rattle.std.proofs.Common.{◌≡◌, ℕ, suc, ◌+◌, ◌*◌, ◌<◌, ◌≤◌, List, [], ◌∷◌, ◌++◌, length, None, Some, refl, sym, ap, subst, ◌∙◌, inl, inr, arith}
 use Rattle.std.specs.Prelude.{nat_le}
 use Rattle.std.proofs.lemmas.List.{map-append}
@@ -42,7 +42,7 @@ demand-changed (q ∷ rs) h r b classes there = elim (cases_eq q.handle h) [
       (demand-changed rs h r b classes (sym (lookup-there handle_of q rs h other) ∙ there))
 ]
 
--- The number of pages of a region is the number of pages in its fill mark.
+-- The number of pages of a region is the number of pages that its fill mark (pages, and filled words of the last page) states.
 pub pages-mark : (r : Home) → region_pages (sizes_of r.blocks) ≡ (mark_of r).pages
 pages-mark r = sym (mark-pages (record { pages = 1; filled = 0 }) (sizes_of r.blocks))
 
@@ -66,21 +66,21 @@ module _ (m : Mark) (size : ℕ) where
 -- ---- one block more
 
 module _ (s : StoreState) (pages : Pages) (free : List ℕ) (paged : IsPaged s pages free) (h : ℕ) (r : Home) (named : lookup handle_of s.regions h ≡ Some r) where
-  -- If the newest page of a region has room, then an allocation does not raise the number of pages that the store needs.
+  -- If the newest page of a region has space for a block, then its allocation does not raise the number of pages that are needed.
   pub demand-stays : (b : Block) → (mark_of r).filled + b.size ≤ PAGE_WORDS → demand (made_in s h b) ≡ demand s
   demand-stays b room =
       balance_same (demand (made_in s h b)) (demand s) (region_pages (sizes_of r.blocks)) (region_pages (sizes_of r.blocks ++ b.size ∷ []))
       (demand-changed s.regions h r b s.classes named)
       (pages-next r b.size ∙ (ap (λ (m : Mark). m.pages) (mark-stays (mark_of r) b.size room) ∙ sym (pages-mark r)))
 
-  -- If the newest page of a region has no room, then an allocation raises the number of pages that the store needs by one.
+  -- If the newest page of a region has no space for a block, then its allocation raises the number of needed pages by one.
   pub demand-grows : (b : Block) → PAGE_WORDS < (mark_of r).filled + b.size → demand (made_in s h b) ≡ suc (demand s)
   demand-grows b past =
       balance_one_more (demand (made_in s h b)) (demand s) (region_pages (sizes_of r.blocks)) (region_pages (sizes_of r.blocks ++ b.size ∷ []))
       (demand-changed s.regions h r b s.classes named)
       (pages-next r b.size ∙ (ap (λ (m : Mark). m.pages) (mark-goes (mark_of r) b.size past) ∙ ap suc (sym (pages-mark r))))
 
-  -- If no page is free and the newest page of the region has no room, then the store is full.
+  -- If no page is free and the newest page of the region has no space for the block, then the store is out of pages.
   pub full-without : (b : Block) → free ≡ [] → PAGE_WORDS < (mark_of r).filled + b.size → s.pages < demand (made_in s h b)
   full-without b none past = beyond (length free) (demand s) s.pages (demand (made_in s h b)) (ap length none) paged.count (demand-grows b past)
     where

@@ -1,4 +1,4 @@
--- A store with a layout in pages finds room for a block of a region if enough pages are left, and preserves a layout.
+-- A store with a layout in pages finds an address for a block of a region if enough pages are left, and preserves a layout.
 use Rattle.std.proofs.Common.{◌≡◌, ℕ, ◌+◌, ◌*◌, ◌<◌, ◌≤◌, List, [], ◌∷◌, Some, refl, sym, subst, inl, inr, arith}
 use Rattle.std.specs.Prelude.{◌⊎◌}
 use Rattle.cyc_store.specs.State.{lookup, Home, handle_of, StoreState, homes, demand, made_in, room}
@@ -16,14 +16,14 @@ pub record ArePages (s : StoreState) : Type 0 where
   pub free : List ℕ
   pub paged : IsPaged s pages free
 
--- Says that there is an allowed choice after which the store has a layout in pages.
+-- Says that the store relation allows a choice of address after which the store has a layout in pages.
 pub record FindsPlace (s : StoreState) (h n : ℕ) : Type 0 where
   pub choice : Choice
   pub allowed : IsAllowed s (Allocate h n) choice
   pub pages : ArePages (served s (Allocate h n) choice)
 
 module _ (s : StoreState) (h n : ℕ) (sound : IsSound s) (ordinary : h ≡ UNIQUE → ⊥) where
-  -- The choice that places the new block at this address and changes nothing else.
+  -- The store's choice that places the new block at this address and changes nothing else.
   abbrev chosen : (address : ℕ) → Choice
   chosen address = record { handle = 0; address = address; memory = s.memory }
 

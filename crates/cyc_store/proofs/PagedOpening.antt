@@ -1,4 +1,4 @@
--- Opening a region with a free page preserves the layout in pages; without a free page, the store is full.
+-- Opening a region with a free page preserves the layout in pages; without a free page, the store is out of pages.
 use Rattle.std.proofs.Common.{◌≡◌, ℕ, suc, ◌+◌, ◌<◌, List, [], ◌∷◌, ◌++◌, length, Some, refl, sym, subst, ◌∙◌, inl, inr, arith}
 use Rattle.std.proofs.lemmas.Bool.{cases_eq}
 use Rattle.cyc_words.specs.Demand.{region_pages, demand_of, total}

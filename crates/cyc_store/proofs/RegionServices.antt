@@ -54,7 +54,7 @@ slots-moved unique classes l pages free slots stays back whole = record {
     all-moved c [] all = tt
     all-moved c (w ∷ words) all = (record { slot = moved c w all.0.slot; none = all.0.none }, all-moved c words all.1)
 
--- Taking a free page for a region preserves the slots.
+-- Taking a free page for a region preserves the slots of unique blocks.
 slots-drawn : (unique : List Block) (classes : List ℕ) (l : Layout) (page h : ℕ) (free : List ℕ) → l.pages.owner page ≡ None → (h ≡ UNIQUE → ⊥)
     → AreSlots unique classes l → AreSlots unique classes (record l { pages = drawn l.pages page h; free = free })
 slots-drawn unique classes l page h free none ordinary slots = slots-moved unique classes l (drawn l.pages page h) free slots
@@ -68,7 +68,7 @@ slots-drawn unique classes l page h free none ordinary slots = slots-moved uniqu
     other : (p : ℕ) → l.pages.owner p ≡ Some UNIQUE → p ≡ page → ⊥
     other p owned e = never_none_and_some none (ap l.pages.owner (sym e) ∙ owned)
 
--- Filling a page of a region further preserves the slots.
+-- Filling a page of a region further preserves the slots of unique blocks.
 slots-filled : (unique : List Block) (classes : List ℕ) (l : Layout) (page h words : ℕ) → l.pages.owner page ≡ Some h → (h ≡ UNIQUE → ⊥)
     → AreSlots unique classes l → AreSlots unique classes (record l { pages = filled_to l.pages page words })
 slots-filled unique classes l page h words owner ordinary slots = slots-moved unique classes l (filled_to l.pages page words) l.free slots

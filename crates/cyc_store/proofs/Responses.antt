@@ -72,7 +72,7 @@ module _ (s : StoreState) (l : Layout) (laid : IsLaidOut s l) where
   pub dynamic-full : l.free ≡ [] → Serves s OpenDynamic (Refused Full) s
   dynamic-full none = serves-some s OpenDynamic Full (full-some-past s OpenDynamic (full-opening s l.pages 0 Dynamic (subst (IsPaged s l.pages) none laid.paged)))
 
-  -- The choice that changes only the blocks, with this handle and address.
+  -- The store's choice that changes only the blocks, with this handle and address.
   abbrev chosen : (handle address : ℕ) → Choice
   chosen handle address = record { handle = handle; address = address; memory = s.memory }
 

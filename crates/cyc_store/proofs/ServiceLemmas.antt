@@ -71,7 +71,7 @@ demand-made s h size a c = elim (cases_eq h UNIQUE) [
       ∙ (ap (λ l. demand_of l s.classes) (sizes-made size a c s.regions h) ∙ sym (ap demand (made-in s h (record { address = c; size = size }) other)))
 ]
 
--- The number of pages that a store needs depends only on sizes.
+-- The number of pages that a store needs depends only on the sizes of its blocks.
 pub demand-served : (s : StoreState) (call : Call) (c d : Choice) → demand (served s call c) ≡ demand (served s call d)
 demand-served s OpenLexical c d = ap (λ l. demand_of l s.classes) (sizes-opened s.regions c.handle d.handle Lexical)
 demand-served s (CloseTo mark) c d = refl
@@ -291,7 +291,7 @@ served-classes s (CloseDynamic h) choice c eleven = at_most_itself (slice_index 
 served-classes s (Allocate h n) choice c eleven = made-classes s h (block_of h n choice) c eleven
 served-classes s (Free f) choice c eleven = at_most_itself (slice_index s.classes c)
 
--- No call reduces the pages of a class.
+-- No call reduces the number of pages of a size class.
 pub serves-classes : (s t : StoreState) (call : Call) (a : Answer) (c : ℕ) → IsSound s → Serves s call a t → slice_index s.classes c ≤ slice_index t.classes c
 serves-classes s t call a c sound serves = by (refusal s call) serves
   where
@@ -299,7 +299,7 @@ serves-classes s t call a c sound serves = by (refusal s call) serves
     by None (choice, _, _, is) = subst (λ (u : StoreState). slice_index s.classes c ≤ slice_index u.classes c) (sym is) (served-classes s call choice c sound.classes)
     by (Some why) (_, is) = subst (λ (u : StoreState). slice_index s.classes c ≤ slice_index u.classes c) (sym is) (at_most_itself (slice_index s.classes c))
 
--- A call leaves the pages of a class unchanged, or raises them to the number that its live blocks need.
+-- A call leaves the number of pages of a size class unchanged, or raises it to the number that the class's live blocks need.
 made-greatest : (s : StoreState) (h : ℕ) (b : Block) (c : ℕ) → length s.classes ≡ 11
     → (slice_index (made s h b).classes c ≡ slice_index s.classes c)
     ⊎ (slice_index (made s h b).classes c ≡ max (slice_index s.classes c) (pages_for c (live_in c (made s h b).unique)))
@@ -331,7 +331,7 @@ served-greatest s (CloseDynamic h) choice c eleven = inl refl
 served-greatest s (Allocate h n) choice c eleven = made-greatest s h (block_of h n choice) c eleven
 served-greatest s (Free f) choice c eleven = inl refl
 
--- The pages of a class are the greatest number that the class's live blocks have needed so far.
+-- The number of pages of a size class is the greatest number that the class's live blocks have needed so far.
 pub serves-greatest : (s t : StoreState) (call : Call) (a : Answer) (c : ℕ) → c ≤ greatest_class → IsSound s → Serves s call a t
     → slice_index t.classes c ≡ max (slice_index s.classes c) (pages_for c (live_in c t.unique))
 serves-greatest s t call a c bound sound serves = elim (by (refusal s call) serves) [
@@ -365,7 +365,7 @@ then-full : (b : Bool) (o : Option Refusal) (why : Refusal) → (why ≡ Full �
 then-full true o why other e = e
 then-full false o why other e = absurd (other (same_from_some e))
 
--- A store is full only if the call would need more pages than the store has.
+-- A call is refused as full only if it would need more pages than the store has.
 pub full-past : (s : StoreState) (call : Call) → refusal s call ≡ Some Full → s.pages < demand (served s call (any_choice s))
 full-past s OpenLexical e = past s OpenLexical (full-some (is_full s OpenLexical) e)
 full-past s (CloseTo mark) e = absurd (only-why (nat_le mark (lexical_count s.regions)) BadMark (λ k. cc) e)

@@ -1,4 +1,4 @@
--- This file computes the pages that a class of unique blocks needs, by counting the slots of the class.
+-- This file computes the number of pages that a size class of unique blocks needs, by counting the slots of the class.
 use Rattle.std.proofs.Common.{◌≡◌, ℕ, zero, suc, ◌+◌, ◌-◌, ◌*◌, ◌/◌, ◌^◌, ◌<◌, ◌≤◌, max, List, [], ◌∷◌, length, None, Some, refl, sym, ap, subst, ◌∙◌, inl, inr, arith}
 use Rattle.std.specs.Prelude.{slice_index, set}
 use Rattle.std.proofs.Math.Nat.{mul-le-mul_right, suc-mul, div-mul-le_self, mul-div_cancel, max-eq_left, max-eq_right}
@@ -11,7 +11,7 @@ use Rattle.cyc_store.specs.State.{lookup, without, AreDistinct, Block, address_o
 use Rattle.cyc_store.proofs.LookupLemmas.{when_other, lookup-here, lookup-there, lookup-none}
 use Rattle.cyc_store.proofs.CountLemmas.{blocks-some, live-here, live-there}
 
--- the class of a power of two is its exponent
+-- the size class of a block whose size is a power of two is the exponent of this power
 pub class-power : (class : ℕ) → class ≤ greatest_class → class_of (2 ^ class) ≡ class
 class-power zero bound = refl
 class-power (suc zero) bound = refl
@@ -26,7 +26,7 @@ class-power (suc (suc (suc (suc (suc (suc (suc (suc (suc zero))))))))) bound = r
 class-power (suc (suc (suc (suc (suc (suc (suc (suc (suc (suc zero)))))))))) bound = refl
 class-power (suc (suc (suc (suc (suc (suc (suc (suc (suc (suc (suc class))))))))))) bound = absurd (omega (arith, bound))
 
--- If n blocks of a class fit into a number of pages, then the class needs at most this number of pages.
+-- If n blocks of a size class fit into a number of pages, then the class needs at most this number of pages.
 pub pages-within : (class n pages : ℕ) → class ≤ greatest_class → n ≤ pages * blocks_in_page class → pages_for class n ≤ pages
 pages-within class n pages bound few = below (blocks_in_page class) (blocks-some class bound) few
   where
@@ -40,7 +40,7 @@ pages-within class n pages bound few = below (blocks_in_page class) (blocks-some
       | inr fits ↦ fits
     ]
 
--- If the blocks of a class fill their pages exactly, then one block more needs one more page.
+-- If the blocks of a size class fill their pages exactly, then one block more needs one more page.
 pub pages-past : (class n pages : ℕ) → class ≤ greatest_class → n ≡ pages * blocks_in_page class → pages_for class (suc n) ≡ suc pages
 pages-past class n pages bound all = above (blocks_in_page class) (blocks-some class bound) all
   where
@@ -50,7 +50,7 @@ pages-past class n pages bound all = above (blocks_in_page class) (blocks-some c
         let whole : suc n + (k - 1) ≡ suc pages * k = omega (arith, is, next, some) in
         ap (λ x. x / k) whole ∙ mul-div_cancel (suc pages) some
 
--- If a class has an empty slot, then one more block does not raise the pages of the class.
+-- If a size class has an empty slot, then one more block does not raise the number of pages of the class.
 pub raised-fits : (classes : List ℕ) (class n rest : ℕ) → class ≤ greatest_class → suc n + rest ≡ slice_index classes class * blocks_in_page class
     → raised classes class (suc n) ≡ classes
 raised-fits classes class n rest bound count =
@@ -60,7 +60,7 @@ raised-fits classes class n rest bound count =
     least : (m r p : ℕ) → m + r ≡ p → m ≤ p
     least m r p e = omega (arith, e)
 
--- If a class has no empty slot, then one more block raises the pages of the class by one.
+-- If a size class has no empty slot, then one more block raises the number of pages of the class by one.
 pub raised-past : (classes : List ℕ) (class n : ℕ) → class ≤ greatest_class → n ≡ slice_index classes class * blocks_in_page class
     → raised classes class (suc n) ≡ set classes class (suc (slice_index classes class))
 raised-past classes class n bound all =

@@ -143,7 +143,7 @@ module _ (s : StoreState) (l : Layout) (laid : IsLaidOut s l) where
       within : (v w z : ℕ) → v ≡ w → 0 < z → STORE_BASE + 4 * w < STORE_BASE + 4 * v + 4 * z
       within v w z e some = omega (arith, e, some)
 
-  -- each word below the fill mark of a region's page is live
+  -- each word among the filled words of a region's page is live
   pub filled-live : (page word handle : ℕ) → l.pages.owner page ≡ Some handle → (handle ≡ UNIQUE → ⊥) → word < l.pages.filled page
       → (k : Holder) × (holder (homes s) (place_of (PAGE_WORDS * page + word)) ≡ Some k)
   filled-live page word handle owned ordinary below =
@@ -154,7 +154,7 @@ module _ (s : StoreState) (l : Layout) (laid : IsLaidOut s l) where
             found.inside,
       )
 
-  -- A word of a region's page past the fill mark is not live, and neither is a word of a free page.
+  -- A word of a region's page past the filled words is not live, and neither is a word of a free page.
   pub past-dead : (page word : ℕ) → word < PAGE_WORDS → ((handle : ℕ) → l.pages.owner page ≡ Some handle → l.pages.filled page ≤ word)
       → holder (homes s) (place_of (PAGE_WORDS * page + word)) ≡ None
   past-dead page word small past = elim (none_or_some (holder (homes s) (place_of (PAGE_WORDS * page + word)))) [

@@ -21,7 +21,7 @@ use Rattle.cyc_store.specs.Slots.{place_of, Layout, slot_block, IsSlot, IsLiveSl
 use Rattle.cyc_store.proofs.SlotCounts.{class-power, raised-fits, live_in-without_same, live_in-without_other}
 use Rattle.cyc_store.proofs.SlotLemmas.{slots-one, slot-apart}
 
--- The layout in which the dead slots of one class are replaced.
+-- The layout in which the list of dead (empty) slots of one size class is replaced.
 abbrev pub with_dead : Layout → (class : ℕ) → List ℕ → Layout
 with_dead l class words = record l { dead = λ (other : ℕ). if other == class then words else l.dead other }
 
@@ -55,7 +55,7 @@ first-in c w = covers_from (slot_block c w) (place_of w) (starts (place_of w)) (
     within : (n z : ℕ) → 0 < z → n < n + 4 * z
     within n z some = omega (arith, some)
 
--- Slots of different classes do not begin at the same word.
+-- Slots of different size classes do not begin at the same word.
 classes-apart : (owner : ℕ → Option ℕ) (class_at : ℕ → ℕ) (c d w : ℕ) → IsSlot owner class_at c w → IsSlot owner class_at d w → c ≡ d
 classes-apart owner class_at c d w one other = (slots-one owner class_at c d w w (place_of w) one other (first-in c w) (first-in d w)).0
 
@@ -94,7 +94,7 @@ module _ (s : StoreState) (l : Layout) (laid : IsLaidOut s l) (c w : ℕ) (bound
   pub dead-apart : IsApart (homes s) (slot_block c w)
   dead-apart = slot-apart s l laid c w first-dead.slot first-dead.none
 
-  -- Filling a dead slot leaves the pages of the classes unchanged.
+  -- Filling a dead slot leaves the number of pages of every size class unchanged.
   pub dead-classes : raised s.classes (class_of (2 ^ c)) (suc (live_in (class_of (2 ^ c)) s.unique)) ≡ s.classes
   dead-classes =
       ap (λ n. raised s.classes n (suc (live_in n s.unique))) (class-power c bound)

@@ -1,4 +1,4 @@
--- Cutting a free page into slots of a class preserves the layout of a store.
+-- Cutting a free page into slots of a size class preserves the layout of a store.
 use Rattle.std.proofs.Common.{◌≡◌, ◌≢◌, ℕ, zero, suc, ◌+◌, ◌*◌, ◌^◌, ◌<◌, ◌≤◌, List, [], ◌∷◌, length, None, Some, refl, sym, ap, subst, ◌∙◌, inl, inr, arith, length-set, get_or-set_same, get_or-set_other, zero-add}
 use Rattle.std.specs.Prelude.{◌==◌, if◌then◌else◌, slice_index, set}
 use Rattle.std.specs.List.{AllByRecursion}

@@ -1,4 +1,4 @@
--- This file is about a table of pages after the live marks of a slot are written, and words together with them.
+-- This file is about a table of pages after the flags that mark a slot's words as live are written, perhaps together with words.
 use Rattle.std.proofs.Common.{◌≡◌, ℕ, ◌+◌, ◌*◌, ◌/◌, ◌%◌, ◌^◌, ◌<◌, ◌≤◌, Bool, false, List, length, Option, sym, ap, subst, ◌∙◌, inl, inr, arith, get_or-set_same, get_or-set_other}
 use Rattle.std.specs.Prelude.{◌==◌, if◌then◌else◌, slice_index, slice_index_or, set}
 use Rattle.std.specs.List.{AllByRecursion}
@@ -24,7 +24,7 @@ read-set {A} xs i x d there = fun_ext (λ j. elim (cases_eq j i) [
   | inr other ↦ get_or-set_other xs i j x d other ∙ sym (when_other j i x (slice_index_or xs j d) other)
 ])
 
--- The table in which words and live marks are replaced.
+-- The page table in which words are replaced, and so are the flags that mark words as live.
 pub read-table : (t v : PageTable) (words : ℕ → ℕ) (marks : ℕ → Bool) → v.most ≡ t.most → ◌≡◌ {A = ℕ → ℕ} (λ i. slice_index v.words.items i) words
     → ◌≡◌ {A = ℕ → Bool} (λ i. slice_index_or v.live.items i false) marks → v.free ≡ t.free → v.rows.items ≡ t.rows.items
     → table_of v ≡ record (table_of t) { word = words; live = marks }
@@ -35,14 +35,14 @@ read-table t v words marks most_is words_is marks_is free_is rows_is =
     ∙ (ap (λ f. record (table_of v) { most = t.most; free = t.free; word = words; live = f }) marks_is
     ∙ ap (λ rs. record (table_of t) { word = words; live = marks; count = length rs; row = λ (p : ℕ). row_at rs p }) rows_is)))
 
--- The table in which the live marks from index `first` on are replaced, and possibly the words.
+-- The page table in which the flags that mark words as live are replaced from index `first` on; words may be replaced too.
 pub marked-table : (t v : PageTable) (first count : ℕ) (mark : Bool) (words : ℕ → ℕ) → v.most ≡ t.most → ◌≡◌ {A = ℕ → ℕ} (λ i. slice_index v.words.items i) words
     → ((word : ℕ) → slice_index_or v.live.items word false ≡ marked_between (λ (i : ℕ). slice_index_or t.live.items i false) first count mark word) → v.free ≡ t.free → v.rows.items ≡ t.rows.items
     → table_of v ≡ record (with_marks (table_of t) first count mark) { word = words }
 marked-table t v first count mark words most_is words_is live_is free_is rows_is =
     read-table t v words (with_marks (table_of t) first count mark).live most_is words_is (fun_ext live_is) free_is rows_is
 
--- If the words of the dead slots of a class are unchanged, then the representation of the class's slots is unchanged.
+-- If the words of the dead slots of a size class are unchanged, then the representation of the class's slots is unchanged.
 pub stock-words : (word also : ℕ → ℕ) (slots : ClassSlots) (class : ℕ) (dead : List ℕ) → AllByRecursion (λ x. also x ≡ word x) dead → IsStocked word slots class dead
     → IsStocked also slots class dead
 stock-words word also slots class dead same old = record {
@@ -52,7 +52,7 @@ stock-words word also slots class dead same old = record {
       (all_append_left (λ x. also x ≡ word x) old.chain (slots_from (2 ^ class) slots.fresh slots.left) (subst (AllByRecursion (λ x. also x ≡ word x)) old.all same)) old.linked;
 }
 
--- The page of a slot and its position in the page, computed from the slot's first word.
+-- The page of a slot and the slot's index in the page, computed from the slot's first word.
 module _ (owner : ℕ → Option ℕ) (class_at : ℕ → ℕ) (class word : ℕ) (slot : IsSlot owner class_at class word) where
   pub slot-page : word / 1024 ≡ slot.page
   slot-page = page slot.page (slot.number * 2 ^ class) (2 ^ class) word slot.at slot.fits (pow_pos class)

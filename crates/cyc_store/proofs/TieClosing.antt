@@ -172,7 +172,7 @@ module _ (t : Table) (lexicals : List ℕ) (classes : ℕ → ClassSlots) (b : B
 
   module _ (row : ℕ → Row) (free : ℕ) (others : (p : ℕ) → AllByRecursion (λ x. p ≢ x) chain → row p ≡ t.row p) (gone : (p : ℕ) → IsOneOf chain p → IsGone (row p))
       (linked : IsChain (λ p. (row p).next) free (moved chain tied.given)) (left : List ℕ) (lexical : left ≡ lexical_handles (without handle_of b.regions h)) where
-    -- Freeing the pages of a region leaves the rows of pages with other owners unchanged.
+    -- Freeing the pages of a region leaves the page table's rows for pages with other owners unchanged.
     kept : (p : ℕ) → (l.pages.owner p ≡ Some h → ⊥) → row p ≡ t.row p
     kept p other = elim (one-cases chain p) [
       | inl inside ↦ absurd (other (one-all (λ (x : ℕ). l.pages.owner x ≡ Some h) chain p chain-owned inside))

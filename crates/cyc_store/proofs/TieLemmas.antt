@@ -21,7 +21,7 @@ pub chain-also : (next also : ℕ → ℕ) (first : ℕ) (xs : List ℕ) → All
 chain-also next also first [] all linked = linked
 chain-also next also first (x ∷ xs) all linked = (linked.0, chain-also next also (also x) xs all.1 (subst (λ n. IsChain next n xs) (sym all.0) linked.1))
 
--- Changing the row of a page does not affect lists of other pages.
+-- Changing the page table's row of one page does not affect lists of other pages.
 pub all-away : (row : ℕ → Row) (page : ℕ) (r : Row) (xs : List ℕ) → AllByRecursion (λ x. page ≢ x) xs
     → AllByRecursion (λ x. (if x == page then r else row x).next ≡ (row x).next) xs
 all-away row page r [] away = tt
@@ -36,7 +36,7 @@ module _ (t : Table) (lexicals : List ℕ) (classes : ℕ → ClassSlots) (b : B
       few : (n m : ℕ) → n ≤ m → m ≤ 65536 → n < 4294967295
       few n m first second = omega (arith, first, second)
 
-  -- If no used page is free, then the free pages are those that were never used.
+  -- If no page that was used before is free, then the free pages are those that were never used.
   pub all-fresh : t.count ≤ t.free → l.free ≡ numbers_from t.count (t.most - t.count)
   all-fresh past = by tied.given tied.free tied.linked tied.within
     where
@@ -48,7 +48,7 @@ module _ (t : Table) (lexicals : List ℕ) (classes : ℕ → ClassSlots) (b : B
           clash : (f x n : ℕ) → f ≡ x → x < n → n ≤ f → ⊥
           clash f x n same less more = omega (arith, same, less, more)
 
-  -- If no used page is free and no unused page is left, then there is no free page.
+  -- If no page that was used before is free, and no page is left that was never used, then there is no free page.
   pub none-free : t.count ≤ t.free → t.most ≤ t.count → l.free ≡ []
   none-free past most = all-fresh past ∙ ap (numbers_from t.count) (nothing t.most t.count most)
     where
@@ -86,7 +86,7 @@ module _ (t : Table) (lexicals : List ℕ) (classes : ℕ → ClassSlots) (b : B
       reach : (p n m : ℕ) → p < n → n ≤ m → p < m
       reach p n m less more = omega (arith, less, more)
 
-  -- The page that is taken was used before.
+  -- If a page that was used before is free, then such a page is taken.
   pub taken-again : t.free < t.count → IsTaken t.free t.count (t.row t.free).next
   taken-again below = by tied.given tied.free tied.linked tied.within
     where
@@ -106,7 +106,7 @@ module _ (t : Table) (lexicals : List ℕ) (classes : ℕ → ClassSlots) (b : B
           same : (n : ℕ) → n ≤ n
           same n = omega arith
 
-  -- The page that is taken was never used.
+  -- If no page that was used before is free, then a page that was never used is taken.
   pub taken-new : t.count ≤ t.free → t.count < t.most → IsTaken t.count (suc t.count) t.free
   taken-new past room = by tied.given tied.free tied.linked tied.within
     where

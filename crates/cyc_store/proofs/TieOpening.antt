@@ -20,7 +20,7 @@ use Rattle.cyc_store.proofs.PagedRegions.{still-chained}
 use Rattle.cyc_store.proofs.LiveWords.{odd-apart}
 use Rattle.cyc_store.proofs.TieLemmas.{chain-also, all-away}
 
--- The row of the first page of a region with one empty page.
+-- The page table's row for the first page of a region with one empty page.
 abbrev pub first_row : (sort : Sort) → (page : ℕ) → Row
 first_row sort page = record { role = role_of_sort sort; filled = 0; next = NONE; newest = page; count = 1 }
 

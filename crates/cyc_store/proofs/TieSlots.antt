@@ -37,7 +37,7 @@ with_word t at word = record t { word = λ (other : ℕ). if other == at then wo
 abbrev pub with_slots : (ℕ → ClassSlots) → (class : ℕ) → ClassSlots → ℕ → ClassSlots
 with_slots classes class slots = λ (other : ℕ). if other == class then slots else classes other
 
--- A word determines its page and its position in the page.
+-- The index of a word determines the index of its page and the word's index in the page.
 split-one : (p q m n : ℕ) → m < 1024 → n < 1024 → 1024 * p + m ≡ 1024 * q + n → (p ≡ q) × (m ≡ n)
 split-one p q m n small also e = (omega (arith, small, also, e), omega (arith, small, also, e))
 
@@ -52,7 +52,7 @@ module _ (t : Table) (lexicals : List ℕ) (classes : ℕ → ClassSlots) (b : B
   abbrev after_marks : Table
   after_marks = record (with_marks t word (2 ^ class) mark) { word = words }
 
-  -- A word of the slot lies in the slot's page, and the slot that contains it begins at the slot's first word.
+  -- A word of the given slot lies in the slot's page. The slot that is computed for this word begins at the given slot's first word.
   slot-page : (p n : ℕ) → n < 1024 → word ≤ PAGE_WORDS * p + n → PAGE_WORDS * p + n < word + 2 ^ class → p ≡ slot.page
   slot-page p n few low high = one p slot.page n (slot.number * 2 ^ class) (2 ^ class) word slot.at slot.fits few low high
     where
@@ -76,7 +76,7 @@ module _ (t : Table) (lexicals : List ℕ) (classes : ℕ → ClassSlots) (b : B
       first : (m n k : ℕ) → m ≤ n → n < k → m < k
       first m n k low high = omega (arith, low, high)
 
-  -- If the slot of a word begins at the slot's first word, then the word belongs to the slot.
+  -- If the slot that is computed for a word begins at the given slot's first word, then the word belongs to the given slot.
   not-out : (p n : ℕ) → n < 1024 → PAGE_WORDS * p + n / 2 ^ l.class p * 2 ^ l.class p ≡ word → (PAGE_WORDS * p + n < word) ⊎ (word + 2 ^ class ≤ PAGE_WORDS * p + n) → ⊥
   not-out p n few begins (inl below) = clash (PAGE_WORDS * p) (n / 2 ^ l.class p * 2 ^ l.class p) n word begins (div-mul-le_self n (2 ^ l.class p)) below
     where

@@ -1,5 +1,5 @@
--- This file says how the results of the trait's methods are read as answers of the store relation. `None` is lack of memory, which the
--- store relation does not cover. The reading of results as answers is this project's own choice.
+-- This file says how the results of the methods of the trait `Store` are read as answers of the store relation. `None` is lack of
+-- memory, which the store relation does not cover. The reading of results as answers is this project's own choice.
 use Rattle.std.specs.Prelude.{◌≡◌, ℕ, Bool, true, Option, Some, None, Result, Ok, Err}
 use Rattle.cyc_store.specs.State.{StoreState}
 use Rattle.cyc_store.specs.Services.{Call, Answer, Refused, Done, Opened, OpenedLexical, Allocated, refusal, Serves}

@@ -23,7 +23,7 @@ store_of pages words b = record { pages = pages; regions = b.regions; unique = b
 abbrev pub blocks_of : StoreState → Blocks
 blocks_of s = record { regions = s.regions; unique = s.unique; classes = s.classes }
 
--- A store with these blocks, without words.
+-- A store that has these blocks, no pages and no words.
 abbrev pub plain_store : Blocks → StoreState
 plain_store b = store_of 0 [] b
 
@@ -51,11 +51,11 @@ pub record Stored : Type 0 where
 abbrev pub held_of : Stored → StoreState
 held_of s = store_of s.pages s.words s.blocks
 
--- Says that every used page is owned by a region or class, so the array grows before another page is taken.
+-- Says that regions and size classes own every page of the array, so the array grows before another page is taken.
 abbrev pub IsUsedUp : Stored → Type 0
 IsUsedUp s = length s.words ≡ PAGE_WORDS * demand (held_of s)
 
--- Says that the table of the open lexical regions is full.
+-- Says that the table of the open lexical regions has reached its capacity.
 abbrev pub HasNoRoom : Stored → Type 0
 HasNoRoom s = s.room ≤ lexical_count s.blocks.regions
 

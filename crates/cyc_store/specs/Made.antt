@@ -19,7 +19,7 @@ call_of (asked.Free address) = Some (services.Free address)
 call_of (asked.Load address) = None
 call_of (asked.Save address word) = None
 
--- Says that an exchange is a possible result of this call.
+-- Says that an exchange (a call with its answer) is a possible result of this call.
 abbrev pub IsOf : Asked → Exchange → Type 0
 IsOf a (Service call answer) = call_of a ≡ Some call
 IsOf a (Load address word) = a ≡ asked.Load address

@@ -11,7 +11,7 @@ use Rattle.cyc_store.specs.declared.range.TheConstants.{STORE_BASE, PAGE_WORDS}
 abbrev pub page_start : (page : ℕ) → ℕ
 page_start page = STORE_BASE + 4 * (PAGE_WORDS * page)
 
--- Says that the block lies in the words of a page between the numbers `low` and `high`.
+-- Says that the block lies in the words of a page between the word indices `low` and `high`.
 pub record LiesIn (page low high : ℕ) (b : Block) : Type 0 where
   pub word : ℕ
   pub at : b.address ≡ page_start page + 4 * word

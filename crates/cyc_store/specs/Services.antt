@@ -65,7 +65,8 @@ answer s (Free address) c = Done
 
 -- ---- refusals
 
--- The number of pages that a store needs depends only on sizes, so the choice of a store does not decide if the store is full.
+-- The number of pages that a store needs depends only on block sizes. So the addresses and handles that a store chooses do not
+-- decide if it is out of pages.
 abbrev pub any_choice : StoreState → Choice
 any_choice s = record { handle = 0; address = 0; memory = s.memory }
 

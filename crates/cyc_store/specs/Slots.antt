@@ -11,7 +11,7 @@ use Rattle.cyc_store.specs.Soundness.{IsSound}
 use Rattle.cyc_store.specs.declared.range.TheConstants.{STORE_BASE, PAGE_WORDS, UNIQUE}
 use Rattle.cyc_store.specs.Pages.{Pages, IsPaged}
 
--- The address of a word, given the word's number among the words of all pages.
+-- The address of a word, given the word's index among the words of all pages.
 abbrev pub place_of : (word : ℕ) → ℕ
 place_of word = STORE_BASE + 4 * word
 
@@ -26,7 +26,7 @@ pub record Layout : Type 0 where
 abbrev pub slot_block : (class word : ℕ) → Block
 slot_block class word = record { address = place_of word; size = 2 ^ class }
 
--- Says that a slot of this class begins at this word.
+-- Says that a slot of this size class begins at the word with this index.
 pub record IsSlot (owner : ℕ → Option ℕ) (class_at : ℕ → ℕ) (class word : ℕ) : Type 0 where
   pub page : ℕ
   pub number : ℕ
@@ -72,7 +72,7 @@ abbrev pub slots_from : (size word count : ℕ) → List ℕ
 slots_from size word zero = []
 slots_from size word (suc count) = word ∷ slots_from size (word + size) count
 
--- Says that some page of the class has an empty slot.
+-- Says that some page of the size class has an empty slot.
 abbrev pub HasSlot : StoreState → (class : ℕ) → Type 0
 HasSlot s class = live_in class s.unique < slice_index s.classes class * blocks_in_page class
 
@@ -80,7 +80,7 @@ HasSlot s class = live_in class s.unique < slice_index s.classes class * blocks_
 abbrev pub IsSpent : StoreState → Type 0
 IsSpent s = demand s ≡ s.pages
 
--- The store after the class got one more page.
+-- The store after the size class got one more page.
 abbrev pub with_page : StoreState → (class : ℕ) → StoreState
 with_page s class = record s { classes = set s.classes class (suc (slice_index s.classes class)) }
 
@@ -91,7 +91,7 @@ pub record Fills (s : StoreState) (class address : ℕ) (t : StoreState) : Type 
   pub classes : raised s.classes (class_of (2 ^ class)) (suc (live_in (class_of (2 ^ class)) s.unique)) ≡ s.classes
   pub held : t ≡ made_unique s (record { address = address; size = 2 ^ class })
 
--- Says that t is the store s after a page was cut into slots of a class.
+-- Says that t is the store s after a page was cut into slots of a size class.
 pub record Stocks (s : StoreState) (class : ℕ) (t : StoreState) : Type 0 where
   pub room : demand (with_page s class) ≤ s.pages
   pub held : t ≡ with_page s class

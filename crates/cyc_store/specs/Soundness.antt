@@ -13,7 +13,7 @@ pub record AreSound (pages : ℕ) (rs : List Home) : Type 0 where
       → holder rs address ≡ Some (record { handle = handle; block = b })
   pub placed : (handle first : ℕ) (b : Block) → block_at rs handle first ≡ Some b → IsPlaced pages b
 
--- Says that the pages of every class suffice for the live blocks of the class.
+-- Says that the pages of every size class suffice for the live blocks of the class.
 abbrev pub AreEnough : (unique : List Block) → (classes : List ℕ) → Type 0
 AreEnough unique classes = (class : ℕ) → class ≤ greatest_class → pages_for class (live_in class unique) ≤ slice_index classes class
 

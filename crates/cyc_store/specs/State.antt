@@ -122,7 +122,7 @@ abbrev pub block_in : Option Home → (address : ℕ) → Option Block
 block_in None address = None
 block_in (Some r) address = lookup address_of r.blocks address
 
--- The block that begins at an address, in the region with a handle.
+-- The block that begins at an address, in the region with the given handle.
 abbrev pub block_at : List Home → (handle address : ℕ) → Option Block
 block_at rs handle address = block_in (lookup handle_of rs handle) address
 
@@ -156,12 +156,12 @@ sizes_in rs = map (λ (r : Home). sizes_of r.blocks) rs
 abbrev pub demand : StoreState → ℕ
 demand s = demand_of (sizes_in s.regions) s.classes
 
--- the number of blocks of a class
+-- the number of blocks of a size class
 abbrev pub live_in : (class : ℕ) → List Block → ℕ
 live_in class [] = 0
 live_in class (b ∷ bs) = if class_of b.size == class then suc (live_in class bs) else live_in class bs
 
--- The numbers of pages of the classes after `live` blocks of one class are live.
+-- The numbers of pages of all size classes after `live` blocks of one class are live.
 abbrev pub raised : (classes : List ℕ) → (class live : ℕ) → List ℕ
 raised classes class live = set classes class (max (slice_index classes class) (pages_for class live))
 

@@ -7,14 +7,14 @@ use Rattle.cyc_store.specs.declared.row.Role.TheVariants.{Rest}
 use Rattle.cyc_store.specs.declared.row.TheConstants.{NONE}
 use Rattle.cyc_store.specs.declared.range.TheConstants.{PAGE_WORDS}
 
--- The row of an empty page that is followed by a free page.
+-- The page table's row for an empty page that is followed by a free page.
 abbrev pub free_row : (next : ℕ) → Row
 free_row next = record { role = Rest; filled = 0; next = next; newest = NONE; count = 0 }
 
 abbrev pub row_at : List Row → (page : ℕ) → Row
 row_at rows page = slice_index_or rows page (free_row NONE)
 
--- Says that the table has the words and live marks of all of its pages.
+-- Says that the table has a word, and a flag that marks it as live or not, for each word of all of its pages.
 pub record IsWhole (t : PageTable) : Type 0 where
   pub words : length t.words.items ≡ PAGE_WORDS * length t.rows.items
   pub live : length t.live.items ≡ PAGE_WORDS * length t.rows.items
@@ -38,7 +38,7 @@ pub record Draws (old new : PageTable) (page : ℕ) : Type 0 where
   pub from : ((old.free < length old.rows.items) × (page ≡ old.free) × (new.free ≡ (row_at old.rows.items page).next) × (length new.rows.items ≡ length old.rows.items))
       ⊎ ((length old.rows.items ≤ old.free) × (page ≡ length old.rows.items) × (new.free ≡ old.free) × (length new.rows.items ≡ suc (length old.rows.items)))
 
--- The live marks after those in a range are set to one value; all other live marks are unchanged.
+-- The flags that mark words as live, after the flags in a range are set to one value; all other flags are unchanged.
 abbrev pub marked_between : (old : ℕ → Bool) → (first count : ℕ) → Bool → ℕ → Bool
 marked_between old first count mark word = if nat_le first word && nat_lt word (first + count) then mark else old word
 

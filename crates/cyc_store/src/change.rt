@@ -11,7 +11,7 @@ pub enum Change {
     Closed(u32),
     /// A block with this address and number of words was allocated in the region with this handle.
     Made(u32, u32, u32),
-    /// A page was cut into slots of this class.
+    /// A page was cut into slots of this size class.
     Stocked(u32),
     /// A unique block with this address and number of words was allocated.
     MadeUnique(u32, u32),

@@ -5,7 +5,7 @@ ghost use Rattle.cyc_words.specs.Demand.{class_of};
 
 use super::range::{MOST_BLOCK_WORDS, STORE_BASE};
 
-/// Returns the number of words of a block of a class.
+/// Returns the number of words of a block of a size class.
 #[inline]
 pub fn size_of(class: u32) -> u32
     requires { class ≤ 10 }
@@ -14,7 +14,7 @@ pub fn size_of(class: u32) -> u32
     1 << class
 }
 
-/// Returns the class of a block with this many words: the exponent of the least power of two that is at least as large.
+/// Returns the size class of a block with this many words: the exponent of the least power of two that is at least as large.
 pub fn class_of(words: u32) -> u32
     requires { words ≤ 1024 }
     ensures { result ≡ class_of words }
@@ -36,7 +36,7 @@ pub fn is_size(words: u32) -> bool
     1 <= words && words <= MOST_BLOCK_WORDS
 }
 
-/// Returns the address of a word, given its number among the words of all pages.
+/// Returns the address of a word, given its index among the words of all pages.
 #[inline]
 pub fn address_at(word: u32) -> u32
     requires { word < 0x400_0000 }
@@ -45,7 +45,7 @@ pub fn address_at(word: u32) -> u32
     STORE_BASE + 4 * word
 }
 
-/// Returns the number of a word among the words of all pages, given its address.
+/// Returns the index of a word among the words of all pages, given its address.
 #[inline]
 pub fn number_at(address: u32) -> Option<u32>
     ensures { MatchOption result ((address < STORE_BASE) ⊎ (address % 4 ≢ 0)) (λ number. address ≡ STORE_BASE + 4 * number) }

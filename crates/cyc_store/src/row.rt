@@ -34,13 +34,14 @@ pub struct Row {
     pub count: u32,
 }
 
-/// The empty slots of one class.
+/// The empty slots of one size class.
 #[derive(Clone, Copy)]
 pub struct ClassSlots {
-    /// The first of the empty slots that contained a block before. The first word of each of these slots is the number of the next one.
+    /// The first of the empty slots that contained a block before. The first word of each of these slots is the index of the next
+    /// slot's first word.
     pub dead: u32,
     /// The first of the empty slots that never contained a block; these slots are consecutive in one page. The
-    /// field after it is their number.
+    /// field `left` is their number.
     pub fresh: u32,
     pub left: u32,
 }
@@ -48,7 +49,7 @@ pub struct ClassSlots {
 /// The value that stands for no page and no slot.
 pub const NONE: u32 = 0xffff_ffff;
 
-/// The row of an empty page.
+/// The page table's row for an empty page.
 pub const BLANK: Row = Row {
     role: Role::Rest,
     filled: 0,

@@ -20,7 +20,7 @@ one_part p q after other e read also =
     let piece = one_piece p.piece q.piece q.bytes (subst (Spells p.piece) bytes.0 read.spelled) also.spelled in
     ((λ i. record { piece = piece i; bytes = bytes.0 i }), bytes.1)
 
--- `GoesOn` says that the parts `qs` extend the parts `ps`: the further parts cut the text that `ps` leaves.
+-- `GoesOn` says that the list of text parts `qs` extends the list `ps`: the further parts cut the text that `ps` leaves.
 abbrev pub GoesOn : List Part → List Part → List ℕ → List ℕ → Type 0
 GoesOn ps qs r s = (more : List Part) × (qs ≡ ps ++ more) × IsCut more r s
 
@@ -35,7 +35,7 @@ cuts_meet (p ∷ ps) (q ∷ qs) text r s cut also =
     (λ x. inr (x.0, (λ i. same.0 i ∷ x.1 i), x.2))
     (cuts_meet ps qs cut.0 r s cut.4 (subst (λ l. IsCut qs l s) (sym same.1) also.4))
 
--- A cut that has reached the end of the text cannot be extended by any part.
+-- A cut (division into tokens, spaces and comments) that has reached the end of the text cannot be extended by any part.
 pub no_more : (more : List Part) (s : List ℕ) → IsCut more [] s → more ≡ []
 no_more [] s cut = refl
 no_more (p ∷ ps) s cut = absurd (none p.bytes cut.1 cut.2.spelled)
@@ -55,7 +55,7 @@ one_cut ps qs text cut also =
 pub one_token_list : (text : List ℕ) (a b : List Token) → HasTokens text a → HasTokens text b → a ≡ b
 one_token_list text a b has also = sym has.2 ∙ ap (tokens_of []) (one_cut has.0 also.0 text has.1 also.1) ∙ also.2
 
--- A cut of a text, extended by one more part, is again a cut.
+-- A cut of a text into tokens, spaces and comments, extended by one more of these parts, is again a cut.
 pub IsCut-push : (ps : List Part) (p : Part) (text after : List ℕ) → IsCut ps text (p.bytes ++ after)
     → IsRead p.piece p.bytes after → p.piece ≢ OpenComment → IsCut (ps ++ p ∷ []) text after
 IsCut-push [] p text after cut read closed = (after, cut, read, closed, refl)

@@ -23,7 +23,7 @@ is_among-with_text texts text =
     last [] = or_left _ _ (bytes_eq-itself text)
     last (x ∷ xs) = or_right _ _ (last xs)
 
--- A text in the list keeps its place when other texts are added.
+-- A text in the list of names stays in it when other texts are added.
 pub is_among-with_text_other : (texts : List (List ℕ)) (a b : List ℕ) → is_among a texts ≡ true → is_among a (with_text texts b) ≡ true
 is_among-with_text_other texts a b among =
     ⊎_elim (λ there. ap (is_among a) (cond-true _ _ _ there) ∙ among) (λ new. ap (is_among a) (cond-false _ _ _ new) ∙ more texts among) (cases_Bool (is_among b texts))

@@ -327,12 +327,12 @@ decimal_no_hexadecimal (b ∷ c ∷ d ∷ ds) decimal =
     no_zero : (b : ℕ) → is_between 49 57 b ≡ true → eqb b 48 ≡ false
     no_zero b h = grind (arith, nat_tests)
 
--- If `*/` occurs in the bytes, the search finds it.
+-- If `*/` occurs in the bytes, the search for it succeeds.
 has_close-within : (before after : List ℕ) → has_close (before ++ (codes "*/" ++ after)) ≡ true
 has_close-within [] after = refl
 has_close-within (b ∷ before) after = or_right _ _ (has_close-within before after)
 
--- If the search finds `*/`, it occurs in the bytes.
+-- If the search for `*/` succeeds, it occurs in the bytes.
 pub close_from_has_close : (bytes : List ℕ) → has_close bytes ≡ true → (before after : List ℕ) × (bytes ≡ before ++ (codes "*/" ++ after))
 close_from_has_close [] h = absurd (true≢false (sym h))
 close_from_has_close (b ∷ bs) h =

@@ -37,7 +37,7 @@ column_after-other front b other =
     ∙ ap (λ n. n + 1) (suffix_push front b ∙ ap (λ c. cond (not c) (1 + suffix_len (λ b. not (is_line_feed b)) front) 0) other)
     ∙ omega (arith, column_is front)
 
--- If the code advances a source position by one byte, it stays the position after the bytes read so far.
+-- If the code advances a source position by one byte, the result is the position after the bytes read so far.
 pub after_line_feed : (place next : Span) (front : List ℕ) (b : ℕ) → b ≡ 10 → next.line ≡ place.line + 1 → next.column ≡ 1
     → IsAfter place front → IsAfter next (front ++ b ∷ [])
 after_line_feed place next front b is line column following = record {

@@ -1,4 +1,4 @@
--- The mathematical form (view) of a node that contains lists of nodes is computed from the contents of its `Vec`s.
+-- The mathematical form (view) of a node that contains lists of nodes is computed from the elements of its `Vec`s.
 use Rattle.std.proofs.Common.{◌≡◌, List, map, Option, Some, None, option_map, refl, sym, ap, ◌∙◌}
 use Rattle.std.specs.declared.vec.Vec.{Vec}
 use Rattle.std.specs.declared.boxed.Box.{Box}

@@ -13,7 +13,7 @@ pub record Place : Type 0 where
   pub line : ℕ
   pub column : ℕ
 
--- Returns the source position of a span of the code.
+-- Returns the mathematical source position (line and column) that a span of the compiler's code stands for.
 abbrev pub place_of_span : Span → Place
 place_of_span s = record { line = s.line; column = s.column }
 

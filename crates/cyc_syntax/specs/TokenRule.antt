@@ -63,7 +63,7 @@ max_tokens = 60000
 abbrev pub max_number : ℕ
 max_number = 2147483647
 
--- `IsSmall` says that a token, if it is a number, is within the limit.
+-- `IsSmall` says that a token, if it is a number, is at most the greatest number that this project allows.
 abbrev pub IsSmall : Kind → Type 0
 IsSmall (Identifier _) = Unit {0}
 IsSmall (RegionName _) = Unit {0}
@@ -77,7 +77,8 @@ pub record IsWithinLimits (tokens : List Token) : Type 0 where
   pub count : length tokens ≤ max_tokens
   pub numbers : All (λ t. IsSmall t.kind) tokens
 
--- `LiesIn` says that a token of the code is located in the text: its source position is that of its first byte, and its bytes spell it.
+-- `LiesIn` says that a token in the compiler's representation is located in the text: its source position is that of its first byte,
+-- and its bytes spell it.
 pub record LiesIn (text : List ℕ) (t : CodeToken) : Type 0 where
   pub starts : t.start < t.end
   pub ends : t.end ≤ length text
@@ -85,7 +86,7 @@ pub record LiesIn (text : List ℕ) (t : CodeToken) : Type 0 where
   pub column : t.span.column ≡ column_after (take t.start text)
   pub spelled : SpellsToken (kind_of (spelling_of text t) t.kind) (spelling_of text t)
 
--- `AreTokensOf` says that the code's tokens are those of the text, and that each is located in it.
+-- `AreTokensOf` says that tokens in the compiler's representation are those of the text, and that each is located in the text.
 pub record AreTokensOf (text : List ℕ) (tokens : List CodeToken) : Type 0 where
   pub rule : HasTokens text (map (token_of text) tokens)
   pub places : All (LiesIn text) tokens

@@ -23,7 +23,7 @@ pub record Token : Type 0 where
   pub line : ℕ
   pub column : ℕ
 
--- Returns the kind of a token of the code, from the bytes that spell it.
+-- Returns the mathematical kind of a token in the compiler's representation, from the bytes that spell it.
 abbrev pub kind_of : List ℕ → TokenKind → Kind
 kind_of bytes kinds.Identifier = Identifier bytes
 kind_of bytes kinds.RegionName = RegionName (drop 1 bytes)
@@ -32,10 +32,10 @@ kind_of bytes (kinds.Character c) = Character c
 kind_of bytes (kinds.Keyword k) = Word k
 kind_of bytes (kinds.Sign s) = Mark s
 
--- Returns the bytes of the text that spell a token of the code.
+-- Returns the bytes of the text that spell a token in the compiler's representation.
 abbrev pub spelling_of : List ℕ → CodeToken → List ℕ
 spelling_of text t = slice_range text t.start t.end
 
--- Returns the mathematical form (view) of a token of the code, from its text.
+-- Returns the mathematical form (view) of a token in the compiler's representation, from its text.
 abbrev pub token_of : List ℕ → CodeToken → Token
 token_of text t = record { kind = kind_of (spelling_of text t) t.kind; line = t.span.line; column = t.span.column }

@@ -63,7 +63,7 @@ mutual
     Binary : Expression → Operations → Expression
     Assign : Expression → Expression → Expression
 
-  -- The initial contents of the object that `new` or `rnew` allocates.
+  -- The initial value or values of the object that `new` or `rnew` allocates.
   pub data Initial : Type 0 where
     Plain : Expression → Initial
     -- A struct initializer: the struct, its region arguments, and the values of its fields.
@@ -103,7 +103,7 @@ mutual
     Throw : Place → (exception : Named) → Option Expression → Statement
     Try : Place → Statement → Clauses → Statement
 
-  -- A block: its items, and the source positions of its braces.
+  -- A block: its statements and declarations, and the source positions of its braces.
   pub data Body : Type 0 where
     Braces : (start : Place) → Items → (end : Place) → Body
 
@@ -154,7 +154,7 @@ pub data ParameterList : Type 0 where
 
 pub record Parameters : Type 0 where
   pub list : ParameterList
-  -- The effect of a function; `None` if it is omitted, which differs from an empty effect.
+  -- The effect of a function (the regions that must be live at a call); `None` if it is omitted, which differs from an empty effect.
   pub effect : Option (List Named)
   pub constraints : List Constraint
 

@@ -59,7 +59,7 @@ identifier d x = at d (Identifier x.name) x.place
 abbrev pub region_name : ℕ → Named → Yield
 region_name d r = at d (RegionName r.name) r.place
 
--- Returns the yield whose first leaf has this item number.
+-- Returns the yield whose first leaf has this item number (its index, from 1, in a list or a chain of operators).
 abbrev pub item_number : ℕ → Yield → Yield
 item_number i [] = []
 item_number i (leaf ∷ leaves) = record leaf { item = i } ∷ leaves
@@ -70,17 +70,17 @@ optional yield (Some x) = yield x
 
 -- ---- lists with numbered items
 
--- Returns the yields of the items one after the other, numbered from `i` on.
+-- Returns the yields of a list's elements one after the other, numbered from `i` on.
 abbrev pub each : {A : Type 0} → (A → Yield) → ℕ → List A → Yield
 each yield i [] = []
 each yield i (x ∷ xs) = item_number i (yield x) ⨾ each yield (suc i) xs
 
--- Returns the yields of the items, each preceded by a comma, numbered from `i` on.
+-- Returns the yields of a list's elements, each preceded by a comma, numbered from `i` on.
 abbrev pub more : {A : Type 0} → (A → Yield) → ℕ → ℕ → List A → Yield
 more yield d i [] = []
 more yield d i (x ∷ xs) = sign d signs.Comma ⨾ item_number i (yield x) ⨾ more yield d (suc i) xs
 
--- Returns the yields of the items, separated by commas.
+-- Returns the yields of a list's elements, separated by commas.
 abbrev pub separated : {A : Type 0} → (A → Yield) → ℕ → List A → Yield
 separated yield d [] = []
 separated yield d (x ∷ xs) = item_number 1 (yield x) ⨾ more yield d 2 xs
@@ -173,7 +173,7 @@ abbrev mutual
   initial d (Fields s rs es) = identifier d s ⨾ region_list d rs ⨾ sign d signs.LeftBrace ⨾ values (suc d) es ⨾ sign (suc d) signs.RightBrace
   initial d (Array p x n e) = sign d signs.LeftBrace ⨾ at (suc d) (Word words.For) p ⨾ identifier (suc d) x ⨾ sign (suc d) signs.Less ⨾ expression (suc d) n ⨾ sign (suc d) signs.Colon ⨾ expression (suc d) e ⨾ sign (suc d) signs.RightBrace
 
-  -- Returns the yield of the values of a struct's fields, which no limit counts.
+  -- Returns the yield of the values of a struct's fields; no limit of this project counts these values.
   pub values : ℕ → Expressions → Yield
   values d NoExpressions = []
   values d (MoreExpressions e es) = expression d e ⨾ more_values d es

@@ -116,7 +116,7 @@ impl Names {
         self.others.get(text).copied()
     }
 
-    /// Returns the number of interned names. The next new text gets this number.
+    /// Returns the number of interned names. The next new text gets as its number the number of names interned so far.
     pub fn len(&self) -> usize
         ensures { result ≡ length self.now }
     {

@@ -187,7 +187,7 @@ pub enum Postfix {
     Field { name: Ident },
 }
 
-/// The initial contents of an object made by `new` or `rnew`.
+/// The initial value or values of an object made by `new` or `rnew`.
 #[cycle(expression)]
 #[derive(Drop)]
 pub enum Initial {
@@ -257,7 +257,7 @@ pub enum Stmt {
         exception: Ident,
         value: Option<Expr>,
     },
-    /// A `try` statement. A `try` statement has at least one clause, including the default clause.
+    /// A `try` statement. A `try` statement has at least one catch clause, including the default clause.
     Try {
         span: Span,
         body: Box<Stmt>,
@@ -356,11 +356,11 @@ pub enum ParameterList {
     Listed { members: Vec<Member> },
 }
 
-/// The parameter list of a function, with its effect and its outlives constraints.
+/// The parameter list of a function, with its effect (the regions that must be live at a call) and its outlives constraints.
 #[derive(Drop)]
 pub struct Parameters {
     pub list: ParameterList,
-    /// The effect of the function, if one is written.
+    /// The effect of the function (the regions that must be live at a call), if one is written.
     pub effect: Option<Vec<Ident>>,
     pub constraints: Vec<Constraint>,
 }

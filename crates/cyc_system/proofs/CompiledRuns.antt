@@ -40,7 +40,7 @@ whole_run (stops.End end) budget count u w run few ended =
     (run_after_run count (budget - count) u w w run (ended_rests (budget - count) w end ended))
 whole_run stops.Spent budget count u w run few (none, all) = subst (λ (k : ℕ). Run k u w) all run
 
--- If the world has ended, the report says that the run stopped with the end of this world.
+-- If the run of the machine has ended in a state, the report says that the run stopped with the end of this state.
 stopped_at : (stop : Stop) (budget count : ℕ) (w : World) (end : End) → Stops stop budget count w → end_of w ≡ Some end → stop ≡ stops.End end
 stopped_at (stops.End e) budget count w end ended over = let same : Some e ≡ Some end = sym ended ∙ over in cc
 stopped_at stops.Spent budget count w end (none, all) over = absurd (let same : None ≡ Some end = sym none ∙ over in cc)

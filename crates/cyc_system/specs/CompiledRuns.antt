@@ -35,7 +35,7 @@ IsAsFar s seen stop =
 
 -- `AnswersAs` describes the result for this output and remaining input. With `each` instructions for each step of the program, and as
 -- many before the first step, a run is as far as the program. The result is never that the bytes are no image or that the machine has no
--- place for it.
+-- memory for it.
 abbrev pub AnswersAs : Program → Bounds → (input : List ℕ) → (each budget : ℕ) → Seen → Result Report RunFault → Type 0
 AnswersAs p limits input each budget seen (Ok report) =
     IsEndOf p limits input seen report.stop

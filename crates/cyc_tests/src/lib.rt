@@ -1,5 +1,5 @@
-//! This crate tests what neither a contract nor a case of the command-line suite covers. It tests public calls that no command makes, and
-//! devices and stores in states that no command reaches.
+//! This crate tests what neither a contract nor a case of the command-line suite covers. This crate tests public calls that no command
+//! makes, and devices and stores in states that no command reaches.
 #![tactic(auto)]
 
 #[cfg(test)]

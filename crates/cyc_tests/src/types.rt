@@ -28,7 +28,7 @@ fn expect_table<R: Abort>(rt: &R, alloc: Global, outlives: &Outlives, want: &str
     Some(())
 }
 
-/// Tests a lexical region, C, between an opened dynamic region, B, and an alias block, D.
+/// Tests the outlives relation while a dynamic region, B, a lexical region, C, and an alias block, D, are opened one inside the other.
 fn expect_scopes<R: Abort>(rt: &R, alloc: Global) -> Option<()> {
     let mut outlives = Outlives::new(alloc, &[], &[A, Region::Unique]).ok()?;
     outlives.open_scope(B, Kind::Dynamic).ok()?;

@@ -107,8 +107,7 @@ module _ (w : List (Region × Region)) (live : List Region) where
   leads-above [] a b h = h
   leads-above (s ∷ e) a b h = or_left (leads w live e a b) _ (leads-above e a b h)
 
-  -- a path over the newest scope implies three facts: its kind is outlived by live regions, the
-  -- path starts above a live region, and it reaches its end region
+  -- if a path from a to b crosses the newest scope, a reaches a live region, live regions outlive the scope's region, which reaches b
   pub newest-parts : (s : Scope) (e : List Scope) (a b : Region) →
       (is_outlived_by_live s.kind && above_one_of w (live_regions live e) a && leads w live e s.region b) ≡ true →
       (is_outlived_by_live s.kind ≡ true) × (above_one_of w (live_regions live e) a ≡ true) × (leads w live e s.region b ≡ true)

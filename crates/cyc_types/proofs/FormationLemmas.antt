@@ -1,4 +1,4 @@
--- Lemmas about the loops over the parts of a type as written in the source.
+-- Lemmas about the loops over the pointer signs (`*`, `@`, `?`) of a type as written in the source.
 use Rattle.std.proofs.Common.{◌≡◌, ℕ, ◌+◌, ◌-◌, ◌<◌, List, [], ◌∷◌, length, map, drop, refl, sym, ap, ◌∙◌, arith}
 use Rattle.std.proofs.lemmas.List.{length-drop}
 use Rattle.cyc_syntax.specs.declared.tree.Pointer.{Pointer as PointerCode}
@@ -10,11 +10,11 @@ use Rattle.cyc_types.specs.typing.Scopes.{RegionName}
 use Rattle.cyc_types.specs.typing.Formation.{region_or, left_out_at, pointers_written}
 use Rattle.cyc_types.specs.inside.WrittenMarks.{left_out_by}
 
--- says that applying the pointer marks from index i on to the first type gives the second type
+-- says that wrapping the type `t` in the pointer signs (`*`, `@`, `?`) from index i of the list on gives the type `whole`
 abbrev pub MarksLeft : List RegionName → Region → List PointerCode → (i : ℕ) → Ty → Ty → Type 0
 MarksLeft names outermost ms i t whole = pointers_written names outermost t (map view_pointer (drop i ms)) ≡ whole
 
--- the default for an omitted region annotation depends only on the number of pointer marks after it
+-- the default region for an omitted region annotation depends only on the number of pointer signs (`*`, `@`, `?`) after it
 left_out : (outermost : Region) (ms : List PointerCode) → left_out_at outermost (map view_pointer ms) ≡ left_out_by outermost (length ms)
 left_out outermost [] = refl
 left_out outermost (m ∷ ms) = refl

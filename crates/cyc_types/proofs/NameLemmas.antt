@@ -21,7 +21,7 @@ in_range table bs old b f e = get_or_within table b.name b.region (f.0 b.name �
 
 -- ---- sets of names
 
--- after all names in a list are removed from the table of flags, the table flags no name
+-- if a table of booleans is true exactly for the names in a list, it is true for no name once all these names are removed
 pub none_left : (table : List Bool) (names : List ℕ) (left : List Bool) (x : ℕ) → get_or table x false ≡ list_any (nat_eq x) (reverse names)
     → get_or left x false ≡ (not (list_any (nat_eq x) names) && get_or table x false) → get_or left x false ≡ false
 none_left table names left x known is =

@@ -1,4 +1,4 @@
--- Lemmas: the position at which a region's oldest scope was opened decides liveness and the outlives relation.
+-- Lemmas: the index of a region's oldest open scope decides whether the region is live and which regions outlive it.
 use Rattle.std.proofs.Common.{◌≡◌, ◌⊎◌, inl, inr, ℕ, zero, suc, ◌+◌, ◌<◌, ◌≤◌, Bool, true, false, ◌&&◌, ◌||◌, not, List, [], ◌∷◌, ◌++◌, reverse, length, take, refl, ap, sym, ◌∙◌, subst, arith}
 use Rattle.std.specs.List.{list_any}
 use Rattle.std.proofs.lemmas.Bool.{or_cases, or_left, or_right, and_parts, and_from, false_from_ne_true, cases_lt, true_from_ne_false}
@@ -22,7 +22,7 @@ use Rattle.cyc_types.proofs.TableLemmas.{eq_true_at}
 abbrev default : Scope
 default = record { region = Heap; kind = Block }
 
--- if a test holds for one of the n oldest scopes, it holds for the scope at some index below n
+-- if a predicate holds for one of the n oldest scopes, it holds for the scope at some index below n
 any-place : (p : Scope → Bool) (n : ℕ) (scopes : List Scope) → list_any p (take n scopes) ≡ true →
     (i : ℕ) × (i < n) × (i < length scopes) × (p (scope_at scopes i) ≡ true)
 any-place p zero scopes h = cc
@@ -101,7 +101,7 @@ module _ (live : List Region) (scopes : List Scope) where
 
 module _ (w : List (Region × Region)) (live : List Region) (openings : List ℕ) (scopes : List Scope) (n : ℕ)
     (order : IsInOrder w live openings scopes n) where
-  -- a region that was not live at the function's start is not live among the `count` oldest scopes if none of these opened it
+  -- a region not live at the function's start is not live while only the `count` oldest scopes are open, if none of these opened it
   pub live-missed : (count : ℕ) (r : Region) → count ≤ n → is_region_among r live ≡ false →
       (opening_of openings r < count → region_eq (scope_at scopes (opening_of openings r)).region r ≡ false) →
       is_region_among r (live_before live scopes count) ≡ false
@@ -221,7 +221,7 @@ module _ (w : List (Region × Region)) (live : List Region) (openings : List ℕ
 -- ---- opening and closing of scopes
 
 module _ (w : List (Region × Region)) (live : List Region) where
-  -- "the scope at index i is in order" depends only on the scopes up to index i
+  -- the condition that the table of opening indexes fits the scope at index i depends only on the scopes up to index i
   orderly-same : (openings : List ℕ) (xs ys : List Scope) (i : ℕ) → ((j : ℕ) → j ≤ i → scope_at xs j ≡ scope_at ys j) → take i xs ≡ take i ys →
       IsOrderly w live openings xs i → IsOrderly w live openings ys i
   orderly-same openings xs ys i at older o =
@@ -242,7 +242,7 @@ module _ (w : List (Region × Region)) (live : List Region) where
             (subst (λ (s : Scope). is_region_among s.region (live_before live xs i) ≡ false) e (o.fresh (back k)));
       }
 
-  -- opening one more scope keeps the older scopes in the order that the table of positions requires
+  -- if the table of opening indexes fits all open scopes, it still fits the older scopes after one more scope opens
   pub in_order-more : (openings : List ℕ) (scopes : List Scope) (s : Scope) (n : ℕ) → IsInOrder w live openings scopes n →
       IsInOrder w live openings (scopes ++ s ∷ []) n
   in_order-more openings scopes s n o = record {
@@ -253,7 +253,8 @@ module _ (w : List (Region × Region)) (live : List Region) where
         (o.each i lt);
   }
 
-  -- storing the opening position of a region that is not live keeps the scopes in the order that `IsInOrder` requires
+  -- if the index of a not yet live region's opening is stored, the table of opening indexes still fits all open
+  -- scopes as `IsInOrder` requires
   pub in_order-noted : (openings noted : List ℕ) (scopes : List Scope) (n : ℕ) (region : Region) → IsInOrder w live openings scopes n →
       is_region_among region (live_before live scopes (length scopes)) ≡ false →
       ((r : Region) → region_eq region r ≡ false → opening_of noted r ≡ opening_of openings r) →
@@ -305,7 +306,7 @@ module _ (w : List (Region × Region)) (live : List Region) where
               (subst (λ (z : Scope). is_outlived_by_live z.kind ≡ true → is_region_among z.region (live_before live scopes (length scopes)) ≡ false) it fresh);
         }
 
-    -- if the region of a newly opened scope is already live, the scopes including the new one are in order
+    -- if the region of a newly opened scope is already live, the table of opening indexes fits all scopes including the new one
     pub in_order-known : is_outlived_by_live s.kind ≡ false → is_region_among s.region (live_before live scopes (length scopes)) ≡ true →
         IsInOrder w live openings (scopes ++ s ∷ []) (length scopes + 1)
     in_order-known not_outlived known = in_order-next
@@ -329,7 +330,7 @@ module _ (w : List (Region × Region)) (live : List Region) where
         (λ k. absurd (never_true_and_false k not_outlived))
         (λ k. absurd (never_true_and_false k not_outlived))
 
-    -- if the region of a newly opened scope is not yet live, the scopes including the new one are in order
+    -- if the region of a newly opened scope is not yet live, the table of opening indexes fits all scopes including the new one
     pub in_order-new : opening_of openings s.region ≡ length scopes →
         (is_outlived_by_live s.kind ≡ true → (b : Region) → above w s.region b ≡ region_eq s.region b) →
         is_region_among s.region (live_before live scopes (length scopes)) ≡ false →

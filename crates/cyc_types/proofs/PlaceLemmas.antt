@@ -1,4 +1,5 @@
--- Lemmas about a table of constraint positions: a constraint added at the front is the first constraint of its region.
+-- Lemmas about a table with the index of each region's first constraint: a constraint added at the front becomes the
+-- first constraint of its region.
 use Rattle.std.proofs.Common.{◌≡◌, inl, inr, ℕ, ◌+◌, ◌<◌, cond, List, [], ◌∷◌, length, get_or, drop, Option, Some, None, refl, ap, sym, ◌∙◌, subst}
 use Rattle.std.proofs.lemmas.Bool.{cases_Bool, true≢false, cond-true, cond-false}
 use Rattle.std.proofs.lemmas.List.{drop_more, get_or_default}

@@ -22,7 +22,7 @@ use Rattle.cyc_types.specs.Weight.{program_weight}
 abbrev at : ℕ → Place
 at n = record { line = 1; column = n }
 
--- the identifier texts of the example programs, in the order of their numbers
+-- the texts of the identifiers in the example programs; an identifier's number is the index of its text in this list
 abbrev texts : List (List ℕ)
 texts = codes "main" ∷ codes "x" ∷ codes "a" ∷ codes "v" ∷ codes "putchar" ∷ codes "getchar" ∷ []
 
@@ -56,7 +56,7 @@ one e = MoreExpressions e NoExpressions
 abbrev only : Item → Items
 only i = MoreItems i NoItems
 
--- the declaration of `int main(){ .. }` with the given body items, whose closing brace is at the given column
+-- the declaration of `int main(){ .. }` with the given declarations and statements in its body, whose closing brace is at the given column
 abbrev main_of : Items → ℕ → Declaration
 main_of is q = Function (Some (int 1)) (main 5) (parameters []) (Braces (at 11) is (at q))
 

@@ -1,5 +1,5 @@
--- A rule has three readings, and they agree. The values that a rule derives and the faults that it rejects with are exactly the
--- results of the checker.
+-- A typing or flow rule has three readings that agree: the values that it derives, the faults with which it rejects, and the
+-- checker's result. The values that a rule derives and the faults with which it rejects are exactly the results of the checker.
 use Rattle.std.proofs.Common.{◌≡◌, ℕ, ◌<◌, ◌≤◌, Bool, true, false, cond, nat_lt, ◌⊎◌, List, [], ◌∷◌, ◌++◌, Option, Some, None, Ok, Err, inl, inr, refl, sym, ap, subst, ◌∙◌, arith}
 use Rattle.std.proofs.lemmas.Bool.{ltb-false}
 use Rattle.cyc_words.specs.declared.fault.Fault.{Fault}
@@ -104,7 +104,8 @@ pub data Settles (ds : List Demand) : Option Fault → Type 0 where
   none_broken : AllKept ds → Settles ds None
   broken : {f : Fault} → IsFaultOf ds f → Settles ds (Some f)
 
--- the possible results of a fold over demands that starts with a known fault: the known fault, or a demand's fault with a lower code
+-- the possible results of a fold over requirements that starts with an earlier fault: that fault, or the fault of a requirement with
+-- a lower code
 data From (e : Fault) (ds : List Demand) : Option Fault → Type 0 where
   same : AreNotBelow (number_of e.code) ds → From e ds (Some e)
   lower : {f : Fault} → IsFaultOf ds f → number_of f.code < number_of e.code → From e ds (Some f)

@@ -1,4 +1,4 @@
--- Lemmas about the search over open scopes, from the oldest scope to the newest.
+-- Lemmas about the search through the open scopes, from the oldest to the newest, for a path in the outlives relation.
 use Rattle.std.proofs.Common.{◌≡◌, ℕ, ◌+◌, ◌<◌, Bool, true, false, ◌&&◌, ◌||◌, not, List, [], ◌∷◌, ◌++◌, map, reverse, length, get_or, take, drop, refl, ap, sym, ◌∙◌, subst, arith, ◌↔◌, Option, Some}
 use Rattle.std.specs.Prelude.{IsTrue}
 use Rattle.std.specs.Option.{ForSome}
@@ -16,7 +16,7 @@ use Rattle.cyc_types.specs.Outlives.{RegionContext, OutlivesIn, live_regions, is
 use Rattle.cyc_types.specs.Closure.{above, above_one_of, above_one_opened, leads, is_outliving, is_above_known, HasNoUnique}
 use Rattle.cyc_types.proofs.ClosureLemmas.{newest-from, outliving-sound, outliving-complete}
 
--- a region has a path to a live region exactly if it has a path to the region of an open scope or to a region live before any scope
+-- a region has a path to a live region exactly if it has one to an open scope's region or to one live before any opened
 pub live-split : (w : List (Region × Region)) (live : List Region) (scopes : List Scope) (a : Region) →
     above_one_of w (live_regions live (reverse scopes)) a ≡ (above_one_opened w scopes a || above_one_of w live a)
 live-split w live scopes a =
@@ -97,7 +97,7 @@ module _ (w : List (Region × Region)) (live : List Region) where
       taken p false u r q known e k s within = cc
       taken p true u false q known e k s within = cc
 
-  -- a region with a path to the regions live before one scope also has a path to the regions live before the next scope
+  -- a region with a path to the regions live before one scope opened also has a path to those live before the next scope opened
   pub live-more : (scopes : List Scope) (i : ℕ) (d : Scope) (x : Region) → i < length scopes →
       above_one_of w (live_regions live (reverse (take i scopes))) x ≡ true →
       above_one_of w (live_regions live (reverse (take (i + 1) scopes))) x ≡ true
@@ -106,8 +106,8 @@ module _ (w : List (Region × Region)) (live : List Region) where
       (or_right (not (region_eq (get_or scopes i d).region Unique) && above w x (get_or scopes i d).region)
       (above_one_of w (live_regions live (reverse (take i scopes))) x) u)
 
--- Invariant of the search: the oldest i scopes have been visited, the regions with a path to b over these
--- scopes are known, and region a has no such path.
+-- Invariant of the search for paths to region b: the oldest i scopes are visited, regions with a path
+-- over these scopes are recorded, and region a has none.
 pub record IsSearched (w : List (Region × Region)) (live : List Region) (scopes : List Scope) (i : ℕ) (known : Option ℕ) (a b : Region) : Type 0 where
   pub same : (x : Region) → leads w live (reverse (take i scopes)) x b ≡ (above w x b || is_above_known w live scopes known x)
   pub within : (x : Region) → is_above_known w live scopes known x ≡ true →
@@ -117,7 +117,7 @@ pub record IsSearched (w : List (Region × Region)) (live : List Region) (scopes
 
 module _ (w : List (Region × Region)) (live : List Region) (scopes : List Scope) (i : ℕ) (known : Option ℕ) (a b : Region)
     (before : IsSearched w live scopes i known a b) (d : Scope) (h : i < length scopes) where
-  -- the search invariant holds after the next scope if a path leads over that scope to b
+  -- the invariant of the search for paths to region b holds after the next scope is visited, if a path leads over that scope to b
   pub searched-taken : is_outlived_by_live (get_or scopes i d).kind ≡ true →
       (above w (get_or scopes i d).region b || is_above_known w live scopes known (get_or scopes i d).region) ≡ true →
       above_one_of w (live_regions live (reverse (take i scopes))) a ≡ false →
@@ -130,7 +130,7 @@ module _ (w : List (Region × Region)) (live : List Region) (scopes : List Scope
     bound = λ x e. let q : i ≡ x = cc in omega (arith, q, h);
   }
 
-  -- the search invariant holds after the next scope if no path leads over that scope to b
+  -- the invariant of the search for paths to region b holds after the next scope is visited, if no path leads over that scope to b
   pub searched-passed :
       (is_outlived_by_live (get_or scopes i d).kind
       && (above w (get_or scopes i d).region b || is_above_known w live scopes known (get_or scopes i d).region)) ≡ false →

@@ -48,7 +48,8 @@ open-leads (c ∷ cs) h a b =
 same_pair : (p q : Region × Region) → p.0 ≡ q.0 → p.1 ≡ q.1 → p ≡ q
 same_pair (a, b) (x, y) l m = cc
 
--- after the loop adds an entry for the next constraint, the table lists one more pair; the new entry has not been closed yet
+-- after the loop adds an entry for the next outlives constraint, the table lists one more pair; transitivity is not yet
+-- applied to this entry
 pub push_open : (cs : List Constraint) (w : List (Region × Region)) (i : ℕ) (d : Region × Region) (c : Constraint) (new : List Constraint) →
     i < length w → written_in cs ≡ take i w → AreOpen cs → new ≡ cs ++ c ∷ [] →
     c.longer ≡ (get_or w i d).0 → c.shorter ≡ (get_or w i d).1 → c.outlived ≡ [] →
@@ -67,7 +68,7 @@ pub record EntryStep (via : Region) (below : List Region) (old new : Constraint)
   pub shorter : new.shorter ≡ old.shorter
   pub leads : (b : Region) → entry_leads new b ≡ (entry_leads old b || (entry_leads old via && is_region_among b below))
 
--- says that the first n entries of the constraint table have been extended
+-- says that the transitive closure step for the region `via` has been applied to the first n entries of the constraint table
 abbrev pub SteppedTo : Region → List Region → ℕ → List Constraint → List Constraint → Type 0
 SteppedTo via below zero old new = new ≡ old
 SteppedTo via below (suc n) [] new = new ≡ []
@@ -120,7 +121,7 @@ has_entry-stepped via below (c ∷ cs) (k ∷ ks) a s =
     let r = has_entry-stepped via below cs ks a s.1 in
     rw (l, r)
 
--- gives the entry of a region in the constraint table after the entry has been extended
+-- gives the entry of a region in the constraint table after one step of transitive closure has extended the entry
 stepped-entry : (via : Region) (below : List Region) (old new : List Constraint) (a b : Region) →
     SteppedTo via below (length old) old new → has_entry old a ≡ true →
     table_leads new a b ≡ (table_leads old a b || (table_leads old a via && is_region_among b below))

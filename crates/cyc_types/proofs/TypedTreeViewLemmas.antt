@@ -1,4 +1,4 @@
--- The mathematical view of a typed node that holds lists of nodes, computed from the contents of the node's `Vec`s.
+-- The mathematical view of a typed node that holds lists of nodes, computed from the nodes stored in its `Vec`s.
 use Rattle.std.proofs.Common.{◌≡◌, ℕ, List, Option, None, Some, refl, sym, ap, ◌∙◌}
 use Rattle.std.specs.declared.vec.Vec.{Vec}
 use Rattle.std.specs.declared.boxed.Box.{Box}

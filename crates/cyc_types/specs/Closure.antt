@@ -22,7 +22,7 @@ above_one_of written regions a = list_any (λ r. not (region_eq r Unique) && abo
 abbrev pub above_one_opened : List (Region × Region) → List Scope → Region → Bool
 above_one_opened written scopes a = list_any (λ s. not (region_eq s.region Unique) && above written a s.region) scopes
 
--- returns true if a path of the pairs and the open scopes (newest first) leads from region a to region b
+-- returns true if a path leads from region a to region b over pairs of the list and pairs that open scopes (newest first) add
 abbrev pub leads : List (Region × Region) → List Region → List Scope → Region → Region → Bool
 leads written live [] a b = above written a b
 leads written live (s ∷ earlier) a b =
@@ -47,7 +47,7 @@ is_outliving c a b =
 abbrev pub entry_leads : Constraint → Region → Bool
 entry_leads c b = region_eq c.longer b || is_region_among b c.outlived
 
--- returns true if the table records that region a outlives region b; the first entry of a decides
+-- returns true if the table records that region a outlives region b; the first entry for region a decides
 abbrev pub table_leads : List Constraint → Region → Region → Bool
 table_leads [] a b = region_eq a b
 table_leads (c ∷ cs) a b = (if region_eq c.longer a then entry_leads c b else table_leads cs a b)

@@ -1,6 +1,6 @@
--- A record of demands states a condition for each kind of node of a typed tree that any such record restricts. Nodes of all other kinds
--- satisfy the demands if their parts satisfy them. Each form of the language has one line in this file, shared by all records of demands.
--- Demands as records are this project's own choice.
+-- A record of requirements (`Demands`) has one condition for each kind of typed tree node that some such record restricts. A node of any
+-- other kind satisfies a record of requirements if all its subtrees satisfy the record. Each form of the language has one line in this
+-- file, which all records of requirements share. Demands as records are this project's own choice.
 use Rattle.std.specs.Prelude.{ℕ, List, [], ◌∷◌, Option, Some, None}
 use Rattle.cyc_types.specs.declared.typed.PointerOperator.{PointerOperator}
 use Rattle.cyc_types.specs.TypedTrees.{Expression, Number, Load, AddressOfCell, NumberOfElements, FreeUnique, FreeKey, Call, Unary, Binary, Assign, Store, New, Dereference, Target, Member, Element, Placement, OnHeap, AsUnique}
@@ -8,7 +8,7 @@ use Rattle.cyc_types.specs.TypedTrees.{ByHandle, Initial, Plain, Fields, Array, 
 use Rattle.cyc_types.specs.TypedTrees.{VariableSide, CellSide, Statement, Block, Evaluate, Swap, If, While, Return, Throw, Try, Items, NoItems, MoreItems, Execute, Declare, Clauses, NoClauses, Default, Case, Function}
 
 pub record Demands : Type 1 where
-  -- the condition on the value of a constant
+  -- the condition on the value of an integer or character constant in a typed tree
   pub number : ℕ → Type 0
   -- the condition on the field values of a new struct
   pub fields : Arguments → Type 0
@@ -41,7 +41,7 @@ module _ (d : Demands) where
     CellMeets (Member k a s f t) = Meets a
     CellMeets (Element a i t) = Meets a × Meets i
 
-    -- says that the handle of `rnew` satisfies the demands
+    -- says that the handle expression of `rnew` satisfies a record of requirements on typed tree nodes
     pub PlacementMeets : Placement → Type 0
     PlacementMeets OnHeap = Unit {0}
     PlacementMeets AsUnique = Unit {0}
@@ -70,12 +70,12 @@ module _ (d : Demands) where
   SideMeets (VariableSide l t) = Unit {0}
   SideMeets (CellSide x) = CellMeets x
 
-  -- says that an optional value satisfies the demands; a missing value does
+  -- says that an optional initial value satisfies the requirements on its nodes; a missing value always satisfies them
   abbrev pub ValueMeets : Option Converted → Type 0
   ValueMeets None = Unit {0}
   ValueMeets (Some c) = ConvertedMeets c
 
-  -- says that the int of a thrown exception satisfies the demands; an exception without an int does
+  -- says that the int of a thrown exception satisfies the requirements on its nodes; an exception without an int always satisfies them
   abbrev pub ThrownMeets : Option Expression → Type 0
   ThrownMeets None = Unit {0}
   ThrownMeets (Some a) = Meets a
@@ -105,7 +105,7 @@ module _ (d : Demands) where
     ClausesMeet (Default r js) = ItemsMeet js
     ClausesMeet (Case tag x r js cs) = d.exception tag × ItemsMeet js × ClausesMeet cs
 
-  -- says that the bodies of all functions satisfy the demands
+  -- says that the bodies of all functions satisfy a record of requirements on typed tree nodes
   abbrev pub FunctionsMeet : List Function → Type 0
   FunctionsMeet [] = Unit {0}
   FunctionsMeet (h ∷ hs) = ItemsMeet h.body × FunctionsMeet hs

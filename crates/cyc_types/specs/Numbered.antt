@@ -1,4 +1,5 @@
--- The ranges of the numbers in a typed tree that later passes require. The ranges are this project's own choice.
+-- The ranges of the numbers of globals, functions, locals and regions in a typed tree that later passes require.
+-- The ranges are this project's own choice.
 use Rattle.std.specs.Prelude.{◌≡◌, ℕ, suc, ◌+◌, ◌<◌, List, [], ◌∷◌, Option, Some, map, length, slice_get}
 use Rattle.cyc_types.specs.declared.typed.Callee.{Callee}
 use Rattle.cyc_types.specs.declared.typed.Callee.TheVariants as callees
@@ -10,7 +11,7 @@ use Rattle.cyc_types.specs.typing.WellTyped.{signature_of}
 abbrev pub signatures_of : List Function → List Signature
 signatures_of hs = map signature_of hs
 
--- the counts of declared entities, which bound the numbers in a typed tree
+-- the counts of declared globals, functions, locals and regions, below which their numbers in a typed tree lie
 pub record Numbering : Type 0 where
   pub globals : ℕ
   pub functions : List Signature
@@ -19,7 +20,7 @@ pub record Numbering : Type 0 where
   pub regions : ℕ
   pub result : Option Ty
 
--- says that a callee has the signature, according to a numbering of declared entities
+-- says that a called function has the given signature, according to the list of the program's functions
 abbrev pub IsSignature : Numbering → Callee → Signature → Type 0
 IsSignature b callees.Putchar s = s ≡ signature_of_ints (Int ∷ [])
 IsSignature b callees.Getchar s = s ≡ signature_of_ints []

@@ -37,7 +37,8 @@ IsLiveAtOpening live (s ∷ earlier) a b =
     ((is_outlived_by_live s.kind ≡ true) × (b ≡ s.region) × (a ≢ Unique) × Contains (live_regions live earlier) a)
     ⊎ IsLiveAtOpening live earlier a b
 
--- says that a pair of regions is a generator of the outlives relation: a constraint, a scope's pair, or the heap over any region
+-- says that a pair of regions generates the outlives relation: a constraint, a live region with a later scope's region, or the
+-- heap with any non-unique region
 abbrev pub IsGiven : RegionContext → Region → Region → Type 0
 IsGiven c a b =
     ((a ≡ Heap) × (b ≢ Unique)) ⊎ (Contains c.written (a, b) ⊎ IsLiveAtOpening c.live c.opened a b)

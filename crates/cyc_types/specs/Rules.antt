@@ -1,7 +1,8 @@
 -- A typing or flow rule is a value with three readings: the results it derives, the faults it rejects with, and the result of a checker.
--- The three readings agree for every rule (`proofs/RuleLaws`). The rule of a construct has demands of its own and parts. The parts of a
--- construct are checked first, in order. If a construct breaks several demands, the one with the lowest code is reported. Among several
--- broken demands with the lowest code, the first is reported. (The order of evaluation is this project's own choice.)
+-- The three readings of a rule agree for every rule (`proofs/RuleLaws`). The rule of a construct has requirements of its own (demands)
+-- and rules for its subtrees (parts). The subtrees of a construct are checked first, in order. If a construct breaks several
+-- requirements, the one with the lowest fault code is reported. Among several broken requirements with the lowest fault code, the first
+-- in the list is reported. (The order of evaluation is this project's own choice.)
 use Rattle.std.specs.Prelude.{◌≡◌, ◌⊎◌, ℕ, ◌<◌, ◌≤◌, Bool, true, false, nat_lt, if◌then◌else◌, List, [], ◌∷◌, ◌++◌, Option, Some, None, Result, Ok, Err}
 use Rattle.cyc_words.specs.declared.fault.Code.{Code}
 use Rattle.cyc_words.specs.declared.fault.Fault.{Fault}
@@ -20,7 +21,7 @@ fault_at c p = record { code = c; line = p.line; column = p.column }
 
 -- ---- demands
 
--- a demand of a construct: the code of its fault, its source position, and whether it is satisfied
+-- a requirement of a typing or flow rule: the code of the fault if it is broken, its source position, and whether it is satisfied
 pub record Demand : Type 0 where
   pub code : Code
   pub place : Place
@@ -36,17 +37,17 @@ abbrev pub AllKept : List Demand → Type 0
 AllKept [] = Unit {0}
 AllKept (d ∷ ds) = (d.kept ≡ true) × AllKept ds
 
--- says that each demand in a list is satisfied or has a fault code higher than n
+-- says that each requirement in a list is satisfied or has a fault code higher than n
 abbrev pub AreAbove : ℕ → List Demand → Type 0
 AreAbove n [] = Unit {0}
 AreAbove n (d ∷ ds) = ((d.kept ≡ true) ⊎ (n < number_of d.code)) × AreAbove n ds
 
--- says that each demand in a list is satisfied or has a fault code of at least n
+-- says that each requirement in a list is satisfied or has a fault code of at least n
 abbrev pub AreNotBelow : ℕ → List Demand → Type 0
 AreNotBelow n [] = Unit {0}
 AreNotBelow n (d ∷ ds) = ((d.kept ≡ true) ⊎ (n ≤ number_of d.code)) × AreNotBelow n ds
 
--- says that a fault is that of the broken demand with the lowest code; if several have that code, the first one
+-- says that a fault is that of the broken requirement with the lowest fault code; if several have that code, the first one
 abbrev pub IsFaultOf : List Demand → Fault → Type 0
 IsFaultOf ds f =
     (before : List Demand) × (d : Demand) × (after : List Demand) × (ds ≡ before ++ (d ∷ after)) × (d.kept ≡ false)
@@ -57,7 +58,7 @@ abbrev pub lesser : Option Fault → Fault → Option Fault
 lesser None f = Some f
 lesser (Some e) f = if nat_lt (number_of f.code) (number_of e.code) then Some f else Some e
 
--- returns the fault known after checking one more demand, given the fault known before
+-- returns the fault with the lowest code found so far, after checking one more requirement; the first argument is the fault found before
 abbrev pub noted : Option Fault → Demand → Option Fault
 noted known d = if d.kept then known else lesser known (fault_of d)
 
@@ -70,16 +71,16 @@ settled known (d ∷ ds) = settled (noted known d) ds
 pub data Rule : Type 0 → Type 1 where
   -- a rule that derives no value and reports the given fault
   Refused : {A : Type 0} → Fault → Rule A
-  -- a rule that derives the given value if all of its demands are satisfied
+  -- a typing or flow rule that derives the given value if all of its requirements are satisfied
   Own : {A : Type 0} → List Demand → A → Rule A
-  -- a rule that checks a part and then continues with a rule that depends on the part's result
+  -- a rule that first applies another rule to a subtree, and then continues with a rule that depends on its result
   Part : {A B : Type 0} → Rule B → (B → Rule A) → Rule A
 
--- a rule that derives the given value without any demand
+-- a typing or flow rule that derives the given value without any requirement
 abbrev pub gives : {A : Type 0} → A → Rule A
 gives a = Own [] a
 
--- a rule that only checks demands, and derives the unit value
+-- a rule that derives no tree but only checks requirements; its value is the unit value
 abbrev pub demands : List Demand → Rule (Unit {0})
 demands ds = Own ds tt
 

@@ -1,7 +1,7 @@
--- Properties of typed programs that come from source texts, beyond the demands of the typing rules. A struct has few fields, because the
--- lists of a source text are short. The number of an exception is a word, because a source text has few tokens. A chain of pointer
--- arithmetic contains no comparison, because `+` and `-` bind more tightly than comparisons. These properties
--- are this project's own choice.
+-- Properties of typed programs that come from source texts, beyond the requirements of the typing rules. A struct has few fields,
+-- because the lists of a source text are short. The number of an exception fits a 32-bit word, because a source text has few tokens. A
+-- chain of pointer arithmetic contains no comparison, because `+` and `-` bind more tightly than comparisons. These properties are this
+-- project's own choice.
 use Rattle.std.specs.Prelude.{◌≡◌, ◌≤◌, Bool, true, false, not, ◌&&◌}
 use Rattle.cyc_words.specs.Word.{IsWord}
 use Rattle.cyc_syntax.specs.Grammar.{max_items}
@@ -26,7 +26,7 @@ are_sums (ThenPointer o a os) = not (is_comparison o) && are_sums os
 are_sums (ThenPointerPeek n o a os) = not (is_comparison o) && are_sums os
 are_sums os = false
 
--- returns true unless an operator is pointer arithmetic and is followed by an operation of another kind
+-- returns true unless an operator is pointer arithmetic and an operation that is not pointer arithmetic follows it
 abbrev pub stands_alone : PointerOperator → Operations → Bool
 stands_alone pointers.AddFat os = are_sums os
 stands_alone pointers.SubtractFat os = are_sums os
@@ -34,7 +34,7 @@ stands_alone o os = true
 
 -- ---- programs
 
--- the demands that typed programs of source texts satisfy; for instance, a struct has from 1 to 64 fields
+-- the requirements that typed programs of source texts satisfy; for instance, a struct has from 1 to 64 fields
 abbrev pub text_demands : Demands
 text_demands = record {
   number = λ n. Unit {0};

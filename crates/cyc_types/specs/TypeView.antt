@@ -1,4 +1,5 @@
--- The mathematical view of the code's types; the view omits the memory layout. The view of types is this project's own choice.
+-- The mathematical view of the compiler's data type for Cyclone types; the view omits the memory layout. The view of types is
+-- this project's own choice.
 use Rattle.cyc_types.specs.declared.ty.Ty.{Ty as TyCode}
 use Rattle.cyc_types.specs.declared.ty.Ty.TheVariants as ty
 use Rattle.cyc_types.specs.declared.typed.ValueType.{ValueType as ValueTypeCode}

@@ -1,4 +1,5 @@
--- The mathematical view of the code's typed trees; the view omits the memory layout. The view of typed trees is this project's own choice.
+-- The mathematical view of the compiler's data structure for typed trees; the view omits the memory layout. The view of typed trees is
+-- this project's own choice.
 use Rattle.std.specs.Prelude.{List, [], ◌∷◌, map, Option, None, Some, option_map}
 use Rattle.cyc_syntax.specs.Symbols.{place_of_span}
 use Rattle.cyc_types.specs.TypeView.{view_ty, view_value_type}
@@ -91,7 +92,7 @@ abbrev mutual
 abbrev pub view_converted : ConvertedCode → Converted
 view_converted c = Convert c.from c.to (view_expression c.value)
 
--- the mathematical views of lists of tree nodes, computed from the contents of a `Vec`
+-- the mathematical views of lists of typed tree nodes, computed from the nodes stored in a `Vec`
 
 abbrev pub arguments_of : List ConvertedCode → Arguments
 arguments_of [] = NoArguments

@@ -2,8 +2,8 @@
 -- conversion is an explicit node, and parentheses are removed. A node stores its source position if a later pass may report a fault there.
 --
 -- The meaning of a typed tree depends neither on an environment of names nor on the types of operands. A typed tree has distinct nodes
--- for the different uses of a variable (copy, move, peek), and for the kinds of an operator's operands. (The form of typed trees is this
--- project's own choice.)
+-- for copying a variable, moving it, and reading a unique pointer that stays in its local (peek). A typed tree also has distinct nodes
+-- for the kinds of an operator's operands. (The form of typed trees is this project's own choice.)
 use Rattle.std.specs.Prelude.{ℕ, Bool, List, Option, None, Some}
 use Rattle.cyc_syntax.specs.Symbols.{Place}
 use Rattle.cyc_types.specs.declared.region.Region.{Region}
@@ -65,11 +65,11 @@ mutual
     -- `new` or `rnew`: allocates a new object; the node stores the type of the pointer to the object
     New : Placement → Initial → Ty → Expression
 
-  -- A memory cell reached through a pointer, with the type of its content.
+  -- A memory cell reached through a pointer, with the type of the value stored in the cell.
   pub data Dereference : Type 0 where
-    -- `*e`, where e is a pointer of the given kind
+    -- `*e`, where e is a pointer with the given representation kind
     Target : (pointer : Kind) → Expression → Ty → Dereference
-    -- `e->f`, with the number of the struct and the number of the field
+    -- the struct field `e->f`, with the index of the struct and the index of the field
     Member : (pointer : Kind) → Expression → (struct field : ℕ) → Ty → Dereference
     -- the element `e[i]`
     Element : Expression → (index : Expression) → Ty → Dereference
@@ -83,14 +83,14 @@ mutual
     -- the region of a handle, chosen by `rnew(e)`
     ByHandle : Expression → Placement
 
-  -- the initial contents of a new object
+  -- the initial values in a new object
   pub data Initial : Type 0 where
-    -- initial contents that are a single value of the given kind
+    -- an initial value that is a single value of the given representation kind (int, char, pointer, ..)
     Plain : Kind → Expression → Initial
-    -- initial contents that are the fields of a struct, in order
+    -- the initial values of all fields of a new struct, in order
     Fields : Arguments → Initial
-    -- `{for i < length : element}`: the variable is the counter of the given level, the elements have the given kind, and the position
-    -- is that of `for`
+    -- `{for i < length : element}`: the loop counter of the given nesting level, the elements' representation kind, and the source
+    -- position of `for`
     Array : Place → (level : ℕ) → (length : Expression) → Kind → (element : Expression) → Initial
 
   -- an expression whose value is converted after its evaluation
@@ -110,7 +110,8 @@ mutual
     ThenTest : LogicalOperator → Expression → Operations → Operations
     -- an operation whose left operand is a pointer or `NULL`
     ThenPointer : PointerOperator → Expression → Operations → Operations
-    -- an operation whose left operand is a peek of a local; the local must not change while the right operand is evaluated
+    -- an operation whose left operand is a unique pointer that stays in its local; the local must not change while the
+    -- right operand is evaluated
     ThenPointerPeek : (number : ℕ) → PointerOperator → Expression → Operations → Operations
 
 abbrev pub type_of_place : Dereference → Ty
@@ -144,7 +145,7 @@ type_of (Assign l c t) = t
 type_of (Store d c t) = t
 type_of (New w i t) = Value t
 
--- the local at which an access to a memory cell peeks for its pointer, or `None`
+-- the local from which an access to a memory cell reads its unique pointer without emptying the local, or `None`
 abbrev pub peeked : Dereference → Option ℕ
 peeked (Target k (Peek p n u) t) = Some n
 peeked (Member k (Peek p n u) s f t) = Some n
@@ -153,14 +154,14 @@ peeked d = None
 
 -- ---- statements
 
--- one side of a swap: a variable with its type, or a memory cell reached through a pointer
+-- the left or right operand of a swap: a variable with its type, or a memory cell reached through a pointer
 pub data Side : Type 0 where
   VariableSide : Lvalue → Ty → Side
   CellSide : Dereference → Side
 
 mutual
   pub data Statement : Type 0 where
-    -- a block, with the number of its region in the function; a label is not stored
+    -- a block, with the index of its region among the function's regions; a label is not stored
     Block : (region : ℕ) → Items → Statement
     Empty : Statement
     Evaluate : Expression → Statement
@@ -184,8 +185,8 @@ mutual
     Execute : Statement → Item
     -- declares the local with this number
     Declare : (number : ℕ) → Ty → Option Converted → Item
-    -- Declares a lexical region, or opens the dynamic region whose key a local holds. The region is live to the end of the block; the
-    -- local `number` is its handle.
+    -- Declares a lexical region, or opens the dynamic region whose key a local holds. The opened region is live to the end of the
+    -- block; the local with index `number` is its handle.
     DeclareRegion : (region number : ℕ) → Item
     OpenRegion : (region number : ℕ) → Place → (key : ℕ) → Item
     -- declares an alias: a local that shares another local's unique object to the end of the block
@@ -193,7 +194,7 @@ mutual
     -- declares a dynamic region, and the local that holds its key
     DeclareKey : (region number : ℕ) → Item
 
-  -- The clauses of a `catch`, each with the region of its items. A default clause is always the last.
+  -- The catch clauses of a `try`, each with the region of its declarations and statements. A default clause is always the last.
   pub data Clauses : Type 0 where
     NoClauses : Clauses
     Default : (region : ℕ) → Items → Clauses
@@ -220,7 +221,8 @@ pub record StructType : Type 0 where
 
 -- the signature of a function, as its callers know it
 pub record Signature : Type 0 where
-  -- The number of regions that the parameters name or omit. In a signature's types, these regions are the region variables from 1 on.
+  -- The number of regions that a function's parameters name or omit. In a signature's types, these regions are the region variables
+  -- from 1 on.
   pub variables : ℕ
   pub parameters : List Ty
   -- the result type of a function; `None` for `void`
@@ -230,10 +232,10 @@ pub record Signature : Type 0 where
   pub constraints : List (Region × Region)
 
 -- The locals of a function are numbered from 0: first its parameters, then the declarations of its body, in order. The regions of a
--- function are numbered in three groups. The first region is the function's own region, which contains its parameters and the outermost
--- variables of the body. The second group of regions are those that the parameters name. The last group are the regions that the body
--- declares, in order: blocks and clauses, lexical regions, alias regions and dynamic regions. Opening a dynamic region declares no further
--- region.
+-- function are numbered in three groups. The first region of a function is its own region, which contains its parameters and the outermost
+-- variables of the body. The next region numbers of a function are those of the regions that its parameters name. The last region numbers
+-- of a function are those of the regions that its body declares, in order. The regions that a body declares are those of blocks and
+-- clauses, lexical regions, alias regions and dynamic regions. Opening a dynamic region declares no further region.
 pub record Function : Type 0 where
   pub name : ℕ
   -- the source position of the function's name

@@ -33,11 +33,11 @@ pub data Ty : Type 0 where
   Int : Ty
   -- the type of a byte, 0 to 255
   Char : Ty
-  -- a pointer type: its pointer mark, its target type, and the region of its target
+  -- a pointer type: its pointer kind (`*`, `@` or `?`), its target type, and the region of its target
   Pointer : PointerKind → Ty → Region → Ty
   Handle : Region → Ty
   Key : Region → Ty
-  -- a struct type: the struct's number, and a region for each of its region parameters
+  -- a struct type: the struct's index among the structs, and a region argument for each of its region parameters
   Struct : ℕ → List Region → Ty
 
 -- the type of an expression: no value, a null pointer (whose type comes from the context), or a value of a type

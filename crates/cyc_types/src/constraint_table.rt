@@ -11,7 +11,7 @@ use crate::constraints::Constraint;
 use std::alloc::{AllocError, Global};
 use std::marker::Model;
 
-/// For each region, the index of the first constraint that begins with the region.
+/// For each region, the index of the first outlives constraint that has it as longer-lived region.
 #[derive(Drop)]
 pub(crate) struct Places {
     heap: Option<usize>,
@@ -20,7 +20,8 @@ pub(crate) struct Places {
     variables: Vec<Option<usize>>,
 }
 
-/// The outlives constraints, in their order, with a table of their positions. Contracts see this table as the list of constraints.
+/// The outlives constraints, in their order, with a table of the index of each region's first constraint. Contracts see this table
+/// as the list of constraints.
 #[derive(Drop)]
 pub(crate) struct ConstraintTable {
     constraints: Vec<Constraint>,
@@ -40,7 +41,7 @@ impl Model for ConstraintTable {
 }
 
 impl Places {
-    /// Returns a table in which no region has a constraint position.
+    /// Returns a table in which no region has a first constraint.
     fn new(alloc: Global) -> Places
         ensures { (r : Region) → place_of result r ≡ None }
     {
@@ -112,7 +113,7 @@ impl ConstraintTable {
     }
 }
 
-/// Returns the entry with all regions that `region` outlives, if a constraint begins with `region`.
+/// Returns the table entry that lists all regions that `region` outlives, if a constraint has `region` as its longer-lived region.
 pub(crate) fn entry_of(constraints: &ConstraintTable, region: Region) -> Option<&Constraint>
     ensures entry { MatchOption result ((b : Region) → table_leads constraints.now region b ≡ region_eq region b)
         (λ c. (b : Region) → table_leads constraints.now region b ≡ entry_leads c.now b) }

@@ -18,7 +18,7 @@ pub struct Constraint {
 }
 
 impl Constraint {
-    /// Returns a constraint with no outlived regions recorded yet; closing the constraints adds them.
+    /// Returns a constraint with no outlived regions recorded yet; the transitive closure of the constraints adds them later.
     fn new(alloc: Global, longer: Region, shorter: Region) -> Constraint
         ensures longer { result.longer ≡ longer }
         ensures shorter { result.shorter ≡ shorter }
@@ -31,14 +31,14 @@ impl Constraint {
         }
     }
 
-    /// Returns true if the entry records that its longer-lived region outlives `region`.
+    /// Returns true if the constraint records that its longer-lived region outlives `region`.
     pub(crate) fn leads_to(&self, region: Region) -> bool
         ensures { result ≡ entry_leads self.now region }
     {
         self.longer == region || self.outlived.has(region)
     }
 
-    /// Adds a region to the regions that the entry's longer-lived region outlives.
+    /// Adds a region to the recorded regions that the constraint's longer-lived region outlives.
     fn add(&mut self, region: Region) -> Result<(), AllocError>
         ensures longer { OnOk result (self.new.longer ≡ self.old.longer) }
         ensures shorter { OnOk result (self.new.shorter ≡ self.old.shorter) }
@@ -50,7 +50,7 @@ impl Constraint {
         Ok(())
     }
 
-    /// Adds all regions of `below` to the regions that the entry's longer-lived region outlives, if it outlives `via`.
+    /// Adds all regions of `below` to the regions that the constraint's longer-lived region outlives, if this region outlives `via`.
     fn extend(&mut self, via: Region, below: &[Region]) -> Result<(), AllocError>
         ensures longer { OnOk result (self.new.longer ≡ self.old.longer) }
         ensures shorter { OnOk result (self.new.shorter ≡ self.old.shorter) }
@@ -66,7 +66,7 @@ impl Constraint {
     }
 }
 
-/// Returns the entry with all regions that `region` outlives, if a constraint begins with `region`.
+/// Returns the constraint that lists all regions that `region` outlives, if a constraint has `region` as its longer-lived region.
 fn entry_of(constraints: &[Constraint], region: Region) -> Option<&Constraint>
     ensures entry { MatchOption result ((b : Region) → table_leads constraints.now region b ≡ region_eq region b)
         (λ c. (b : Region) → table_leads constraints.now region b ≡ entry_leads c.now b) }
@@ -80,7 +80,7 @@ fn entry_of(constraints: &[Constraint], region: Region) -> Option<&Constraint>
     None
 }
 
-/// Returns true if the entries record that region `longer` outlives region `shorter`.
+/// Returns true if the constraints record that region `longer` outlives region `shorter`.
 fn is_known(constraints: &[Constraint], longer: Region, shorter: Region) -> bool
     ensures { result ≡ table_leads constraints.now longer shorter }
 {
@@ -106,7 +106,7 @@ fn all_below(
     Ok(below)
 }
 
-/// Adds all regions of `below` to each entry whose region outlives `via`.
+/// Adds all regions of `below` to the outlived regions of each constraint whose longer-lived region outlives `via`.
 fn extend_all(
     constraints: &mut [Constraint],
     via: Region,
@@ -123,7 +123,7 @@ fn extend_all(
     Ok(())
 }
 
-/// Returns the constraints as written; no entry records an outlived region yet.
+/// Returns the constraints as written in the source; no constraint records an outlived region yet.
 fn unclosed(alloc: Global, written: &[(Region, Region)]) -> Result<Vec<Constraint>, AllocError>
     ensures written { IfOk result (λ constraints. written_in constraints.items ≡ written.now) }
     ensures leads { IfOk result (λ constraints. (a b : Region) → table_leads constraints.items a b ≡ region_eq a b) }
@@ -136,7 +136,7 @@ fn unclosed(alloc: Global, written: &[(Region, Region)]) -> Result<Vec<Constrain
     Ok(constraints)
 }
 
-/// Returns the constraints, closed under transitivity: each entry records all regions that its region outlives.
+/// Returns the constraints, closed under transitivity: each constraint records all regions that its longer-lived region outlives.
 pub(crate) fn closed(
     alloc: Global,
     written: &[(Region, Region)],

@@ -1,5 +1,5 @@
-//! Converts types as written in the source to types, by total functions: an omitted part and an unknown name have defaults. The faults of a
-//! written type are found separately.
+//! Converts types as written in the source to types, by total functions: an omitted region and an unknown name have defaults. The faults of
+//! a written type are found separately.
 ghost use Rattle.std.specs.Prelude.{◌≡◌, ℕ, map, option_map, replicate, unwrap_or, IfOk, OnOk, List};
 ghost use Rattle.cyc_syntax.specs.inside.TreeView.{view_name, view_base, view_pointer, view_type};
 ghost use Rattle.cyc_types.specs.declared.region.Region.TheVariants.{Heap};
@@ -26,7 +26,7 @@ pub fn region_of(names: &RegionNames, name: Ident) -> Region
     }
 }
 
-/// Returns the region written after a pointer mark, or `left_out` if no region is written.
+/// Returns the region written after a pointer sign (`*`, `@` or `?`), or `left_out` if no region is written.
 fn region_or(names: &RegionNames, left_out: Region, written: Option<Ident>) -> Region
     ensures { result ≡ region_or names.now left_out (option_map view_name written) }
 {
@@ -66,7 +66,7 @@ pub fn arguments_or(
     Ok(Rc::new(alloc, all)?)
 }
 
-/// Returns the type that a written type has before its pointer marks are applied.
+/// Returns the type that a written type has before its pointer signs (`*`, `@`, `?`) are applied.
 fn base_written(
     alloc: Global,
     structs: &StructNames,
@@ -94,8 +94,8 @@ fn base_written(
     })
 }
 
-/// Returns the default region of a pointer mark with `following` marks after it: `outermost` for the last mark, the heap for all
-/// other marks.
+/// Returns the default region of a pointer sign with `following` pointer signs after it: `outermost` for the last sign, the heap
+/// for all other signs.
 fn left_out_by(outermost: Region, following: usize) -> Region
     ensures { result ≡ left_out_by outermost following }
 {
@@ -105,7 +105,7 @@ fn left_out_by(outermost: Region, following: usize) -> Region
     Region::Heap
 }
 
-/// Returns the pointer type with the given mark and target type.
+/// Returns the pointer type that the given pointer sign (`*`, `@` or `?`) makes of the given target type.
 fn pointer_written(
     alloc: Global,
     names: &RegionNames,
@@ -122,7 +122,7 @@ fn pointer_written(
     })
 }
 
-/// Returns the pointer type that applying the marks to the base type gives, from the innermost mark on.
+/// Returns the pointer type that applying the pointer signs (`*`, `@`, `?`) to the base type gives, from the innermost sign on.
 fn pointers_written(
     alloc: Global,
     names: &RegionNames,
@@ -148,7 +148,7 @@ fn pointers_written(
 }
 
 /// Returns the type denoted by a written type, from the known structs and region names. An omitted region is `outermost` at the
-/// outermost pointer mark, and the heap elsewhere.
+/// outermost pointer sign, and the heap elsewhere.
 pub fn type_written(
     alloc: Global,
     structs: &StructNames,

@@ -4,7 +4,7 @@ use crate::{NameSet, Region};
 use std::alloc::{AllocError, Global};
 use std::marker::Model;
 
-/// A region name in scope, the region that it denotes, and the region that it denoted before.
+/// A region name in scope, the region that it denotes, and the region that it denoted before this declaration.
 #[derive(Clone, Copy)]
 struct Binding {
     name: usize,

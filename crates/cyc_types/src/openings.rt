@@ -1,5 +1,5 @@
-//! The position of the oldest open scope of each region. The positions of oldest scopes decide the outlives relation without a
-//! search of the scopes.
+//! A table with the index of the oldest open scope of each region. The indexes of oldest scopes decide the outlives relation
+//! without a search of the scopes.
 ghost use Rattle.std.specs.Prelude.{◌≡◌, ◌≤◌, ◌<◌, ◌||◌, ◌&&◌, ◌++◌, ◌+◌, ℕ, List, [], ◌∷◌, reverse, length, get_or, not, false, true, IsTrue, OnOk, IfOk};
 ghost use Rattle.std.specs.List.{list_any};
 ghost use Rattle.cyc_types.specs.declared.region.Region.{Region};
@@ -92,7 +92,7 @@ fn is_above_live_before(
     }
 }
 
-/// Returns true if a path of the constraints and the open scopes leads from `a` to `b`, provided that all scopes are in order.
+/// Returns true if a path of constraints and open scopes leads from `a` to `b`, provided that the table of opening indexes fits all scopes.
 ///
 /// A region that is live when a scope opens outlives the scope's region. A region that is not live when the scope opens outlives the
 /// scope's region only by constraints, since the scope's region is new.
@@ -159,8 +159,8 @@ fn is_alone(constraints: &ConstraintTable, region: Region) -> bool
     }
 }
 
-/// Returns true if the next scope will be in order, provided that the oldest `in_order` scopes are in order. Stores the index of the
-/// oldest scope of the next scope's region.
+/// Returns true if the table of opening indexes will fit the next scope, provided that it fits the oldest `in_order` scopes. Stores
+/// in this table the index of the oldest scope of the next scope's region.
 pub(crate) fn opens_in_order(
     constraints: &ConstraintTable,
     live: &RegionList,

@@ -32,8 +32,8 @@ pub struct Outlives {
     /// For each region variable with an open scope, the index of the oldest such scope. Entries of region variables without an
     /// open scope are meaningless.
     openings: Vec<usize>,
-    /// The number of oldest scopes that are in order. For scopes in order, `openings` decides which regions are live and which
-    /// regions outlive each other.
+    /// The number of oldest scopes that the table `openings` fits. For these oldest scopes, `openings` decides which regions
+    /// are live and which regions outlive each other.
     in_order: usize,
 }
 
@@ -79,7 +79,7 @@ impl Outlives {
         self.is_outliving(a, b)
     }
 
-    /// Returns true if the region is live at the current point.
+    /// Returns true if the region is live at the current point of the function's body.
     #[tactic(auto, using(crate::proofs::SearchLemmas::live_among))]
     pub fn is_live(&self, region: Region) -> bool
         ensures { result ≡ is_region_among region (live_regions self.now.live self.now.opened) }
@@ -254,8 +254,8 @@ fn leads(
     false
 }
 
-/// Returns true if `a` outlives `b` by the constraints or through a region live at the opening of the scope `known`. If `known` is
-/// `None`, only the constraints count.
+/// Returns true if `a` outlives `b` by the constraints or through a region live when the scope at index `known` opened. If `known`
+/// is `None`, only the constraints count.
 fn is_known(
     constraints: &ConstraintTable,
     live: &[Region],

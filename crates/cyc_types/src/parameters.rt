@@ -44,7 +44,7 @@ fn region_for(names: &mut RegionNames, next: &mut usize, name: Ident) -> Result<
     Ok(region)
 }
 
-/// Returns the region of a pointer mark; if the mark omits its region, the next region is returned.
+/// Returns the region written after a pointer sign of a parameter's type; if none is written, the next region variable is returned.
 fn mark_for(
     names: &mut RegionNames,
     next: &mut usize,
@@ -80,7 +80,7 @@ fn arguments_for(
     Ok(Rc::new(alloc, all)?)
 }
 
-/// Returns the type that a written parameter type has before its pointer marks are applied.
+/// Returns the type that a written parameter type has before its pointer signs (`*`, `@`, `?`) are applied.
 fn base_for(
     alloc: Global,
     structs: &StructNames,
@@ -110,7 +110,7 @@ fn base_for(
     })
 }
 
-/// Returns the pointer type with the given mark and target type.
+/// Returns the pointer type that the given pointer sign (`*`, `@` or `?`) of a parameter's type makes of the given target type.
 fn pointer_for(
     alloc: Global,
     names: &mut RegionNames,
@@ -129,7 +129,7 @@ fn pointer_for(
     })
 }
 
-/// Returns the pointer type that applying the marks to the base type gives, from the innermost mark on.
+/// Returns the pointer type that applying the pointer signs to a parameter's base type gives, from the innermost sign on.
 fn pointers_for(
     alloc: Global,
     names: &mut RegionNames,

@@ -9,11 +9,11 @@ use crate::Region;
 pub enum Kind {
     /// A block; its region contains the block's variables.
     Block,
-    /// A `region` item that creates the region it opens.
+    /// A `region` declaration that creates the lexical region that it opens.
     Lexical,
-    /// A `region` item that opens the region of a dynamic region's key.
+    /// A `region` declaration that opens a dynamic region by its key.
     Dynamic,
-    /// A `let alias` item, which opens the alias region.
+    /// A `let alias` declaration, which opens the alias region.
     Alias,
 }
 

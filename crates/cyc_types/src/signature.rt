@@ -8,7 +8,8 @@ use crate::{Region, Ty};
 use smallvec::SmallVec;
 use std::alloc::{AllocError, Global};
 
-/// The type of a function together with its demands on callers. A signature's region variables are numbered from 1.
+/// The type of a function together with its requirements on callers (live regions and outlives constraints). A
+/// signature's region variables are numbered from 1.
 #[derive(Drop)]
 pub struct Signature {
     /// The number of regions that the function's parameters name or omit.
@@ -27,7 +28,7 @@ impl Signature {
     ghost use Rattle.cyc_types.specs.typing.Expressions.{instantiated};
     ghost use Rattle.cyc_types.specs.inside.SignatureView.{view_signature};
 
-    /// Returns the signature at a call: each region variable is replaced by the region at its number in `instance`.
+    /// Returns the signature as instantiated at a call: each region variable is replaced by the region at its number in `instance`.
     pub fn instantiated(&self, alloc: Global, instance: &[Region]) -> Result<Signature, AllocError>
         ensures { IfOk result (λ s. view_signature s ≡ instantiated instance.now (view_signature self.now)) }
     {

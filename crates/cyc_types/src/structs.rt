@@ -3,7 +3,7 @@
 use std::alloc::{AllocError, Global};
 use std::marker::Model;
 
-/// A struct found by its name: the struct's number, and the number of its region parameters.
+/// A struct found by its name: the struct's index among the structs, and the number of its region parameters.
 #[derive(Clone, Copy)]
 pub struct Known {
     pub number: usize,

@@ -7,7 +7,7 @@ use std::alloc::{AllocError, Global};
 use std::rc::Rc;
 
 /// A type in which each region is explicit. A value of this type is a well-formed type of the subset, or a struct type as the target of a
-/// pointer. A copy of a type shares the original's parts, so copying does not allocate.
+/// pointer. A copy of a type shares the original's target type and region arguments, so copying does not allocate.
 #[derive(Drop)]
 pub enum Ty {
     Int,
@@ -26,7 +26,7 @@ pub enum Ty {
     Key {
         region: Region,
     },
-    /// The struct with this number, with one region argument for each of its region parameters.
+    /// The struct with this index, with one region argument for each of its region parameters.
     Struct {
         number: usize,
         regions: Rc<SmallVec<Region, 4>>,
@@ -38,7 +38,7 @@ impl Ty {
     ghost use Rattle.cyc_types.specs.Types.{substituted_ty, words_of};
     ghost use Rattle.cyc_types.specs.TypeView.{view_ty};
 
-    /// Returns true if two types are equal in all parts: pointer marks, regions and structs, at each level.
+    /// Returns true if two types are equal at each level: in pointer kinds (`*`, `@`, `?`), regions and structs.
     pub fn equals(&self, other: &Ty) -> bool
         ensures { IsTrue result ↔ (view_ty self.now ≡ view_ty other.now) }
     {
@@ -79,7 +79,7 @@ impl Ty {
         }
     }
 
-    /// Returns a copy of the type that shares the original's parts.
+    /// Returns a copy of the type that shares the original's target type and region arguments.
     pub fn share(&self) -> Result<Ty, AllocError>
         ensures { IfOk result (λ ty. view_ty ty ≡ view_ty self.now) }
     {

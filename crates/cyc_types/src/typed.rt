@@ -2,9 +2,9 @@
 //!
 //! In a typed tree, each name is resolved to a number. A local has its number in its function: parameters first, then declarations in
 //! order. A struct, an exception, a global and a function have their numbers in the program. The nodes of a typed tree distinguish the uses
-//! of a variable's value and the kinds of an operator's operands. Each conversion is explicit, and parentheses are removed. The meaning of
-//! a typed tree needs neither an environment of names nor the types of operands. Chains of operators are lists, so a typed tree is no
-//! deeper than its syntax tree. Rare and large parts of nodes are in boxes, so that a node is small.
+//! of a variable's value and the kinds of an operator's operands. In a typed tree each conversion is explicit, and parentheses are removed.
+//! The meaning of a typed tree needs neither an environment of names nor the types of operands. Chains of operators are lists, so a typed
+//! tree is no deeper than its syntax tree. Rare and large fields of nodes are stored in boxes, so that a node is small.
 //!
 //! A node of a typed tree stores a source position if a later pass may report a fault there, or if the node's code can end the execution.
 
@@ -13,7 +13,7 @@ use cyc_syntax::Name;
 use cyc_words::Span;
 use smallvec::SmallVec;
 
-/// The kind of value in a memory cell, as the source or target of a conversion.
+/// The representation kind (int, char, pointer, ..) of a value in a memory cell, as the source or target of a conversion.
 #[derive(Clone, Copy)]
 pub enum Kind {
     Int,
@@ -216,18 +216,18 @@ pub enum Expr {
     },
 }
 
-/// A memory cell reached through a pointer, with the type of its content.
+/// A memory cell reached through a pointer, with the type of the value stored in the cell.
 #[cycle(expression)]
 #[derive(Drop)]
 pub enum Dereference {
-    /// `*e`, where e is a pointer of the given kind; the position is that of e.
+    /// `*e`, where e is a pointer of the given representation kind; the source position is that of e.
     Target {
         span: Span,
         kind: Kind,
         pointer: Expr,
         of_type: Ty,
     },
-    /// `e->f`, with the number of the struct, the number of the field, and the source position of f.
+    /// `e->f`, with the index of the struct, the index of the field, and the source position of f.
     Member {
         span: Span,
         kind: Kind,
@@ -257,21 +257,21 @@ pub enum Placement {
     ByHandle { handle: Box<Expr> },
 }
 
-/// The initial content of a new object.
+/// The initial value or values of a new object.
 #[cycle(expression)]
 #[derive(Drop)]
 pub enum Initial {
-    /// An initial content that is a value of the given kind.
+    /// An initial value that is a single value of the given representation kind (int, char, pointer, ..).
     Plain {
         kind: Kind,
         value: Expr,
     },
-    /// An initial content that consists of the fields of a struct, in order.
+    /// The initial values of all fields of a new struct, in order.
     Fields {
         values: Vec<Converted>,
     },
-    /// `{for i < length : element}`: the variable is the counter of the given level, the elements have the given kind, and the position
-    /// is that of `for`.
+    /// `{for i < length : element}`: the loop counter's nesting level, the representation kind of the elements, and the source position
+    /// of `for`.
     Array {
         span: Span,
         level: usize,
@@ -281,7 +281,7 @@ pub enum Initial {
     },
 }
 
-/// An expression whose value is converted after its evaluation; the target kind may equal the source kind.
+/// An expression whose value is converted after its evaluation; the target's representation kind may equal the source's.
 #[cycle(expression)]
 #[derive(Drop)]
 pub struct Converted {
@@ -310,7 +310,8 @@ pub enum Operation {
         operator: PointerOperator,
         operand: Expr,
     },
-    /// An operator whose left operand is a peek of a local; the local must not change while the right operand is evaluated.
+    /// An operator whose left operand is a unique pointer that stays in its local; the local must not change while the
+    /// right operand is evaluated.
     PointerPeek {
         number: usize,
         operator: PointerOperator,
@@ -318,7 +319,7 @@ pub enum Operation {
     },
 }
 
-/// One side of a swap: a variable with its type, or a memory cell reached through a pointer.
+/// The left or right operand of a swap: a variable with its type, or a memory cell reached through a pointer.
 #[derive(Drop)]
 pub enum Side {
     Variable { place: Lvalue, of_type: Ty },
@@ -329,7 +330,7 @@ pub enum Side {
 #[cycle(statement)]
 #[derive(Drop)]
 pub enum Stmt {
-    /// A block, with the number of its region in the function; a label is not stored.
+    /// A block, with the index of its region among the function's regions; a label is not stored.
     Block {
         region: usize,
         items: Vec<Item>,
@@ -380,7 +381,7 @@ pub enum Stmt {
     },
 }
 
-/// The items of a `catch` clause, with the number of their region in the function.
+/// The declarations and statements of a `catch` clause, with the index of their region among the function's regions.
 #[cycle(statement)]
 #[derive(Drop)]
 pub struct Body {
@@ -412,22 +413,23 @@ pub enum Item {
         of_type: Ty,
         value: Option<Converted>,
     },
-    /// Declares a lexical region to the end of the block, by its number in its function, with the source position of its name. The local
+    /// Declares a lexical region to the end of the block, by its index in its function, with the source position of its name. The local
     /// `number` is the region's handle.
     Region {
         span: Span,
         region: usize,
         number: usize,
     },
-    /// Opens the region of a key to the end of the block; the position is that of the key's name. The local `number` is the region's
-    /// handle.
+    /// Opens the region of a key to the end of the block; the source position is that of the key's name. The local `number` is the
+    /// handle of the opened region.
     Open {
         region: usize,
         number: usize,
         span: Span,
         key: usize,
     },
-    /// Declares a local that shares another local's unique object to the end of the block; the position is that of the other local's name.
+    /// Declares a local that shares another local's unique object to the end of the block; the source position is that of the other
+    /// local's name.
     Alias {
         region: usize,
         number: usize,
@@ -443,7 +445,7 @@ pub enum Item {
     },
 }
 
-/// The initial value of a global: a word or the null pointer.
+/// The initial value of a global: a 32-bit word or the null pointer.
 #[derive(Clone, Copy)]
 pub enum Constant {
     Word { value: u32 },

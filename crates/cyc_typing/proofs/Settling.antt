@@ -1,4 +1,4 @@
--- Lemmas about demands that are settled in two steps.
+-- Lemmas about requirements of the typing rules that are checked in two steps.
 use Rattle.std.proofs.Common.{◌≡◌, Bool, true, false, cond, nat_lt, List, [], ◌∷◌, ◌++◌, Option, Some, None, refl, sym, ap, ◌∙◌}
 use Rattle.cyc_words.specs.declared.fault.Fault.{Fault}
 use Rattle.cyc_words.specs.Fault.{number_of}
@@ -7,7 +7,7 @@ use Rattle.cyc_types.specs.Rules.{Demand, fault_of, lesser, noted, settled}
 use Rattle.cyc_types.proofs.RuleLaws.{settled_append}
 use Rattle.cyc_typing.specs.inside.Forms.{merged}
 
--- Settling further demands after demands that are already settled gives the same fault as settling all of them at once.
+-- Checking further requirements after requirements that are already checked gives the same fault as checking all of them at once.
 pub settled_after : (known : Option Fault) (ds es : List Demand) → known ≡ settled None ds → settled None (ds ++ es) ≡ settled known es
 settled_after known ds es h = settled_append None ds es ∙ ap (λ o. settled o es) (sym h)
 

@@ -24,7 +24,8 @@ pub(crate) enum Comparison {
     OfInts {
         operator: Operator,
     },
-    /// A comparison of pointers. If the left operand peeks at a local, the local must not change while the right operand is evaluated.
+    /// A comparison of pointers. If the left operand reads a local without moving its unique pointer, the local must not change while
+    /// the right operand is evaluated.
     OfPointers {
         peeked: Option<usize>,
         operator: PointerOperator,
@@ -178,7 +179,8 @@ fn of_ints(negated: bool) -> Comparison
     Comparison::OfInts { operator }
 }
 
-/// Returns the comparison whose left operand is a value of the type `left`, possibly a peek.
+/// Returns the comparison whose left operand has the type `left`; the operand is the unmoved unique
+/// pointer of the local `peeked`, if one is given.
 fn type_comparison(peeked: Option<usize>, negated: bool, left: &Ty, right: Given<'_>) -> Comparison
     ensures { (a : nodes.Expression) → then_comparison result a ≡ then_compared peeked negated (types.Value (view_ty left.now)) (view_given right.entry) a }
 {

@@ -1,4 +1,4 @@
-//! Checks new objects: the region in which an object is allocated, and the object's content.
+//! Checks new objects: the region in which an object is allocated, and the values with which the object is filled.
 ghost use Rattle.std.specs.Prelude.{◌≡◌, Ok, IfOk};
 ghost use Rattle.cyc_syntax.specs.inside.TreeView.{place_of_span};
 ghost use Rattle.cyc_types.specs.TypeView.{view_ty};
@@ -22,7 +22,7 @@ use cyc_words::{Code, Span};
 use std::alloc::{AllocError, Global};
 use std::rc::Rc;
 
-/// The region in which an object is allocated, the typed placement node, and the demands on the placement.
+/// The region in which an object is allocated, the typed node for this region, and the requirements on it.
 #[derive(Drop)]
 pub struct Placed {
     pub settled: Settled,
@@ -30,7 +30,7 @@ pub struct Placed {
     pub region: Region,
 }
 
-/// Returns the placement of an object made by `new`: on the heap, without further demands.
+/// Returns the placement of an object made by `new`: on the heap, without further requirements.
 #[inline(never)]
 pub fn on_heap(alloc: Global) -> Result<Box<Placed>, Stop>
     ensures { GivesOne IsPlaced result (Ok on_heap) }
@@ -86,7 +86,7 @@ pub fn by_handle(
     )?)
 }
 
-/// Demands that a value can be the content of a memory cell; `span` is the value's source position.
+/// Requires that a value can be stored in a memory cell; `span` is the value's source position.
 fn element_wanted(so_far: &mut Settled, value: Given<'_>, span: Span)
     ensures { so_far.new.known ≡ settled so_far.old.known (element_demanded (view_given value.entry) (place_of_span span)) }
 {
@@ -102,7 +102,7 @@ fn plain(alloc: Global, kind: Kind, value: Box<typed::Expr>) -> Result<Box<Initi
     boxed_initial(alloc, Initial::Plain { kind, value })
 }
 
-/// Returns the initial content of an object that consists of one value; `span` is the value's source position.
+/// Returns the initial value of an object that consists of one value; `span` is the value's source position.
 #[inline(never)]
 pub fn plain_made(alloc: Global, span: Span, value: Box<typed::Expr>) -> Result<Box<Made>, Stop>
     ensures { GivesOne IsMade result (Ok (plain_made (place_of_span span) (view_boxed value))) }
@@ -149,8 +149,8 @@ fn array(
     )
 }
 
-/// Returns the initial content of an array with the given length, with an element for each value of the counter of the given level. The
-/// source positions are those of the array's `for`, of the length and of the element. A char may be used as the length.
+/// Returns the initial value of an array of the given length, with an element for each value of the loop counter at the given level.
+/// The source positions are those of the array's `for`, of the length and of the element. A char may be used as the length.
 #[inline(never)]
 pub fn array_made(
     alloc: Global,
@@ -183,7 +183,7 @@ pub fn array_made(
     )?)
 }
 
-/// Adds demands that were settled separately from the beginning to the demands settled so far.
+/// Adds requirements that were checked separately from the beginning to the requirements checked so far.
 fn settle_too(so_far: &mut Settled, other: Settled)
     ensures { so_far.new.known ≡ merged so_far.old.known other.known }
 {
@@ -196,7 +196,7 @@ fn settle_too(so_far: &mut Settled, other: Settled)
     }
 }
 
-/// Returns the pointer type with the given mark, target type and region.
+/// Returns the pointer type with the given pointer kind (`*`, `@` or `?`), target type and region.
 fn pointer(alloc: Global, kind: PointerKind, target: Ty, region: Region) -> Result<Ty, AllocError>
     ensures { IfOk result (λ t. view_ty t ≡ types.Pointer kind (view_ty target) region) }
 {
@@ -228,7 +228,7 @@ fn new(
     )
 }
 
-/// Returns the expression that makes a new object; all demands must already be settled.
+/// Returns the expression that makes a new object; all requirements must already be checked.
 #[inline(never)]
 fn create(
     alloc: Global,
@@ -252,7 +252,7 @@ fn create(
     new(alloc, span, placement, initial, of_type)
 }
 
-/// Settles the demands of a new object and returns the expression that makes it; `span` is the position of the expression.
+/// Checks the requirements of a new object and returns the expression that makes it; `span` is the source position of the expression.
 pub fn created(
     alloc: Global,
     span: Span,

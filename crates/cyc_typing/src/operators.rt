@@ -26,7 +26,8 @@ use cyc_types::{Ty, typed};
 use cyc_words::{Code, Span};
 use std::alloc::Global;
 
-/// The left operand of an operator: the source position where its chain begins, the local that it peeks at, and its type.
+/// The left operand of an operator: the source position of its chain, the local that it reads without moving a unique
+/// pointer, and its type.
 #[derive(Clone, Copy)]
 pub struct Left<'a> {
     pub span: Span,
@@ -177,7 +178,7 @@ fn sum_wanted(left: Given<'_>, span: Span, right: Given<'_>, right_span: Span) -
     settled.end()
 }
 
-/// Adds a sum or difference whose left operand has the type `left` to the operations.
+/// Adds a sum or difference whose left operand has the type `left` to the operations of a chain.
 fn push_type_sum(
     operations: &mut Vec<Operation>,
     left: &Ty,
@@ -197,7 +198,7 @@ fn push_type_sum(
     }
 }
 
-/// Adds a sum or difference, of ints or of a fat pointer and an int, to the operations.
+/// Adds a sum or difference, of ints or of a fat pointer and an int, to the operations of a chain.
 #[inline(never)]
 fn push_sum(
     operations: &mut Vec<Operation>,
@@ -257,7 +258,7 @@ fn push_comparison(
     }
 }
 
-/// Adds a comparison for equality or inequality to the operations.
+/// Adds a comparison for equality or inequality to the operations of a chain.
 #[inline(never)]
 fn join_equality(
     scope: &Scope<'_>,
@@ -278,7 +279,7 @@ fn join_equality(
     Ok(Ty::Int)
 }
 
-/// Adds an operator with its right operand at the end of the operations. Returns the type of the operator's result.
+/// Adds an operator with its right operand at the end of a chain's operations. Returns the type of the operator's result.
 #[inline(never)]
 pub fn join(
     scope: &Scope<'_>,

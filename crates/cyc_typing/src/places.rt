@@ -27,7 +27,7 @@ use cyc_words::{Code, Span};
 use std::alloc::{AllocError, Global};
 use std::rc::Rc;
 
-/// A memory cell reached through a pointer, with the region that contains the cell and the demands on its use as an lvalue.
+/// A memory cell reached through a pointer, with the region that contains the cell and the requirements on its use as an lvalue.
 #[derive(Drop)]
 pub struct Reached {
     pub settled: Settled,
@@ -59,7 +59,7 @@ pub(crate) fn variable_found(
 
 // ---- the cells that pointers lead to
 
-/// Demands that the region of a pointer is live; `span` is the pointer's source position.
+/// Requires that the region of a pointer is live; `span` is the pointer's source position.
 pub(crate) fn live_wanted(so_far: &mut Settled, scope: &Scope<'_>, value: Given<'_>, span: Span)
     ensures { so_far.new.known ≡ settled so_far.old.known (live_wanted scope.now (view_given value.entry) (place_of_span span) ∷ []) }
 {
@@ -198,7 +198,7 @@ pub fn indexed(
     )?)
 }
 
-/// Returns the number and the type of the field with the given name. If no field has the name, the number is the
+/// Returns the index and the type of the field with the given name. If no field has the name, the index is the
 /// number of fields, and there is no type.
 fn find_field(fields: &[Field], name: usize) -> (usize, Option<&Ty>)
     ensures number { result.0 ≡ field_number (map view_field fields.now) name }
@@ -267,7 +267,7 @@ pub fn selected(
 
 // ---- the uses of a cell
 
-/// Demands that the content of a memory cell may be read; `span` is the source position of the cell's expression.
+/// Requires that the value in a memory cell may be read; `span` is the source position of the cell's expression.
 fn content_wanted(so_far: &mut Settled, of_type: &Ty, span: Span)
     ensures { so_far.new.known ≡ settled so_far.old.known (content_demanded (view_ty of_type.now) (place_of_span span)) }
 {
@@ -282,7 +282,7 @@ fn load(alloc: Global, source: Box<Dereference>) -> Result<Box<typed::Expr>, Sto
     boxed(alloc, typed::Expr::Load { source })
 }
 
-/// Returns the value in a memory cell, after the demands on the cell as an lvalue were settled.
+/// Returns the value in a memory cell, after the requirements on the cell as an lvalue were checked.
 #[inline(never)]
 fn load_reached(alloc: Global, span: Span, reached: Box<Reached>) -> Result<Box<typed::Expr>, Stop>
     ensures { Gives view_boxed result (loaded_after reached.value.settled.known (place_of_span span) (view_dereference reached.value.cell.value)) }

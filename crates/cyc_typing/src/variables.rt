@@ -96,7 +96,7 @@ fn variable_read(alloc: Global, target: Lvalue, of_type: &Ty) -> Result<Box<type
     }
 }
 
-/// Returns the expression that peeks at a variable: a unique pointer stays in the variable.
+/// Returns the expression that reads a variable without moving its value: a unique pointer stays in the variable.
 fn variable_looked(alloc: Global, target: Lvalue, of_type: &Ty) -> Result<Box<typed::Expr>, Stop>
     ensures { Gives view_boxed result (Ok (variable_looked (view_lvalue target) (view_ty of_type.now))) }
 {
@@ -146,7 +146,7 @@ pub fn read(scope: &Scope<'_>, name: Ident) -> Result<Box<typed::Expr>, Stop>
     read_meant(scope.alloc(), scope.meaning(name), name.span)
 }
 
-/// Returns the expression that peeks at the value that a name denotes.
+/// Returns the expression that reads the value that a name denotes without moving it out of its variable.
 pub fn looked(scope: &Scope<'_>, name: Ident) -> Result<Box<typed::Expr>, Stop>
     ensures { Gives view_boxed result (run (looked (meaning_of scope.now (view_name name)) (place_of_span name.span))) }
 {
@@ -167,7 +167,7 @@ pub fn looked(scope: &Scope<'_>, name: Ident) -> Result<Box<typed::Expr>, Stop>
     }
 }
 
-/// Returns the lvalue that a name denotes, in an expression that begins at position `span`.
+/// Returns the lvalue that a name denotes, in an expression that begins at source position `span`.
 pub fn place_meant(scope: &Scope<'_>, name: Ident, span: Span) -> Result<Box<Found>, Stop>
     ensures { Gives view_found result (run (place_meant (meaning_of scope.now (view_name name)) (place_of_span name.span) (place_of_span span))) }
 {

@@ -51,7 +51,7 @@ fn constant_within(expression: &Expr, levels: u32) -> Option<u32> {
     }
 }
 
-/// Returns true if the value of each of these operators can be computed; `computed` handles no conditions.
+/// Returns true if each of these operators can be evaluated by `computed`, that is, if none of them is a comparison or a logical operator.
 fn are_worked_out(operations: &[Operation]) -> bool {
     for operation in operations {
         if is_condition(operation.operator) {

@@ -34,7 +34,7 @@ fn named(expression: &Expr) -> Option<Ident> {
 }
 
 /// Returns true if an expression has no effect apart from those of its parts. Dereferences and divisions may throw, so they do not count;
-/// two minus signs have a separate warning.
+/// an expression that begins with two minus signs has a separate warning.
 pub(crate) fn is_bare(expression: &Expr) -> bool {
     match expression {
         Expr::Number { .. }
@@ -167,7 +167,8 @@ fn use_of_prefix(operator: PrefixOperator) -> Use {
     }
 }
 
-/// Returns the position of a bitwise operator of whose operands one is a comparison without parentheses and another is not a truth value.
+/// Returns the source position of a bitwise operator of whose operands one is a comparison without parentheses and another is not a truth
+/// value.
 fn loose_bits(first: &Expr, rest: &[Operation]) -> Option<Span> {
     let mut place = None;
     let mut is_other = !is_truth(first);
@@ -182,8 +183,8 @@ fn loose_bits(first: &Expr, rest: &[Operation]) -> Option<Span> {
     if is_other { place } else { None }
 }
 
-/// Returns the number of elements of a type that fit in 1,000 words: four chars take one word, a fat pointer takes three. For an unknown
-/// type, the number is that of chars.
+/// Returns the number of elements of a type that fit in 1,000 words: four chars take one word, a fat pointer takes three. If the element
+/// type could not be determined, the number for chars is returned.
 fn most_elements(element: Option<Shape>) -> u32 {
     match element {
         Some(shape) if shape.is_fat => 333,
@@ -208,7 +209,7 @@ fn is_sum(operator: BinaryOperator) -> bool {
     matches!(operator, BinaryOperator::Add | BinaryOperator::Subtract)
 }
 
-/// Returns true if an expression has no parts, so that examining it, like most operands, takes no call.
+/// Returns true if an expression has no subexpressions, as most operands; such an expression is examined without a further function call.
 fn is_leaf(expression: &Expr) -> bool {
     matches!(
         expression,
@@ -494,7 +495,7 @@ impl Finder {
         }
     }
 
-    /// Examines an index of the local with number `local`, which was declared with `length` elements.
+    /// Examines an index of the local with index `local`, which was declared with an array of `length` elements.
     fn look_at_number(&mut self, local: usize, length: u32, index: &Expr) {
         if let Some(value) = constant_of(index) {
             if value >= length {

@@ -44,7 +44,7 @@ impl Finder {
         self.warn_after(span, warning, span);
     }
 
-    /// Adds a warning that refers to the word at another source position.
+    /// Adds a warning that refers to the token at another source position.
     pub(crate) fn warn_after(&mut self, span: Span, warning: Warning, named: Span) {
         self.found.add(Found {
             span,

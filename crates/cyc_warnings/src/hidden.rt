@@ -3,8 +3,8 @@
 use cyc_words::Span;
 
 /// Returns true if three bytes are, or begin, a hidden character in UTF-8. Hidden characters are control characters beyond ASCII;
-/// they are also bidirectional marks, embeddings and isolates; zero-width spaces and joiners; line separators; the byte-order
-/// mark; and tags.
+/// hidden characters are also bidirectional marks, embeddings and isolates; zero-width spaces and joiners; line
+/// separators; the byte-order mark; and tags.
 fn is_hidden(bytes: [u8; 3]) -> bool {
     matches!(
         bytes,
@@ -17,7 +17,7 @@ fn is_hidden(bytes: [u8; 3]) -> bool {
     )
 }
 
-/// Returns the byte at a position, or 0 past the end.
+/// Returns the byte at an index of a text, or 0 past the text's end.
 fn byte_at(text: &[u8], place: usize) -> u8 {
     match text.get(place) {
         Some(byte) => *byte,

@@ -40,12 +40,12 @@ struct Binding {
     hidden: usize,
 }
 
-/// The meaning of names at a position of a program.
+/// The meaning of names at a program point.
 #[derive(Drop)]
 pub(crate) struct Known {
-    /// The meanings of names, indexed by name number.
+    /// The meanings of names, indexed by the number that identifies a name.
     entries: Vec<Entry>,
-    /// The numbers of the locals, indexed by name number.
+    /// For each name, the index of the local that it denotes; the list is indexed by the number that identifies a name.
     locals: Vec<usize>,
     /// The fields of all structs; the fields of one struct are adjacent.
     fields: Vec<Field>,
@@ -53,7 +53,7 @@ pub(crate) struct Known {
     parameters: Vec<bool>,
     /// The names of the locals in scope, the newest name last.
     bindings: Vec<Binding>,
-    /// The name number of the region of unique pointers.
+    /// The number that identifies the name of the region of unique pointers.
     pub(crate) unique: usize,
     /// True if memory has not run out.
     pub(crate) is_whole: bool,
@@ -147,7 +147,7 @@ impl Known {
         self.bindings.len()
     }
 
-    /// Binds a name to the local with number `number`.
+    /// Binds a name to the local with index `number`.
     pub(crate) fn bind(&mut self, name: usize, number: usize) {
         if let Some(local) = self.locals.get_mut(name) {
             let hidden = *local;
@@ -169,7 +169,7 @@ impl Known {
 
     // ---- meanings of names
 
-    /// Returns the number of the local with this name, or `NONE`.
+    /// Returns the index of the local with this name, or `NONE`.
     pub(crate) fn local(&self, name: usize) -> usize {
         match self.locals.get(name) {
             Some(number) => *number,
@@ -193,7 +193,7 @@ impl Known {
         }
     }
 
-    /// Returns true if the parameter with number `number` of a function is a char.
+    /// Returns true if the parameter with index `number` of a function is a char.
     pub(crate) fn takes_char(&self, function: usize, number: usize) -> bool {
         let start = match self.entries.get(function) {
             Some(entry) => entry.parameters,
@@ -205,7 +205,7 @@ impl Known {
         }
     }
 
-    /// Returns true if the field with number `number` of a struct is a char.
+    /// Returns true if the field with index `number` of a struct is a char.
     pub(crate) fn keeps_char(&self, owner: usize, number: usize) -> bool {
         let start = match self.entries.get(owner) {
             Some(entry) => entry.fields,

@@ -31,7 +31,7 @@ pub(crate) struct Local {
     /// True if the local receives a value after its initial value.
     pub(crate) is_changed: bool,
     pub(crate) is_read: bool,
-    /// True if the local's value is moved elsewhere.
+    /// True if some use takes the local's value or address, instead of only examining or dereferencing the value.
     pub(crate) is_moved: bool,
     /// The number of elements of the array that is the local's initial value.
     pub(crate) length: Option<u32>,
@@ -96,7 +96,7 @@ pub(crate) struct Suspect {
     pub(crate) local: usize,
 }
 
-/// The locals of a function by their numbers, and the array indices that are out of bounds unless their locals are changed.
+/// The locals of a function by their indices, and the array indices that are out of bounds unless their locals are changed.
 #[derive(Drop)]
 pub(crate) struct Locals {
     pub(crate) all: Vec<Local>,
@@ -114,7 +114,7 @@ impl Locals {
         }
     }
 
-    /// Adds a local, and returns its number.
+    /// Adds a local, and returns its index.
     pub(crate) fn add(&mut self, local: Local) -> usize {
         let number = self.all.len();
         self.is_whole = self.all.push(local).is_ok() && self.is_whole;

@@ -1,4 +1,4 @@
-//! This file finds the source positions at which expressions, statements and items begin.
+//! This file finds the source positions at which expressions, statements and declarations begin.
 use cyc_syntax::{Expr, Item, PrefixOperator, Stmt};
 use cyc_words::Span;
 
@@ -44,7 +44,7 @@ fn span_of_statement(statement: &Stmt) -> Span {
     }
 }
 
-/// Returns the source position of an item: its first token, or else its first name.
+/// Returns the source position of a declaration or statement in a block: its first token, or else its first name.
 pub(crate) fn span_of_item(item: &Item) -> Span {
     match item {
         Item::Statement { statement } => span_of_statement(statement),
@@ -55,7 +55,8 @@ pub(crate) fn span_of_item(item: &Item) -> Span {
     }
 }
 
-/// Returns the source position of the word that shows how an item leaves its block: its first word, or the brace that ends a block in it.
+/// Returns the source position of the token that shows how a declaration or statement leaves its block: the closing brace of an inner
+/// block, or else its first token.
 pub(crate) fn span_of_leaving(item: &Item) -> Span {
     match item {
         Item::Statement {

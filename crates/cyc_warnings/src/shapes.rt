@@ -6,7 +6,7 @@ use cyc_syntax::{BaseType, PointerKind, WrittenType};
 pub(crate) enum Base {
     Int,
     Char,
-    /// A struct, given by the number of its name.
+    /// A struct, given by the number that identifies its name.
     Struct(usize),
     /// A handle or a key.
     Other,
@@ -54,7 +54,7 @@ pub(crate) const OTHER: Shape = Shape {
 };
 
 impl Shape {
-    /// Returns the shape of a written type, given the name number of the region of unique pointers.
+    /// Returns the shape of a written type, given the number that identifies the name of the region of unique pointers.
     pub(crate) fn written(written: &WrittenType, unique: usize) -> Shape {
         let base = match &written.base {
             BaseType::Int => Base::Int,
@@ -101,7 +101,7 @@ impl Shape {
         })
     }
 
-    /// Returns the name number of the struct to which a pointer points.
+    /// Returns the number that identifies the name of the struct to which a pointer points.
     pub(crate) fn struct_after(self) -> Option<usize> {
         match self.base {
             Base::Struct(name) if self.marks == 1 => Some(name),

@@ -1,4 +1,4 @@
-//! This file finds warnings in statements, items and their parts.
+//! This file finds warnings in declarations and statements and in their parts.
 use crate::constants::constant_of;
 use crate::expressions::{is_bare, is_null};
 use crate::finder::Finder;
@@ -9,7 +9,7 @@ use crate::warning::Warning;
 use cyc_syntax::{Expr, Initial, Item, Stmt};
 use cyc_words::Span;
 
-/// Returns true if an item is only a semicolon.
+/// Returns true if a declaration or statement of a block is only a semicolon.
 fn is_empty(item: &Item) -> bool {
     matches!(
         item,
@@ -34,8 +34,8 @@ fn length_of(expression: &Expr) -> Option<u32> {
 impl Finder {
     // ---- items
 
-    /// Examines the items of a block. Returns true if the last item of the block always leaves the block. The analysis does not look for
-    /// exits inside loops.
+    /// Examines the declarations and statements of a block. Returns true if the last of them always leaves the block. The analysis does
+    /// not look for exits inside loops.
     #[cycle(statements)]
     pub(crate) fn look_at_block(&mut self, items: &[Item]) -> bool {
         let depth = self.known.depth();

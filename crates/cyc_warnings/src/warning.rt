@@ -46,7 +46,7 @@ pub enum Warning {
     HiddenCharacter,
 }
 
-/// Returns the text of the warning, in which `%` stands for the word to which the warning refers.
+/// Returns the text of the warning, in which `%` stands for the token to which the warning refers.
 pub fn text_of(warning: Warning) -> &'static str {
     match warning {
         Warning::DoubleMinus => "`--` is two minus signs and changes nothing: write i = i - 1",
@@ -78,7 +78,7 @@ pub fn text_of(warning: Warning) -> &'static str {
     }
 }
 
-/// A warning, its source position, and the source position of the word to which it refers.
+/// A warning, its source position, and the source position of the token to which it refers.
 #[derive(Clone, Copy)]
 pub struct Found {
     pub span: Span,

@@ -1,4 +1,4 @@
--- Two endings are alike exactly if they are equal.
+-- The relation `Alike` holds between two endings of runs exactly if they are equal.
 use Rattle.std.proofs.Common.{◌≡◌, refl, ap, subst}
 use Rattle.cyc_words.specs.Ending.{Ending, Returned, Uncaught, Full, Alike}
 

@@ -98,18 +98,18 @@ module _ (above below : Machine) (m : Matching above below) (steps : Steps above
     pub matches : m.Matches state here
     pub paid : (price : below.Place → ℕ) → sum_by price met ≤ allowed price places
 
-  -- Says that the lower machine's run is in the middle of a step, and that the positions `back` of this step have not been visited yet.
+  -- Says that the lower machine's run is in the middle of an upper machine's step, whose code positions `back` have not been visited yet.
   record IsInside (places : List above.Place) (state : above.State) (met back : List below.Place) : Type 0 where
     pub path : Path above places start state
     pub running : above.status state ≡ Running
     pub paid : (price : below.Place → ℕ) → sum_by price met + sum_by price back ≤ allowed price places + sum_by price (m.own (above.place state))
 
-  -- Says that each continuation of the lower machine's run with fewer than n steps is explained, from every match on.
+  -- Says that each continuation of the lower run from matched states, with fewer than n steps, is explained by a run of the upper machine.
   abbrev Continues : ℕ → Type 0
   Continues n = (places : List above.Place) (state : above.State) (met : List below.Place) (here : below.State) (rest : List below.Place) (now : below.State)
       → IsMatched places state met here → length rest < n → Path below rest here now → Shown (met ++ rest) now
 
-  -- The lower machine completes the step, so the runs match again.
+  -- The lower machine's run has visited all code positions of the upper machine's step, so the runs match again.
   arrives : (places : List above.Place) (state : above.State) (met all : List below.Place) (here : below.State) → IsInside places state met [] → (next : IsMatchedStep above below m state all here) → IsMatched (places ++ above.place state ∷ []) next.next met here
   arrives places state met all here inside next = record {
     path = Path-step above places start state next.next inside.path next.step;
@@ -120,7 +120,7 @@ module _ (above below : Machine) (m : Matching above below) (steps : Steps above
         omega (arith, inside.paid price, last, one);
   }
 
-  -- The lower machine's run visits the next position of the step.
+  -- The lower machine's run visits the next code position that the upper machine's current step owns.
   meets : (places : List above.Place) (state : above.State) (met : List below.Place) (q r : below.Place) (back : List below.Place) → q ≡ r → IsInside places state met (q ∷ back) → IsInside places state (met ++ r ∷ []) back
   meets places state met q r back same inside = record {
     path = inside.path;
@@ -133,7 +133,7 @@ module _ (above below : Machine) (m : Matching above below) (steps : Steps above
         omega (arith, inside.paid price, more, one, first, equal);
   }
 
-  -- The lower machine's run stops at this position, in the middle of a step or just before it.
+  -- The lower machine's run stops at this code position, in the middle of a step of the upper machine or just before such a step.
   stops : (places : List above.Place) (state : above.State) (met : List below.Place) (q : below.Place) (back : List below.Place) (now : below.State)
       → IsInside places state met (q ∷ back) → below.place now ≡ q → IsOnTheWay above below state now → Shown met now
   stops places state met q back now inside stands way =
@@ -152,7 +152,7 @@ module _ (above below : Machine) (m : Matching above below) (steps : Steps above
             omega (arith, inside.paid price, first, equal);
       })
 
-  -- Moving a visited position from one list to the other preserves the claim.
+  -- Moving a visited code position from the rest of the lower run to the positions met before preserves the claim about the run.
   moved : (met : List below.Place) (r : below.Place) (rest : List below.Place) (now : below.State) → Shown ((met ++ r ∷ []) ++ rest) now → Shown (met ++ r ∷ rest) now
   moved met r rest now shown = subst (λ (l : List below.Place). Shown l now) (append_assoc met (r ∷ []) rest) shown
 
@@ -233,7 +233,7 @@ module _ (above below : Machine) (m : Matching above below) (steps : Steps above
   continues (suc n) places state met here rest now matched short path =
       turns n (continues n) (suc (m.weight state)) places state met here rest now (omega arith) matched short path
 
-  -- The claim holds for the initial positions, which are visited before the first match.
+  -- The claim that each lower run is explained holds for the initial code positions, which are visited before the first match.
   comes_first : (met back : List below.Place) (here : below.State) (rest : List below.Place) (now : below.State) → above.status start ≡ Running
       → ((price : below.Place → ℕ) → sum_by price met + sum_by price back ≤ sum_by price before)
       → Comes below (IsOnTheWay above below start) (m.Matches start) back here → Path below rest here now → Shown (met ++ rest) now
@@ -328,8 +328,8 @@ module _ (above middle below : Machine) (before_middle : List middle.Place) (own
   together first met now (inl u) = goes first met now u (first.runs u.places u.state u.path)
   together first met now (inr o) = over met now o (first.runs o.places o.state o.path)
 
-  -- Two simulations compose: the positions that a step owns in the composition are those that the second simulation assigns
-  -- to its positions in the first simulation.
+  -- Two simulations compose. In the composition, a step owns the positions that the second simulation assigns to the
+  -- positions which the step owns in the first simulation.
   pub in_a_row : Follows above middle before_middle own_middle start between → Follows middle below before_below own_below between from
       → Follows above below (before_below ++ flat_map own_below before_middle) (λ p. flat_map own_below (own_middle p)) start from
   in_a_row first second = record { runs = λ met now path. together first met now (second.runs met now path) }
@@ -343,8 +343,8 @@ fewer k n each less =
     omega (arith, times, more)
 
 module _ (above below : Machine) (laws : IsLawful above) (before : List below.Place) (own : above.Place → List below.Place) (start : above.State) (from : below.State) (follows : Follows above below before own start from) where
-  -- The state of the upper machine after n steps, with which the lower machine has caught up; below it, the proof
-  -- from a later state of the upper machine.
+  -- The state of the upper machine after n steps, with which the lower machine has caught up. The next lemma is
+  -- the proof from a later state of the upper machine.
   abbrev After : ℕ → below.State → Type 0
   After n now = (state : above.State) × Run above n start state × ComesTo (above.seen state) (below.seen now)
       × ((ending : Ending) → above.status state ≡ Ended ending → (below.status now ≡ Ended ending) × (below.seen now ≡ above.seen state))

@@ -26,7 +26,7 @@ IsWord-unsigned (negsuc n) = omega arith
 pub FitsSigned-signed : (w : ℕ) → IsWord w → FitsSigned w32 (signed w)
 FitsSigned-signed w h = search (rules, ints)
 
--- The signed meaning of a word below 2 ^ 31 is the word; below it, the signed meaning of a word from 2 ^ 31 on.
+-- The signed meaning of a word below 2 ^ 31 is the word itself. The next lemma gives the signed meaning of a word from 2 ^ 31 on.
 pub signed_low : (w : ℕ) → w < 2 ^ 31 → signed w ≡ pos w
 signed_low w h = omega (arith, ints)
 
@@ -60,7 +60,7 @@ unsigned-sub (pos x) (negsuc y) = grind (arith, ints)
 unsigned-sub (negsuc x) (pos y) = grind (arith, ints)
 unsigned-sub (negsuc x) (negsuc y) = grind (arith, ints)
 
--- The signed meaning of a wrapped integer equals the wrapping of std at 32 bits.
+-- The signed meaning of a wrapped integer equals the result of std's wrapping of an integer to 32 signed bits.
 signed-unsigned_wraps : (z : ℤ) → signed (unsigned z) ≡ int_wrap w32 z
 unfolding int_wrap
 signed-unsigned_wraps (pos n) = refl

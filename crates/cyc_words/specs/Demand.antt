@@ -22,7 +22,8 @@ region_pages sizes = pages_from 1 0 sizes
 
 -- ---- unique blocks
 
--- A block's class is the exponent of the least power of two that is at least its size. The greatest class is a complete page.
+-- A block's size class is the exponent of the least power of two that is at least the block's size in words. The greatest
+-- size class is a complete page.
 abbrev pub greatest_class : ℕ
 greatest_class = 10
 
@@ -33,16 +34,16 @@ class_from (suc left) class size = if nat_le size (2 ^ class) then class else cl
 abbrev pub class_of : (size : ℕ) → ℕ
 class_of size = class_from greatest_class 0 size
 
--- the number of blocks of a class that fit into one page
+-- the number of blocks of a size class that fit into one page
 abbrev pub blocks_in_page : (class : ℕ) → ℕ
 blocks_in_page class = page_words / 2 ^ class
 
--- The number of pages that this many live blocks of a class need, rounded up.
+-- The number of pages that this many live blocks of a size class need, rounded up.
 abbrev pub pages_for : (class live : ℕ) → ℕ
 pages_for class live = (live + (blocks_in_page class - 1)) / blocks_in_page class
 
--- The number of pages of a class: the number that its largest number of live blocks so far needs. `live` lists the number of live blocks in
--- each state.
+-- The number of pages of a size class: the number that its largest number of live blocks so far needs. `live` lists the number of live
+-- blocks in each state.
 abbrev pub class_pages : (class : ℕ) → (live : List ℕ) → ℕ
 class_pages class [] = 0
 class_pages class (n ∷ live) = max (pages_for class n) (class_pages class live)
@@ -53,7 +54,7 @@ abbrev pub total : List ℕ → ℕ
 total [] = 0
 total (n ∷ ns) = n + total ns
 
--- The number of pages of all regions, given the block sizes of each region, plus the pages of all classes.
+-- The number of pages of all regions, given the block sizes of each region, plus the pages of all size classes.
 abbrev pub demand_of : (regions : List (List ℕ)) → (classes : List ℕ) → ℕ
 demand_of [] classes = total classes
 demand_of (sizes ∷ regions) classes = region_pages sizes + demand_of regions classes

@@ -32,7 +32,7 @@ NeverFails m start = (n : ℕ) (s : m.State) → Run m n start s → m.status s 
 -- `each` steps before the first one.
 pub record Preserves (above below : Machine) (each : ℕ) (start : above.State) (from : below.State) : Type 0 where
   -- After enough steps, the lower machine has printed and read all that the upper machine has printed and read. If the upper machine's
-  -- run has ended, then the lower machine's run has ended alike.
+  -- run has ended, then the lower machine's run has ended in the same way.
   pub ahead : (n : ℕ) (now : below.State) → Run below ((n + 1) * each) from now
       → (state : above.State) × Run above n start state × ComesTo (above.seen state) (below.seen now)
       × ((ending : Ending) → above.status state ≡ Ended ending → (below.status now ≡ Ended ending) × (below.seen now ≡ above.seen state))

@@ -16,7 +16,7 @@ abbrev pub unsigned : ℤ → ℕ
 unsigned (pos n) = n % 2 ^ 32
 unsigned (negsuc n) = 2 ^ 32 - 1 - n % 2 ^ 32
 
--- Says that a number is a halfword (16 bits); below it, the signed meaning of a halfword and its sign extension to a word.
+-- Says that a number is a halfword (16 bits). The next definitions are the signed meaning of a halfword and its sign extension to a word.
 abbrev pub IsHalf : ℕ → Type 0
 IsHalf h = h < 2 ^ 16
 
@@ -31,7 +31,8 @@ abbrev pub floor_div : ℤ → ℕ → ℤ
 floor_div (pos n) d = pos (n / d)
 floor_div (negsuc n) d = negsuc (n / d)
 
--- The sum of two words, wrapped; below it, the difference (a + 2 ^ 32 - b, since `-` stops at 0) and the product, both wrapped.
+-- The sum of two words, wrapped. The next definitions are the difference (a + 2 ^ 32 - b, since `-` stops at 0) and the
+-- product, both wrapped.
 abbrev pub add_of : ℕ → ℕ → ℕ
 add_of a b = (a + b) % 2 ^ 32
 
@@ -51,14 +52,14 @@ shr_of a k = a / 2 ^ (k % 32)
 unfoldable pub sar_of : ℕ → ℕ → ℕ
 sar_of a k = unsigned (floor_div (signed a) (2 ^ (k % 32)))
 
--- The comparison of two words as signed numbers: 1 if a is less than b, otherwise 0; below it, the comparison as unsigned words.
+-- The comparison of two words as signed numbers: 1 if a is less than b, otherwise 0. The next definition compares them as unsigned words.
 unfoldable pub slt_of : ℕ → ℕ → ℕ
 slt_of a b = if int_lt (signed a) (signed b) then 1 else 0
 
 abbrev pub sltu_of : ℕ → ℕ → ℕ
 sltu_of a b = if nat_lt a b then 1 else 0
 
--- The quotient of signed numbers, rounded toward zero; below it, the remainder, which has the dividend's sign.
+-- The quotient of signed numbers, rounded toward zero. The next definition is the remainder, which has the dividend's sign.
 unfoldable pub div_of : ℕ → ℕ → ℕ
 div_of a b = unsigned (int_div (signed a) (signed b))
 

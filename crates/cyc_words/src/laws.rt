@@ -68,7 +68,8 @@ pub fn prefixes()
     ensures antisymmetric { (xs ys : List ℕ) → IsPrefix xs ys → IsPrefix ys xs → xs ≡ ys }
 {}
 
-/// Endings are alike exactly if they are equal. Likeness of endings is therefore reflexive, symmetric and transitive.
+/// The relation `Alike` holds between two endings of runs exactly if they are equal. The relation is therefore
+/// reflexive, symmetric and transitive.
 pub fn endings()
     ensures { (e f : Ending) → Alike e f ↔ (e ≡ f) }
 {}

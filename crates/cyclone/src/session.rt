@@ -86,7 +86,7 @@ fn carry_out(rt: &HostRuntime, request: &Request<'_>, libraries: &[&str], is_one
     }
 }
 
-/// Prints the memory requirements of one of several programs, below its name.
+/// Prints the bounds of what the runs of one of several programs need, below the program's name.
 fn bound_one(rt: &HostRuntime, source: &str, libraries: &[&str]) -> Result<Answer, Answer> {
     print_name(rt, source)?;
     bound_file(rt, source, libraries)

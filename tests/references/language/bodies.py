@@ -220,8 +220,8 @@ class Expressions:
             raise Refused(22, node.start)
 
     def compared(self, node, left, right):
-        # The position of a comparison is the start of its left operand, inside the parentheses
-        # around the comparison.
+        # The source position of a comparison is the start of its left operand, inside the
+        # parentheses around the comparison.
         for side, type in ((node.left, left), (node.right, right)):
             if type != NULL and not is_number(type) and not is_pointer(type):
                 raise Refused(22, side.start)

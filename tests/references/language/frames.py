@@ -1,14 +1,14 @@
 """The words of a function's frame, which the limit of frames speaks of: they are counted on the tree alone."""
 from .types import NOTHING, NULL, is_fat
 
-# The numbers of words in a stack frame: for the frame itself, for a `try`, for an address, and for an array `for` besides its
-# element.
+# The numbers of machine words in a stack frame: for the frame itself, for a `try`, for an address, and for an array `for`
+# besides its element.
 FRAME_ITSELF = 24
 TRY_WORDS = 6
 PLACE_WORDS = 3
 ARRAY_WORDS = 4
-# The number of words in a frame for the handle of a lexical region, and for the handle of a region
-# opened by a key.
+# The number of machine words in a frame for a lexical region's handle, and for the handle of a
+# region opened by a key.
 LEXICAL_WORDS, HANDLE_WORDS = 2, 1
 
 

@@ -4,7 +4,7 @@ from .runs import Run
 from .types import is_number
 from .values import End, Thrown
 
-# The built-in exceptions of the language, in the order of their numbers.
+# The built-in exceptions of the language, in the order of their indices.
 BUILT_IN = ("Null_Exception", "Array_bounds", "Array_size", "Div_zero")
 # The maximum number of calls that a report of a stopped run lists.
 MOST_CALLS = 32

@@ -7,7 +7,7 @@ from .types import CHAR, NULL, is_fat, is_number, is_pointer, narrowed, wrapped
 PAGE_WORDS, WORD_BYTES = 1_024, 4
 ARRAY_WORDS_AT_MOST = 1_000
 NULL_EXCEPTION, ARRAY_BOUNDS, ARRAY_SIZE, DIVISION_BY_ZERO = 1, 2, 3, 4
-# The content of a memory cell that was never written.
+# The value that stands for a memory cell that was never written.
 NOTHING_YET = object()
 
 

@@ -12,7 +12,7 @@ WIDTH = 32
 # Characters beyond ASCII that a reader cannot see: control characters, direction marks and embeddings, zero-width characters, line
 # separators, the byte-order mark, tags.
 HIDDEN = re.compile("[\x80-\x9f\u061c\u200b-\u200f\u2028-\u202e\u2060-\u206f\ufeff\U000e0000-\U000e007f]")
-# The numbers of chars, fat pointers and other elements that occupy 1,000 words.
+# The numbers of chars, fat pointers and other elements that occupy 1,000 machine words.
 CHARS_AT_MOST, FATS_AT_MOST, CELLS_AT_MOST = 4000, 333, 1000
 
 

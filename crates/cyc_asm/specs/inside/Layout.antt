@@ -21,12 +21,12 @@ is_near code from to =
     && nat_le (most_before code from) (most_before code to + MAX_REACH)
 
 -- Returns the number of words of a branch or jump at its own position. If its delay slot is filled, the branch stands at the
--- previous line's position, and the instruction in the slot at the branch's position.
+-- previous line's position, and the instruction in the delay slot at the branch's position.
 abbrev pub head_width : Option Instr → ℕ
 head_width (Some instruction) = 0
 head_width None = 1
 
--- Returns the number of words after a branch or jump: its delay slot, and for a far branch the jump that it skips, with the jump's slot.
+-- Returns the number of words after a branch or jump: its delay slot, and for a far branch the skipped jump with its delay slot.
 abbrev pub tail_width : (near : Bool) → ℕ
 tail_width near = if near then 1 else 3
 

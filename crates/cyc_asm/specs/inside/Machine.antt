@@ -13,7 +13,7 @@ use Rattle.cyc_select.specs.inside.Labelled.{Labelled}
 use Rattle.cyc_select.specs.inside.Machine as labelled
 use Rattle.cyc_asm.specs.inside.Text.{text_of, own}
 
--- Returns the initial world of the MIPS machine with these words of text and these words in the data range.
+-- Returns the initial state of the MIPS machine, its memory and its devices, with these words of text and these words in the data range.
 abbrev pub start_in : (words globals stack : List ℕ) → StoreState → (calls : ℕ) → (input : List ℕ) → World
 start_in words globals stack store calls input =
     record {
@@ -30,8 +30,8 @@ abbrev pub start : Labelled → (words : List ℕ) → StoreState → (calls : �
 start code words store calls input =
     start_in words (labelled.globals_of code.globals) (replicate (words_per_call * calls) 0) store calls input
 
--- `Runs` says that for every store and input, the MIPS machine that runs the words does the same as the labelled machine, unless the
--- labelled machine fails. For each line it visits only the line's own words, each at most once.
+-- `Runs` says that for every store and input, the MIPS machine that runs the words does as the labelled machine does, unless the latter
+-- fails. For each line that the labelled machine visits, the MIPS machine visits only the line's own words, each at most once.
 abbrev pub Runs : Labelled → (addresses : ℕ → ℕ) → (words : List ℕ) → Type 0
 Runs code addresses words =
     (store : StoreState) (calls : ℕ) (input : List ℕ) → calls ≤ MAX_CALLS

@@ -49,7 +49,7 @@ abbrev pub is_label : (number : ℕ) → Option ℕ → Bool
 is_label number (Some label) = label == number
 is_label number None = false
 
--- Returns true if some line jumps to the line with this number.
+-- Returns true if some line jumps to the line with this index.
 abbrev pub is_named : List Line → (number : ℕ) → Bool
 is_named code number = list_any (λ line. is_label number (label_of line)) code
 
@@ -75,8 +75,8 @@ may_lack fills (Some (lines.Call label)) = false
 may_lack fills (Some line) = true
 may_lack fills None = false
 
--- Returns true if the line with this number is unreachable: no line jumps to it, and the line before it is unreachable or never
--- continues with it.
+-- Returns true if the line with this index is unreachable: no line jumps to it, and the line before is unreachable or never
+-- continues there.
 abbrev pub is_unreached_after : (unreached : Bool) → List Line → (number : ℕ) → Bool
 is_unreached_after unreached code zero = false
 is_unreached_after unreached code (suc before) =
@@ -98,7 +98,7 @@ abbrev pub moved : Option Line → Option Line → Option Instr
 moved (Some (lines.Ordinary instruction)) (Some line) = if moves instruction line then Some instruction else None
 moved before line = None
 
--- Returns the instruction that fills the delay slot of the line with this number, if one does.
+-- Returns the instruction that fills the delay slot of the line with this index, if one does.
 abbrev pub filling : List Line → (number : ℕ) → Option Instr
 filling code zero = None
 filling code (suc before) =

@@ -92,8 +92,8 @@ StandsFrom code words addresses number lines.Return slotted from =
     IsAt words from (JumpRegister return_register) × IsAt words (from + 4) slotted
     × (addresses (suc number) ≡ from + 8)
 
--- `StandsFilled` says where a branch or jump is in the text. If its delay slot is empty, it is at the address of its own line. If the slot
--- is filled, it is at the previous line's address, so that a jump to the previous line executes it first.
+-- `StandsFilled` says where a branch or jump is in the text. A branch or jump with an empty delay slot is at the address of its own line.
+-- A branch or jump with a filled delay slot is at the previous line's address, so a jump to the previous line executes it first.
 abbrev pub StandsFilled : Option Instr → Labelled → List ℕ → (ℕ → ℕ) → (number : ℕ) → Line → Type 0
 StandsFilled None code words addresses number line =
     StandsFrom code words addresses number line nothing (addresses number)
@@ -121,8 +121,8 @@ abbrev pub stretch : (from count : ℕ) → List ℕ
 stretch from zero = []
 stretch from (suc count) = from ∷ stretch (from + 4) count
 
--- Returns the addresses of a line's own words: from its address up to the next line's. If the line's delay slot is filled, the previous
--- line owns the word of the branch or jump, and this line owns the slot.
+-- Returns the addresses of a line's own words: from its address up to the next line's. If a line's delay slot is filled, the previous
+-- line owns the word of the branch or jump, and the line owns the delay slot.
 abbrev pub own : (ℕ → ℕ) → ℕ → List ℕ
 own addresses number = stretch (addresses number) ((addresses (suc number) - addresses number) / 4)
 

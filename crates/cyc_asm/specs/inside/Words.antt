@@ -88,7 +88,7 @@ words_in code number None = []
 abbrev pub words_at : List Line → ℕ → List ℕ
 words_at code number = if is_unreached code number then [] else words_in code number (slice_get code number)
 
--- Returns the words of the lines before the one with this number.
+-- Returns the words of the lines before the one with this index.
 abbrev pub words_before : List Line → ℕ → List ℕ
 words_before code zero = []
 words_before code (suc number) = words_before code number ++ words_at code number

@@ -1,4 +1,4 @@
--- The costs of the parts of lists that are visited part by part, and the costs found for the size classes of unique blocks.
+-- The costs of the elements of lists that are visited element by element, and the costs found for the size classes of unique blocks.
 use Rattle.std.specs.Prelude.{◌≡◌, ◌<◌, ◌≤◌, ℕ, suc, ◌+◌, ◌*◌, ◌^◌, max, List, [], ◌∷◌}
 use Rattle.cyc_words.specs.Demand.{greatest_class}
 use Rattle.cyc_types.specs.TypedTrees.{Program}
@@ -20,13 +20,13 @@ operation_cost m costs (operation.Test o e) = expression_cost m costs (view_expr
 operation_cost m costs (operation.Pointer o e) = expression_cost m costs (view_expression e) + step_cost m
 operation_cost m costs (operation.PointerPeek n o e) = expression_cost m costs (view_expression e) + step_cost m
 
--- the cost of catch clauses that are tried one after another, from the cost of the part after them
+-- the cost of catch clauses that are tried one after another, from the cost of the execution that follows the last clause
 abbrev pub clauses_then : Measure → (costs : List ℕ) → List Clause → (last : ℕ) → ℕ
 clauses_then m costs [] last = last
 clauses_then m costs (c ∷ cs) last = step_cost m + max (caught_cost m c.number (items_cost m costs (items_of c.items.items))) (clauses_then m costs cs last)
 
--- says that `pages` are the pages of the size classes before `class`, and that the costs of these
--- classes are below the greatest counted value
+-- says that `pages` is the number of pages of the size classes before `class`, and that the costs
+-- of these classes are below the greatest counted value
 abbrev pub AreUniquesSoFar : Program → (cost : Measure → ℕ) → (class pages : ℕ) → Type 0
 AreUniquesSoFar program cost class pages =
     (pages ≡ unique_pages cost class) × ((pages ≤ class * 2 ^ 51) × ((other : ℕ) → other < class → IsRunCost program (measures.Uniques other) (cost (measures.Uniques other)) × (cost (measures.Uniques other) < too_many)))

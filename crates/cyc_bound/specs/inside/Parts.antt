@@ -1,4 +1,4 @@
--- The callees of the parts of lists that are visited part by part.
+-- The functions called in the elements of lists that are visited element by element.
 use Rattle.std.specs.Prelude.{ℕ, List, [], option_map}
 use Rattle.cyc_types.specs.declared.typed.Operation.{Operation}
 use Rattle.cyc_types.specs.declared.typed.Operation.TheVariants as operation
@@ -14,7 +14,7 @@ operation_callees (operation.Test o e) = expression_callees (view_expression e)
 operation_callees (operation.Pointer o e) = expression_callees (view_expression e)
 operation_callees (operation.PointerPeek n o e) = expression_callees (view_expression e)
 
--- the callees of one item of a block
+-- the functions called in one declaration or statement of a block
 abbrev pub item_callees : Item → List ℕ
 item_callees (item.Execute s) = statement_callees (view_statement s)
 item_callees (item.Local w n t v) = value_callees (option_map view_converted v)

@@ -7,7 +7,7 @@ use Rattle.cyc_bound.specs.Bound.{Row}
 abbrev pub AreMarked : (marks : List Bool) → (found : List ℕ) → Type 0
 AreMarked marks found = (f : ℕ) → get_or marks f false ≡ true → Contains found f
 
--- says that the function is in the list found afterwards, and that no other function was added
+-- says that a function is in the list of functions found after it was added, and that no other function was added
 pub record IsNoted (before : List ℕ) (function : ℕ) (marks : List Bool) (after : List ℕ) : Type 0 where
   pub marked : AreMarked marks after
   pub there : Contains after function

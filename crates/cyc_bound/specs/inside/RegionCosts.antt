@@ -1,5 +1,5 @@
--- The costs of the items of lists that are visited item by item for regions. The file also defines the costs for regions open at the same
--- time, and the costs for the pages of regions.
+-- The costs of the declarations and statements of blocks that are visited one by one for regions. The file also defines the costs for
+-- regions open at the same time, and the costs for the pages of regions.
 use Rattle.std.specs.Prelude.{◌≡◌, ◌<◌, ◌^◌, ℕ, Bool, true, false, List, Option, Some, None}
 use Rattle.cyc_types.specs.TypedTrees.{Item, Execute, DeclareRegion, Program}
 use Rattle.cyc_bound.specs.declared.costs.Measure.{Measure}
@@ -10,17 +10,17 @@ use Rattle.cyc_bound.specs.Costs.{too_many, StillGrow}
 use Rattle.cyc_bound.specs.AtOnce.{statement_at_once, IsAtOnce}
 use Rattle.cyc_bound.specs.Pages.{IsForPages, IsCost, most_region_pages}
 
--- true if the item declares a lexical region
+-- true if an element of a block declares a lexical region
 abbrev pub opens : Item → Bool
 opens (DeclareRegion r n) = true
 opens j = false
 
--- the cost of the costliest outermost region inside an item that declares no region
+-- the cost of the costliest outermost region inside an element of a block that declares no region itself
 abbrev pub item_at_once : Measure → (costs : List ℕ) → Item → ℕ
 item_at_once m costs (Execute s) = statement_at_once m costs s
 item_at_once m costs j = 0
 
--- says that the result is the cost of the costliest outermost region, or that the costs of functions still grow
+-- says that the result is the cost of the costliest outermost region, or that the costs of functions still grow after the last round
 abbrev pub IsAtOnceFound : Program → Measure → Option ℕ → Type 0
 IsAtOnceFound program m (Some cost) = IsAtOnce program m cost
 IsAtOnceFound program m None = StillGrow program m
@@ -30,7 +30,7 @@ abbrev pub IsOfRegions : Measure → Type 0
 IsOfRegions (measures.Uniques class) = ⊥
 IsOfRegions m = Unit {0}
 
--- says that `AreCounted` holds for the measures of regions
+-- says that `AreCounted` holds for the measures that determine the pages of regions
 abbrev pub AreRegionsCounted : Program → (gives_back : Bool) → (cost : Measure → ℕ) → Type 0
 AreRegionsCounted program gives_back cost = (m : Measure) → IsForPages gives_back m → IsOfRegions m → IsCost program gives_back m (cost m) × (cost m < too_many)
 

@@ -1,4 +1,4 @@
--- The effect of a round on the costs of functions, and the result after the last round.
+-- The effect of a round of the computation on the costs of functions, and the result after the last round.
 use Rattle.std.specs.Prelude.{◌≡◌, ℕ, List, max, get_or, set, length, Option, Some, None}
 use Rattle.std.specs.declared.vec.Vec.{Vec}
 use Rattle.std.specs.declared.alloc.Global.{Global as Heap}
@@ -19,17 +19,17 @@ pub record AreRaised (program : Program) (m : Measure) (before after : List ℕ)
   pub next : Below (next_costs program m before) after
   pub least : (others : List ℕ) → IsClosed program m others → Below before others → Below after others
 
--- says that the result contains the costs of functions, or that these costs still grow
+-- says that the result contains the costs of functions, or that these costs still grow after the last round
 abbrev pub AreFound : Program → Measure → Option (Vec ℕ Heap) → Type 0
 AreFound program m (Some costs) = AreCosts program m costs.items
 AreFound program m None = StillGrow program m
 
--- says that the result contains sufficient costs of functions, or that the costs still grow
+-- says that the result contains sufficient costs of functions, or that the costs still grow after the last round
 abbrev pub AreEnoughFound : Program → Measure → Option (Vec ℕ Heap) → Type 0
 AreEnoughFound program m (Some costs) = AreEnough program m costs.items
 AreEnoughFound program m None = StillGrow program m
 
--- says that the result is the cost of a run, or that this cost still grows
+-- says that the result is the cost of a run, or that this cost still grows after the last round
 abbrev pub IsFound : Program → Measure → Option ℕ → Type 0
 IsFound program m (Some cost) = IsRunCost program m cost
 IsFound program m None = StillGrow program m

@@ -1,5 +1,5 @@
--- An invariant about the active calls in every state of a run. The functions of the active calls form a chain from `main`. The remaining
--- part of each active call is a part of its function's body. The invariant about active calls is this project's own choice.
+-- An invariant about the active calls in every state of a run. The functions of the active calls form a chain from `main`. The code that
+-- each active call has still to execute is a part of its function's body. The invariant about active calls is this project's own choice.
 use Rattle.std.specs.Prelude.{◌≡◌, ℕ, List, [], ◌∷◌, ◌++◌}
 use Rattle.std.specs.List.{AllByRecursion}
 use Rattle.cyc_types.specs.TypedTrees.{Program}

@@ -1,4 +1,4 @@
--- The state and the result of the search over calls.
+-- The state and the result of the search for the longest chain of calls from `main`.
 use Rattle.std.specs.Prelude.{◌≡◌, ℕ, ◌<◌, ◌≤◌, List, get_or}
 use Rattle.cyc_types.specs.TypedTrees.{Program}
 use Rattle.cyc_bound.specs.declared.bound.CallBound.{CallBound}
@@ -9,7 +9,7 @@ use Rattle.cyc_bound.specs.Bound.{most_calls, IsHeight}
 abbrev pub AreHeights : Program → List ℕ → Type 0
 AreHeights program heights = (f : ℕ) → 0 < get_or heights f 0 → IsHeight program f (get_or heights f 0) × (get_or heights f 0 ≤ most_calls)
 
--- says that, if a height was found, the path is unchanged and the table of heights is correct
+-- says that, if a function's height was found, the search path is unchanged and the table of heights is correct
 abbrev pub GoesOn : Program → (before after heights : List ℕ) → CallBound → Type 0
 GoesOn program before after heights (bounds.Calls count) = (after ≡ before) × AreHeights program heights
 GoesOn program before after heights bound = Unit {0}

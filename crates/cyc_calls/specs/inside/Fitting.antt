@@ -50,7 +50,7 @@ pub record FitsType (old new : List (Option Region)) (t u : Ty) : Type 0 where
   pub stand : AllStand (instance_in new) (paired t u)
   pub usual : list_any is_unique_for_variable (paired t u) ≡ false
 
--- Says that the region of a value's outermost pointer outlives the one of the parameter's type.
+-- Says that the region of a value's outermost pointer outlives the region of the outermost pointer of the parameter's type.
 pub record FitsOutermost (c : RegionContext) (old new : List (Option Region)) (r s : Region) : Type 0 where
   pub noted : new ≡ noted_place old (r, s)
   pub outlived : (later : List (Region × Region)) → is_outliving c s (substituted_region (instance_later new later) r) ≡ true

@@ -4,7 +4,7 @@ use Rattle.std.specs.Prelude.{ℕ, List, [], ◌∷◌, map, Option, Some, None,
 use Rattle.cyc_types.specs.declared.region.Region.{Region}
 use Rattle.cyc_types.specs.declared.region.Region.TheVariants.{Heap, Unique, Variable}
 
--- Records a region for the variable with the given number, if the variable has no recorded region yet.
+-- Records a region for the region variable with the given index, if the variable has no recorded region yet.
 abbrev pub noted_at : Option (Option Region) → ℕ → Region → List (Option Region) → List (Option Region)
 noted_at (Some None) n s table = slice_set table n (Some s)
 noted_at known n s table = table

@@ -51,7 +51,7 @@ TakesAll g [] [] = Unit {0}
 TakesAll g (t ∷ ts) (a ∷ as') = TakesValue g t (type_of a) × TakesAll g ts as'
 TakesAll g ts as' = ⊥
 
--- Says that a call of a plain signature with the given values has no fault.
+-- Says that a call, with the given values, of a plain signature (each region of its parameters occurs only once) has no fault.
 pub record IsTakenPlainly (g : Scope) (s : Signature) (as' : List typed.Expression) : Type 0 where
   pub plain : IsPlain s
   pub heap : is_live g Heap ≡ true

@@ -1,4 +1,4 @@
--- A typed function is built from its signature, its name, its items and its number of regions.
+-- A typed function is built from its signature, its name, the declarations and statements of its body, and its number of regions.
 use Rattle.std.specs.Prelude.{ℕ}
 use Rattle.cyc_syntax.specs.Symbols.{Place}
 use Rattle.cyc_syntax.specs.Trees.{Named}

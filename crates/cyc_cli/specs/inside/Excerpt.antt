@@ -1,4 +1,4 @@
--- This file defines how a position in a text is displayed to a user. The display is this project's own choice.
+-- This file defines how a source position and the line around it are displayed to a user. The display is this project's own choice.
 use Rattle.std.specs.Prelude.{◌≡◌, ℕ, ◌+◌, ◌-◌, ◌≤◌, ◌↔◌, ◌==◌, ◌/◌, ◌%◌, ◌&&◌, ◌||◌, Bool, nat_le, min, nat_lt, List, [], ◌∷◌, ◌++◌, length, replicate, take, slice_index_or, drop, codes, if◌then◌else◌, false}
 use Rattle.std.specs.List.{flat_map, slice_split}
 use Rattle.std.specs.Fmt.{digit_glyph}
@@ -82,8 +82,9 @@ most_name = 512
 abbrev pub name_text : List ℕ → List ℕ
 name_text name = dots (length name - most_name) ++ shown_bytes (drop (length name - most_name) name)
 
--- Says that an excerpt shows a line around a position with `place` bytes before it. The excerpt is a contiguous part of the line, split at
--- the position; it is the complete line if the line has at most `most_shown` bytes. Dots stand for the bytes omitted at either end.
+-- Says that an excerpt shows a line around a source position with `place` bytes before it. The excerpt is a contiguous part of the line,
+-- split at the source position; it is the complete line if the line has at most `most_shown` bytes. Dots stand for the bytes omitted at
+-- either end of the line.
 pub record IsExcerpt (line : List ℕ) (place : ℕ) (e : Excerpt) : Type 0 where
   pub left_out : ℕ
   pub right_out : ℕ

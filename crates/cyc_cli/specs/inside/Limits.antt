@@ -22,15 +22,16 @@ carried_by None None = None
 carried_by None (Some calls) = Some (DEFAULT_PAGES, calls)
 carried_by (Some pages) calls = Some (pages, unwrap_or calls DEFAULT_CALLS)
 
--- The limits for a run that needs this many pages and calls. Each limit is the need or the least allowed limit, and none is returned if a
--- need exceeds the greatest allowed limit.
+-- The limits for a run that needs this many pages and calls. Each limit is the greater of the need and the least allowed limit; none is
+-- returned if a need exceeds the greatest allowed limit.
 abbrev pub limits_for : (pages calls : ℕ) → Option Given
 limits_for pages calls =
     if nat_le pages MAX_PAGES && nat_le calls MAX_CALLS
     then Some (record { pages = Some (max MIN_PAGES pages); calls = Some (max MIN_CALLS calls) })
     else None
 
--- The limits of a run of an image that may contain limits: each limit is the given one, or else the image's limit, or else the default.
+-- The limits of a run of an image that may contain limits: each limit is the one that the command line gives, or else the image's
+-- limit, or else the default.
 abbrev pub limits_by : Given → (note : Option (ℕ × ℕ)) → Bounds
 limits_by given None = record { pages = unwrap_or given.pages DEFAULT_PAGES; calls = unwrap_or given.calls DEFAULT_CALLS }
 limits_by given (Some limits) = record { pages = unwrap_or given.pages limits.0; calls = unwrap_or given.calls limits.1 }

@@ -44,8 +44,8 @@ AreCapsOf given caps = IsNumberIfGiven (given (codes "at-most-pages")) caps.page
 abbrev pub IsFlagOf : Option (List ℕ) → Bool → Type 0
 IsFlagOf given flag = flag ≡ true ↔ given ≡ Some (codes "true")
 
--- Says that a flag tells if `auto`, the only word that is allowed, is given for the limits. If so, both limits come from the
--- program, and no limit is given by number.
+-- Says that a flag tells if `auto`, the only text that the option allows, is given for the limits. If `auto` is given, both
+-- limits are computed from the program, and no limit is given by number.
 abbrev pub IsAutoOf : Option (List ℕ) → Given → Bool → Type 0
 IsAutoOf None limits auto = auto ≡ false
 IsAutoOf (Some text) limits auto = (text ≡ codes "auto") × (auto ≡ true) × (limits.pages ≡ None) × (limits.calls ≡ None)
@@ -61,7 +61,7 @@ abbrev pub run_name : (source : Bool) → List ℕ
 run_name true = codes "exec"
 run_name false = codes "run"
 
--- Says that a fault code has the number that is written.
+-- Says that a fault code has the number that is written on the command line.
 abbrev pub IsCodeOf : Option (List ℕ) → Code → Type 0
 IsCodeOf (Some text) code = number_of code ≡ digits_value 10 text
 IsCodeOf None code = ⊥
@@ -100,8 +100,8 @@ IsRequestOf name given (Format source output check) = (name ≡ codes "format") 
     × IsFlagOf (given (codes "check")) check
 IsRequestOf name given (Pack text) = (name ≡ codes "pack") × (given (codes "text") ≡ Some text.now)
 
--- Says that a request is the one of the words of a command line, for a program with these commands and options, according to
--- the command-line parser.
+-- Says that a request is the one that the words of a command line make, for a program with these commands and options, as
+-- parsed by the command-line parser.
 abbrev pub IsAskedOf : App → (words : List Text) → Request → Type 0
 IsAskedOf program words request = is_simple program ≡ true
     → (found : Text × List Row) × (subcommand_of program words ≡ Some found) × IsRequestOf found.0 (λ id. first_of id found.1) request

@@ -26,8 +26,8 @@ AreFunctionsOf (h ∷ hs) (r ∷ rs) = IsFunctionOf h r × AreFunctionsOf hs rs
 AreFunctionsOf [] (r ∷ rs) = ⊥
 AreFunctionsOf (h ∷ hs) [] = ⊥
 
--- The plain program for a source program: it behaves as the source, its size is bounded by the source's weight, and its globals are the
--- words of the source's globals.
+-- The plain program for a source program: it behaves as the source, and its globals are the words of the source's globals. The size of
+-- the plain program is bounded by the number of tokens that the source's spelling needs.
 pub record IsProgramOf (source : Program) (plain : PlainProgram) : Type 0 where
   pub functions : AreFunctionsOf source.functions plain.functions
   pub globals : length plain.globals ≡ words_of_all (global_types source.globals)

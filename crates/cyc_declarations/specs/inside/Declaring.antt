@@ -11,7 +11,7 @@ use Rattle.cyc_types.specs.typing.DeclarationRules.{Known, parameter_names, fiel
 use Rattle.cyc_types.specs.typing.Programs.{Program, exceptions_before, declared_before}
 use Rattle.cyc_declarations.specs.declared.declared.Declared.{Declared}
 
--- the declarations added so far, and the numbers that the next global and the next function get
+-- the declarations added so far, and the indices that the next global and the next function get
 pub record State : Type 0 where
   pub program : Program
   pub globals : ℕ
@@ -20,7 +20,7 @@ pub record State : Type 0 where
 abbrev pub state_of : Declared → State
 state_of d = record { program = d.program; globals = d.globals; functions = d.functions }
 
--- the built-in declarations of a program, from the names known in the program
+-- the built-in declarations of a program, from its built-in regions, its struct names and the number of `main`
 abbrev pub program_before : List (List ℕ) → Known → Program
 program_before texts k = record { known = k; fields = []; exceptions = exceptions_before texts; declared = declared_before texts }
 

@@ -1,4 +1,4 @@
--- The keys that the code finds among the types of a signature, and the regions of the signature's effect.
+-- The keys of dynamic regions that the code finds among the types of a signature, and the regions of the signature's effect.
 use Rattle.std.specs.Prelude.{◌≡◌, ℕ, zero, suc, Bool, not, nat_eq, ◌&&◌, if◌then◌else◌, List, [], ◌∷◌, map, Option, Some, None}
 use Rattle.std.specs.List.{list_any}
 use Rattle.cyc_words.specs.declared.fault.Code.TheVariants as codes
@@ -12,22 +12,22 @@ use Rattle.cyc_types.specs.typing.Formation.{region_of, is_name_of, name_demande
 use Rattle.cyc_types.specs.typing.DeclarationRules.{has_key}
 use Rattle.cyc_declarations.specs.declared.keys.Keys.{Keys}
 
--- true if the set of keys contains a key of the region
+-- true if the set of keys (used to open dynamic regions) contains a key of the given region
 abbrev pub has : Keys → Region → Bool
 has k Heap = k.heap
 has k Unique = k.unique
 has k (Variable n) = list_any (nat_eq n) k.variables
 
--- says that the set contains exactly the regions that have a key among the types
+-- says that the set contains exactly the regions whose keys (used to open dynamic regions) are among the types
 abbrev pub AreKeysOf : Keys → List Ty → Type 0
 AreKeysOf k ts = (r : Region) → has k r ≡ has_key ts r
 
--- lists `count` region variables from number `from` on, without those that have a key
+-- lists `count` region variables from index `from` on, without those whose key (used to open a dynamic region) is in the set
 abbrev pub without : Keys → (count from : ℕ) → List Region
 without k zero n = []
 without k (suc m) n = if has k (Variable n) then without k m (suc n) else Variable n ∷ without k m (suc n)
 
--- the effect of a function with the given number of region variables; an omitted effect has all variables without a key
+-- the effect of a function (the regions that must be live at a call); an omitted effect has all the given region variables that have no key
 abbrev pub effect_by : List RegionName → Keys → (variables : ℕ) → Option (List Named) → List Region
 effect_by names k n None = without k n 1
 effect_by names k n (Some rs) = map (region_of names) rs

@@ -1,4 +1,4 @@
--- The results of loading an image into the machine over a store (the heap of regions).
+-- The results of loading an image into the machine with a store (the heap of regions).
 use Rattle.std.specs.Prelude.{◌≡◌, ◌⊎◌, true, false, Result, Ok, Err}
 use Rattle.cyc_store.specs.State.{StoreState}
 use Rattle.cyc_elf.specs.declared.fault.ElfFault.{ElfFault}
@@ -15,7 +15,8 @@ abbrev pub Loads : Result ImageContents ElfFault → Bounds → StoreState → S
 Loads (Err fault) limits store machine = ⊥
 Loads (Ok image) limits store machine = (has_outside image ≡ false) × (machine ≡ start_state image limits store)
 
--- `Declines` says why there is no machine: the fault of reading, an image for which the machine has no place, or lack of memory.
+-- `Declines` says why an image could not be loaded into a machine: the fault of reading, a segment outside the machine's memory,
+-- or lack of memory.
 abbrev pub Declines : Result ImageContents ElfFault → RunFault → Type 0
 Declines (Err fault) why = (why ≡ Elf fault) ⊎ (why ≡ Memory)
 Declines (Ok image) why = ((has_outside image ≡ true) × (why ≡ Load load.Outside)) ⊎ (why ≡ Memory)

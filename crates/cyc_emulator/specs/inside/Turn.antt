@@ -13,8 +13,8 @@ use Rattle.cyc_emulator.specs.declared.report.Peaks.{Peaks}
 use Rattle.cyc_emulator.specs.declared.report.RunFault.{RunFault}
 use Rattle.cyc_emulator.specs.declared.report.RunFault.TheVariants.{Read, Write, Memory}
 
--- `WentOn` says that an instruction emitted this event and reached this state, and describes the exchange of bytes that
--- follows, with the counts before and after it.
+-- `WentOn` says that an instruction emitted this event and reached this state. `WentOn` also describes the exchange of
+-- bytes that follows, with the byte counts before and after it.
 abbrev pub WentOn : Event → State → (machine : State) (x x' : Exchanged) (old new : Devices) → Type 0
 WentOn Ran s machine x x' old new = (machine ≡ s) × (x' ≡ x) × Rests old new
 WentOn WantsByte s machine x x' old new =
@@ -24,8 +24,8 @@ WentOn (Puts byte) s machine x x' old new =
 WentOn (Ended end) s machine x x' old new = ⊥
 WentOn NoMemory s machine x x' old new = ⊥
 
--- `Turned` describes the result of a turn (one instruction): `None` if the run continues, its end, or the fault of a
--- device that failed before the instruction was done.
+-- `Turned` describes the result of a turn (one instruction): `None` if the run continues, the run's end, or the
+-- fault of a device that failed before the instruction was done.
 abbrev pub Turned : (machine machine' : State) (x x' : Exchanged) (old new : Devices) → Result (Option End) RunFault → Type 0
 Turned machine machine' x x' old new (Ok None) =
     (event : Event) × (s : State) × Step machine event s × WentOn event s machine' x x' old new

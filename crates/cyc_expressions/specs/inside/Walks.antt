@@ -37,7 +37,8 @@ abbrev pub one_postfix : Scope → Place → typed.Expression → Postfix → Ch
 one_postfix g p a (postfix.Index i) = and_then (run (rule g (view_expression i))) (λ b. Ok (indexed g p a (place_of (view_expression i)) (as_int b)))
 one_postfix g p a (postfix.Field f) = Ok (selected g p a (view_name f))
 
--- the result of one operation of a chain, after a left operand of the given type, which may peek at a local; the chain begins at position p
+-- the result of one operation of a chain that begins at position p; its left operand has the given type, and may be only a peek (read but
+-- not moved)
 abbrev pub one_operation : Scope → Place → Option ℕ → ValueType → BinaryOperator → Expression → Checked Joined
 one_operation g p k left o e = run (Part (operand (is_looking o) (rule g e) (rule_looked g e (rule g e))) (λ a. joined g p k left o (place_of e) (as_int a)))
 

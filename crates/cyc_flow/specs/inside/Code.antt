@@ -41,12 +41,12 @@ abbrev pub lowered : List Change → State → State
 lowered [] f = f
 lowered (c ∷ cs) f = lowered cs (with_fullness (lower (fullness f c.number) (view_fullness c.before)) f c.number)
 
--- Returns the flow state in which each changed local is lowered to its fullness in the state `g`.
+-- Returns the flow state in which each changed local is lowered to its state (empty, lent or full) in the flow state `g`.
 abbrev pub lowered_to : State → List Change → State → State
 lowered_to g [] f = f
 lowered_to g (c ∷ cs) f = lowered_to g cs (with_fullness (lower (fullness f c.number) (fullness g c.number)) f c.number)
 
--- `Notes` says that `now` lists the present fullness of each changed local.
+-- `Notes` says that `now` lists the present state (empty, lent or full) of each changed local.
 abbrev pub Notes : (now : List Change) → State → (changes : List Change) → Type 0
 Notes vs g cs = (f : State) → lowered vs f ≡ lowered_to g cs f
 

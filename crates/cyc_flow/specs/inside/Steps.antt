@@ -1,4 +1,4 @@
--- One step in the traversal of each chain of operators, and the surroundings of a statement.
+-- One step in the traversal of each chain of operators, and the context of a statement: the enclosing loop and the locked locals.
 use Rattle.std.specs.Prelude.{ℕ, List, Option, Some}
 use Rattle.cyc_syntax.specs.inside.TreeView.{place_of_span}
 use Rattle.cyc_types.specs.declared.typed.Operation.{Operation}
@@ -27,6 +27,6 @@ touched_operation (operation.PointerPeek n o e) ns = touched (view_expression e)
 abbrev pub view_loop : LoopCode → Loop
 view_loop l = record { place = place_of_span l.span; head = view_state l.head }
 
--- Returns the surroundings of a statement: the enclosing loop, if any, and the locals that earlier items have locked.
+-- Returns the context of a statement: the enclosing loop, if any, and the locals that earlier declarations and statements have locked.
 abbrev pub stands : Option Loop → List ℕ → Around
 stands l ns = record { loop = l; locks = ns }

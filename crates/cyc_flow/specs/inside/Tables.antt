@@ -22,7 +22,7 @@ no_marks = record { held = 0; free = 0 }
 abbrev pub marks_at : List Marks → (place : ℕ) → Marks
 marks_at ms place = get_or ms place no_marks
 
--- Returns the fullness of the local with this number.
+-- Returns the fullness (empty, lent or full) of the local with this index.
 abbrev pub known_at : List Marks → (number : ℕ) → Fullness
 known_at ms number = marked (marks_at ms (number / 64)) (number % 64)
 

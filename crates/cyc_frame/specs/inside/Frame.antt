@@ -3,8 +3,8 @@ use Rattle.std.specs.Prelude.{ℕ, Bool, List}
 use Rattle.cyc_registers.specs.declared.home.Home.{Home}
 
 -- The fields of a frame in order: the word of the return address; a flag that is true if it is saved at the entry; the first word for saved
--- registers and their number; the word of slot 0; the number of parameters; the home of each slot; the idle instructions; the instructions
--- whose first line may fill delay slots.
+-- registers and their number; the word of slot 0; the number of parameters; the home (register or memory) of each slot; the instructions
+-- that need no machine code; the instructions whose first line may fill delay slots.
 pub record Frame : Type 0 where
   pub return_address : ℕ
   pub saves : Bool

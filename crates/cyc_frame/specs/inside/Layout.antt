@@ -14,11 +14,11 @@ use Rattle.cyc_registers.specs.inside.Interference.{AreHomes}
 use Rattle.cyc_registers.specs.inside.Idle.{AreIdle}
 use Rattle.cyc_registers.specs.inside.Fills.{AreFillable}
 
--- Returns the number of the word of a frame that holds a slot.
+-- Returns the index of the word of a frame that holds a slot.
 abbrev pub slot_word : Frame → ℕ → ℕ
 slot_word frame slot = frame.first_slot + slot
 
--- Returns true if an instruction overwrites the return address register: a call, or the opening of a handler.
+-- Returns true if an instruction overwrites the return address register: a call, or the opening of an exception handler.
 abbrev pub loses : Instruction → Bool
 loses (instructions.Call function arguments count result) = true
 loses (instructions.Try first handler) = true
@@ -28,8 +28,8 @@ abbrev pub loses_any : List Instruction → Bool
 loses_any [] = false
 loses_any (i ∷ code) = loses i || loses_any code
 
--- Returns true for a return instruction. The size of its code includes words to restore the saved registers, and words for the
--- function's entry to save them.
+-- Returns true for a return instruction. The size of its code includes machine words to restore the saved registers, and
+-- machine words for the function's entry to save them.
 abbrev pub returns : Instruction → Bool
 returns (instructions.Return value) = true
 returns (instructions.Finish value) = true
@@ -39,7 +39,7 @@ abbrev pub returns_any : List Instruction → Bool
 returns_any [] = false
 returns_any (i ∷ code) = returns i || returns_any code
 
--- Returns true if an instruction opens a handler.
+-- Returns true if an instruction opens an exception handler.
 abbrev pub opens : Instruction → Bool
 opens (instructions.Try first handler) = true
 opens instruction = false
@@ -53,7 +53,7 @@ opens_any (i ∷ code) = opens i || opens_any code
 pub record IsFrame (r : Routine) (frame : Frame) : Type 0 where
   pub apart : (a b : ℕ) → a < r.slots → b < r.slots → slot_word frame a ≡ slot_word frame b → a ≡ b
   pub inside : (slot : ℕ) → slot < r.slots → slot_word frame slot < r.frame_count
-  -- For a function without slots, `inside` says nothing about `first_slot`, so this field is needed.
+  -- For a function without slots, the property `inside` says nothing about `first_slot`, so this property is needed too.
   pub first_inside : frame.first_slot ≤ r.frame_count
   pub beside : (slot : ℕ) → slot < r.slots → slot_word frame slot ≢ frame.return_address
   pub return_inside : frame.return_address < r.frame_count
@@ -66,7 +66,7 @@ pub record IsFrame (r : Routine) (frame : Frame) : Type 0 where
   pub parameters : frame.parameters ≡ r.parameters
   pub returning : 0 < frame.saved → returns_any r.code ≡ true
 
--- Returns the frame of the function with this number, or an empty frame if there is none.
+-- Returns the frame of the function with this index, or an empty frame if there is none.
 abbrev pub frame_at : List Frame → ℕ → Frame
 frame_at frames function =
     slice_index_or frames function
@@ -76,8 +76,8 @@ frame_at frames function =
 abbrev pub AllReturn : Program → Type 0
 AllReturn program = (k : ℕ) → k < length program.functions → returns_any (routine_at program k).code ≡ true
 
--- `AreFirstFrames` says that the frames of the first `count` functions are correct, with homes, idle instructions and filled delay
--- slots. No frame of these functions saves more than `most` registers.
+-- `AreFirstFrames` says that the frames of the first `count` functions are correct. So are, in these functions, the homes of slots, the
+-- instructions marked as needing no machine code, and the filled delay slots. No frame of these functions saves more than `most` registers.
 pub record AreFirstFrames (program : Program) (count most : ℕ) (frames : List Frame) : Type 0 where
   pub as_many : length frames ≡ count
   pub each : (k : ℕ) → k < count → IsFrame (routine_at program k) (frame_at frames k)
@@ -87,7 +87,7 @@ pub record AreFirstFrames (program : Program) (count most : ℕ) (frames : List 
   pub fills : (k : ℕ) → k < count
       → AreFillable program (routine_at program k) (frame_at frames k).homes (frame_at frames k).fills
 
--- `AreRaised` says that among the first `count` functions, each one that opens a handler saves at least `most` registers.
+-- `AreRaised` says that among the first `count` functions, each one that opens an exception handler saves at least `most` registers.
 abbrev pub AreRaised : Program → (count most : ℕ) → List Frame → Type 0
 AreRaised program count most frames =
     (k : ℕ) → k < count → opens_any (routine_at program k).code ≡ true → most ≤ (frame_at frames k).saved

@@ -1,4 +1,5 @@
--- This file defines the exit status and the last line for each answer of the program: they are this project's own choice.
+-- This file defines the exit status and the last line for each outcome (answer) of a command of the program: they are
+-- this project's own choice.
 use Rattle.std.specs.Prelude.{ℕ, ◌%◌, List, ◌++◌, Option, Some, None, codes}
 use Rattle.std.specs.Fmt.{decimal, signed_decimal}
 use Rattle.cyc_words.specs.Word.{unsigned}
@@ -24,7 +25,7 @@ use Rattle.cyc_emulator.specs.declared.report.RunFault.TheVariants as RunFault
 use Rattle.cyc_cli.specs.declared.advice.Ending.{Ending}
 use Rattle.cyc_cli.specs.declared.advice.Ending.TheVariants as Ending
 
--- The words of the last line for the cause of a trap.
+-- The wording of the last line on standard error for the cause of a trap.
 abbrev pub cause_words : Cause → List ℕ
 cause_words ReservedInstruction = codes "reserved instruction"
 cause_words Unpredictable = codes "unpredictable"
@@ -52,7 +53,7 @@ last_line NoMemory = codes "no memory"
 last_line Usage = codes "usage"
 last_line Unformatted = codes "not formatted"
 
--- The exit status of an answer; for a run that returned, it is the low 8 bits of the returned value.
+-- The exit status for the outcome (answer) of a command; for a run that returned, it is the low 8 bits of the returned value.
 abbrev pub status_of : Answer → ℕ
 status_of Done = 0
 status_of (Returned value) = unsigned value % 256
@@ -68,7 +69,7 @@ status_of NoMemory = 8
 status_of Usage = 9
 status_of Unformatted = 1
 
--- A fault of lack of memory has no position in the text and does not mean that the text is rejected.
+-- A fault of lack of memory has no source position and does not mean that the text is rejected.
 abbrev pub answer_of_fault : Fault → Answer
 answer_of_fault fault = elim fault.code [ Memory ↦ NoMemory | _ ↦ Refused fault ]
 
@@ -79,7 +80,8 @@ answer_of_stop (Stop.End End.Full) = Full
 answer_of_stop (Stop.End (End.Trap cause)) = Trapped cause
 answer_of_stop Stop.Spent = Spent
 
--- Faults of an image keep the numbers of the image reader; number 8 is an image that does not fit the machine's memory.
+-- A fault of an image is reported by the number that the image reader gives to it; number 8 stands for an image that
+-- does not fit the machine's memory.
 abbrev pub answer_of_run_fault : RunFault → Answer
 answer_of_run_fault (RunFault.Elf Elf.Memory) = NoMemory
 answer_of_run_fault (RunFault.Elf fault) = BadImage (elf_number_of fault)
@@ -89,7 +91,7 @@ answer_of_run_fault RunFault.Read = ReadFault
 answer_of_run_fault RunFault.Write = WriteFault
 answer_of_run_fault RunFault.Memory = NoMemory
 
--- The limit that a full run reached, together with its value.
+-- The limit (of pages or of calls) that a run reached when it ran out of space, together with the limit's value.
 abbrev pub ending_at : Option Limit → Bounds → Option Ending
 ending_at None limits = None
 ending_at (Some Limit.Calls) limits = Some (Ending.Calls limits.calls)

@@ -17,7 +17,7 @@ pub record Extent : Type 0 where
 abbrev pub extent_of : SegmentContents → Extent
 extent_of s = record { vaddr = s.vaddr; flags = s.flags; stored = length s.bytes; size = s.size }
 
--- The extent of a segment, computed from its program header.
+-- The data of a segment that `info` describes, computed from the segment's program header.
 abbrev pub extent_in : ProgramHeader → Extent
 extent_in h = record { vaddr = h.vaddr; flags = h.flags; stored = h.file_size; size = h.memory_size }
 
@@ -63,7 +63,7 @@ has_form entry segments = if entry == text_base then are_of_program segments els
 abbrev pub form_line : Bool → List ℕ
 form_line form = if form then codes "form of this compiler\n" else codes "form another\n"
 
--- The complete text of `info`, from the entry address, the segments and the note.
+-- The complete text of `info`, from the entry address, the segments and the note with the limits.
 abbrev pub reported_of : (entry : ℕ) → List Extent → Option (ℕ × ℕ) → List ℕ
 reported_of entry segments note = codes "entry at " ++ (address_text entry ++ (codes "\n" ++ (flat_map segment_line segments
     ++ (limits_line note ++ form_line (has_form entry segments)))))

@@ -45,7 +45,7 @@ value_in (Returned value) = Some value
 value_in (Uncaught exception value) = Some value
 value_in answer = None
 
--- The number of the uncaught exception, if one ended the run.
+-- The index of the uncaught exception, if one ended the run.
 abbrev pub exception_in : Answer → Option ℕ
 exception_in (Uncaught exception value) = Some exception
 exception_in answer = None

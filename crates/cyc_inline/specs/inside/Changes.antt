@@ -51,12 +51,12 @@ abbrev pub changed : List Routine → List (Option Made) → List Routine
 changed [] changes = []
 changed (r ∷ routines) changes = routine_made r (first_of changes) ∷ changed routines (others changes)
 
--- The origins of `count` instructions from `index` on, if each instruction is unchanged.
+-- The list of the `count` instructions from `index` on of a function, each recorded as its own origin, as if the code were unchanged.
 abbrev pub own_origins : (number index count : ℕ) → List Origin
 own_origins number index zero = []
 own_origins number index (suc count) = origin_at number index ∷ own_origins number (suc index) count
 
--- The origins of the instructions of a function's replacement, or of the function's own `count` instructions if it is not replaced.
+-- The source instructions from which a function's replacement is made; for a function that is not replaced, its own `count` instructions.
 abbrev pub origins_made : (number count : ℕ) → Option Made → List Origin
 origins_made number count (Some made) = made.origins.items
 origins_made number count None = own_origins number 0 count
@@ -67,12 +67,12 @@ all_origins number (r ∷ routines) changes = origins_made number (length r.code
 
 -- ---- how the replacement is made
 
--- Says that the work on a program is allowed: if calls are inlined, all their callees are leaf functions.
+-- Says that the requested change of a program is allowed: if calls are to be inlined, only leaf functions are to be inlined.
 abbrev pub IsWork : Program → Work → Type 0
 IsWork program (works.Calls leafs) = AreLeafs program leafs.now
 IsWork program works.Duplicates = Unit {0}
 
--- Says that the replacement of function `number`, if there is one, is correct.
+-- Says that the replacement of the function with index `number`, if there is one, is correct.
 abbrev pub IsMadeFor : Program → (number : ℕ) → Option Made → Type 0
 IsMadeFor program number (Some made) = IsMade program number (routine_of made.function) made.origins.items
 IsMadeFor program number None = Unit {0}
@@ -81,12 +81,12 @@ abbrev pub left_of : Option Made → (spare : ℕ) → ℕ
 left_of (Some made) spare = made.spare
 left_of None spare = spare
 
--- Says that the replacement of a function is valid and leaves `change.spare` words of growth for the remaining functions.
+-- Says that the replacement of a function is valid, and that the remaining functions may together still grow by `change.spare` words.
 pub record IsChange (program : Program) (number spare : ℕ) (change : Option Made) : Type 0 where
   pub made : IsMadeFor program number change
   pub fits : size (routine_made (routine_at program number) change) + left_of change spare ≤ size (routine_at program number) + spare
 
--- Says that the replacements of the first functions are correct, and that `spare` words of growth remain for the other functions.
+-- Says that the replacements of the first functions are correct, and that the other functions may together still grow by `spare` words.
 pub record AreBegun (program : Program) (room : ℕ) (changes : List (Option Made)) (spare : ℕ) : Type 0 where
   pub each : (k : ℕ) → k < length changes → IsMadeFor program k (change_at changes k)
   pub most : (sum_by size (changed program.functions changes) + spare ≤ max (sum_by size program.functions) room)
@@ -94,7 +94,7 @@ pub record AreBegun (program : Program) (room : ℕ) (changes : List (Option Mad
 
 -- ---- the origins reported for a function
 
--- The source function, and the number of instructions whose origins are reported.
+-- The source function, and the number of instructions for which source instructions are reported.
 pub record Note : Type 0 where
   pub given : Routine
   pub count : ℕ

@@ -37,7 +37,7 @@ abbrev pub IsFitOperand : (shift : ℕ) → Operand → Type 0
 IsFitOperand shift (operands.Slot number) = shift + number < 2 ^ 64
 IsFitOperand shift (operands.Word word) = Unit {0}
 
--- Says that the slot numbers of an instruction fit a machine word after they are shifted.
+-- Says that the slot indices of an instruction fit a machine word after they are shifted.
 abbrev pub IsFit : (shift : ℕ) → Instruction → Type 0
 IsFit shift (instructions.Move destination source) = (shift + destination < 2 ^ 64) × IsFitOperand shift source
 IsFit shift (instructions.MoveWords destination source count) = (shift + destination < 2 ^ 64) × (shift + source < 2 ^ 64)
@@ -57,7 +57,7 @@ IsFit shift (instructions.CountLexical destination) = shift + destination < 2 ^ 
 IsFit shift (instructions.Throw tag value) = IsFitOperand shift tag × IsFitOperand shift value
 IsFit shift instruction = Unit {0}
 
--- Says that the numbers of the slots that a return reads fit a machine word after they are shifted.
+-- Says that the indices of the slots that a return reads fit a machine word after they are shifted.
 abbrev pub IsFitEnd : (shift results : ℕ) → Option ℕ → Type 0
 IsFitEnd shift results (Some value) = shift + value + results < 2 ^ 64
 IsFitEnd shift results None = Unit {0}
@@ -76,18 +76,20 @@ pub record IsFitSite (site : Site) (code : List Instruction) : Type 0 where
 
 -- ---- which calls may be inlined
 
--- Says that a function is a leaf: its code may replace calls of it. The last instruction of its in-line part does not fall through.
+-- Says that a function is a leaf: its code may replace calls of it. The last of a leaf function's instructions that are placed at
+-- the call does not fall through.
 pub record IsLeaf (r : Routine) (line : ℕ) : Type 0 where
   pub few : length r.code ≤ MOST_LEAF_CODE
   pub all : AllByRecursion (λ (i : Instruction). is_of_leaf i ≡ true) r.code
   pub within : line ≤ length r.code
   pub last : (k : ℕ) (i : Instruction) → At r.code k i → k + 1 ≡ line → leaves i ≡ true
 
--- Says that each function with a positive entry in `lines` is a leaf; the entry is the number of instructions in its in-line part.
+-- Says that each function with a positive number in `lines` is a leaf function; the number counts its instructions that are placed
+-- at the call.
 abbrev pub AreLeafs : Program → (lines : List ℕ) → Type 0
 AreLeafs program lines = (k : ℕ) → 0 < place_in lines k → IsLeaf (routine_at program k) (place_in lines k)
 
--- The number of instructions that replace a call: in the place of the call (`in_line`), or out of line.
+-- The number of instructions that replace a call: in the place of the call (`in_line`), or after the caller's code.
 abbrev pub call_size : Program → (in_line : Bool) → Call → ℕ
 call_size program in_line call = site_size call (routine_at program call.callee).results in_line (routine_at program call.callee).code
 
@@ -104,7 +106,7 @@ pub record IsOpenable (program : Program) (r : Routine) (slots : ℕ) (call : Ca
   pub room : r.slots + (routine_at program call.callee).slots ≤ slots
   pub small : call.count ≤ MOST_GROWTH
 
--- Says that `need` is what the caller needs to inline an instruction: slots, size and the number of in-line instructions.
+-- Says that `need` is what the caller needs to inline a call: slots, size, and the number of the callee's instructions placed at the call.
 pub record IsNeed (program : Program) (r : Routine) (i : Instruction) (need : Need) : Type 0 where
   pub openable : (call : Call) → chosen_call i need.line ≡ Some call → IsOpenable program r need.slots call
   pub least : r.slots ≤ need.slots
@@ -127,11 +129,11 @@ pub record AreChosen (program : Program) (r : Routine) (chosen : List ℕ) (slot
 
 -- ---- which instructions have a duplicate
 
--- The slot of an instruction's duplicate: `wanted`, if this is an extra slot and the instruction may have a duplicate.
+-- The slot of an instruction's duplicate: `wanted`, if the source function lacks this slot and the instruction may have a duplicate.
 abbrev pub duplicate_slot : (given slots : ℕ) → Instruction → (wanted : ℕ) → Option ℕ
 duplicate_slot given slots i wanted = if may_have_duplicate i then (if nat_le given wanted then (if nat_lt wanted slots then Some wanted else None) else None) else None
 
--- The slot of an instruction's duplicate, from the choice's table of wanted slots.
+-- The slot of an instruction's duplicate, taken from the table of the slots that the choice requests.
 abbrev pub duplicate_by : Program → (number : ℕ) → Choice → (index : ℕ) → Instruction → Option ℕ
 duplicate_by program number choice index i = duplicate_slot (routine_at program number).slots choice.slots i (place_in choice.duplicates.items index)
 
@@ -156,7 +158,7 @@ may_hoisted globals given slots (instructions.Binary operator destination left r
 may_hoisted globals given slots (instructions.LoadGlobal destination global) = is_further given slots destination && nat_lt global globals
 may_hoisted globals given slots instruction = false
 
--- The wanted instructions that may be hoisted before an instruction; the list is empty if too many are wanted.
+-- The instructions requested for hoisting that may be hoisted before an instruction; the list is empty if too many are requested.
 abbrev pub all_hoisted_of : (globals given slots : ℕ) → Instruction → (wanted : List Instruction) → List Instruction
 all_hoisted_of globals given slots i wanted = if may_follow_hoisted i && nat_le (length wanted) MOST_HOISTED then filter (may_hoisted globals given slots) wanted else []
 
@@ -164,7 +166,7 @@ abbrev pub all_hoisted_if : (globals given slots : ℕ) → Instruction → (wan
 all_hoisted_if globals given slots i (Some wanted) = all_hoisted_of globals given slots i wanted.items
 all_hoisted_if globals given slots i None = []
 
--- The instructions hoisted before an instruction, from the choice's table of wanted instructions.
+-- The instructions hoisted before an instruction, taken from the table of the instructions that the choice requests.
 abbrev pub all_hoisted_by : Program → (number : ℕ) → Choice → (index : ℕ) → Instruction → List Instruction
 all_hoisted_by program number choice index i =
     all_hoisted_if (length program.globals) (routine_at program number).slots choice.slots i (slice_get choice.all_hoisted.items index)
@@ -237,8 +239,8 @@ pub record IsFront (program : Program) (r : Routine) (slots : ℕ) (i : Instruct
   pub some : 0 < length front → may_follow_hoisted i ≡ true
 
 -- The parts that make up a function's code. The parts of a function's code are the chosen calls, the instructions put before each
--- instruction, and two tables. The tables give the code position of each instruction, and the position of the out-of-line part of its
--- replacement.
+-- instruction, and two tables. The tables give, for each instruction, the code position of its replacement, and of the part placed
+-- after the caller's code.
 pub record AreParts (program : Program) (number : ℕ) (chosen : List ℕ) (front_at : ℕ → Instruction → List Instruction) (places rests : List ℕ) (slots : ℕ) : Type 0 where
   pub plain : IsPlain program
   pub is_function : number < length program.functions

@@ -7,7 +7,7 @@ use Rattle.cyc_plain.specs.inside.Straight.{At}
 use Rattle.cyc_inline.specs.declared.inlining.Inlined.{Inlined}
 use Rattle.cyc_inline.specs.inside.Changes.{Note, first_of, others, AreReported, notes_of}
 
--- Returns true if the function with number k is marked as reached.
+-- Returns true if the function with index k is marked as reached.
 abbrev pub is_reached : List Bool → ℕ → Bool
 is_reached reached k = slice_index_or reached k false
 
@@ -16,7 +16,7 @@ abbrev pub LeadsTo : List Bool → Instruction → Type 0
 LeadsTo reached (instructions.Call function arguments count result) = is_reached reached function ≡ true
 LeadsTo reached i = Unit {0}
 
--- Says that the function that an instruction calls, if it calls one, has a number below `count`.
+-- Says that the function that an instruction calls, if it calls one, has an index below `count`.
 abbrev pub LeadsBelow : (count : ℕ) → Instruction → Type 0
 LeadsBelow count (instructions.Call function arguments count_of_arguments result) = function < count
 LeadsBelow count i = Unit {0}
@@ -68,7 +68,7 @@ routines_kept (r ∷ routines) reached = routine_kept (first_flag reached) r ∷
 abbrev pub emptied : Program → (reached : List Bool) → Program
 emptied program reached = record program { functions = routines_kept program.functions reached }
 
--- The origins reported for a function whose code is removed except one instruction.
+-- The source instructions reported for a function of whose code only one instruction is kept.
 abbrev pub note_with : Option Instruction → Routine → Option Note → Option Note
 note_with (Some i) r (Some note) = Some (record { given = note.given; count = 1 })
 note_with (Some i) r None = Some (record { given = r; count = 1 })

@@ -14,8 +14,8 @@ use Rattle.cyc_plain.specs.inside.WellFormed.{leaves}
 use Rattle.cyc_inline.specs.declared.origin.Origin.{Origin}
 use Rattle.cyc_inline.specs.inside.Inlined.{IsLike}
 
--- The next definitions shift the slots and move the jump targets of an operand or an instruction. A leaf's slots are shifted; a caller's
--- are not (`shift` 0).
+-- The next definitions shift the slots and move the jump targets of an operand or an instruction. The slots of an inlined leaf function
+-- are shifted by `shift`; the caller's slots are not (`shift` 0).
 abbrev pub shifted_operand : (shift : ℕ) → Operand → Operand
 shifted_operand shift (operands.Slot number) = operands.Slot (shift + number)
 shifted_operand shift (operands.Word word) = operands.Word word
@@ -42,7 +42,7 @@ moved shift place (instructions.Throw tag value) = instructions.Throw (shifted_o
 moved shift place (instructions.Try first handler) = instructions.Try first (place handler)
 moved shift place instruction = instruction
 
--- Returns true if a leaf may contain the instruction: it opens no handler, calls no function, and takes no slot's address.
+-- Returns true if a leaf function may contain the instruction: it opens no handler, calls no function, and takes no slot's address.
 abbrev pub is_of_leaf : Instruction → Bool
 is_of_leaf (instructions.Call function arguments count result) = false
 is_of_leaf (instructions.Enter function) = false
@@ -78,8 +78,8 @@ AreMadeOf origins from count origin = (k : ℕ) → k < count → slice_get orig
 abbrev pub GoesTo : List Instruction → List Origin → (from to : ℕ) → Origin → Type 0
 GoesTo code origins from to origin = (from ≡ to) ⊎ (At code from (instructions.Jump to) × AreMadeOf origins from 1 origin)
 
--- Says that the caller's code contains the replacement of a leaf's instruction. The replacement is the instruction with its slots
--- shifted; for a return it is moves of the results and a jump after the call.
+-- Says that the caller's code contains the replacement of an instruction of an inlined leaf function. The replacement is the
+-- instruction with its slots shifted; for a return it is moves of the results and a jump after the call.
 abbrev pub StandsInside : (code : List Instruction) → List Origin → (shift result results following callee : ℕ) → (place : ℕ → ℕ) → (index : ℕ) → Instruction → Option ℕ → Type 0
 StandsInside code origins shift result results following callee place index i (Some value) =
     HasAt code (place index) (passing result (shift + value) results)
@@ -133,8 +133,8 @@ pub record IsDuplicate (given slots : ℕ) (i j : Instruction) : Type 0 where
 
 -- ---- hoisted instructions
 
--- Returns true if hoisted instructions may precede an instruction with a single origin, that is, if control can
--- continue after the instruction.
+-- Returns true if hoisted instructions may precede an instruction that is not an inlined call, that is, if
+-- control can continue after the instruction.
 abbrev pub may_follow_hoisted : Instruction → Bool
 may_follow_hoisted (instructions.Move destination source) = true
 may_follow_hoisted (instructions.MoveWords destination source count) = true
@@ -190,7 +190,8 @@ StandsFor program r s origins function place index i =
     × (leaves i ≡ false → place (index + 1) ≡ place index + 1))
     ⊎ IsPreceded r s origins function place index i
 
--- Says that a function has some of its calls inlined. Each instruction of the result has an origin in the function or in a leaf.
+-- Says that a function has some of its calls inlined. Each instruction of the result is made from an instruction of the function
+-- or of an inlined leaf function.
 pub record IsOpened (program : Program) (function : ℕ) (r s : Routine) (origins : List Origin) : Type 0 where
   pub like : IsLike r s
   pub as_many : length origins ≡ length s.code
@@ -200,7 +201,7 @@ pub record IsOpened (program : Program) (function : ℕ) (r s : Routine) (origin
   -- Each slot whose address the new code takes has its address taken in the source function too.
   pub pinned : (p : ℕ) (i : Instruction) → At s.code p i → (slot : ℕ) → pins i slot ≡ true → is_pinned r.code slot ≡ true
 
--- The origins of the instructions of a function, by the function's number.
+-- The source instructions from which a function's instructions are made, by the function's index.
 abbrev pub origins_of : List (List Origin) → (function : ℕ) → List Origin
 origins_of origins function = slice_index_or origins function []
 

@@ -8,8 +8,8 @@ use Rattle.cyc_inline.specs.declared.site.Call.{Call}
 use Rattle.cyc_inline.specs.declared.site.Site.{Site}
 use Rattle.cyc_inline.specs.inside.Opened.{moved, passing, is_end, origin_at}
 
--- Returns the call if an instruction is a call chosen for inlining; `line` (more than 0) is the number of the callee's
--- in-line instructions.
+-- Returns the call if an instruction is a call chosen for inlining; `line` (more than 0) counts the callee's
+-- instructions placed at the call.
 abbrev pub chosen_call : Instruction → (line : ℕ) → Option Call
 chosen_call (instructions.Call callee arguments count result) line =
     if line == 0
@@ -21,14 +21,14 @@ chosen_call instruction line = None
 abbrev pub place_in : List ℕ → (index : ℕ) → ℕ
 place_in places index = slice_index_or places index 0
 
--- Returns true if the callee's instruction at `index` belongs to the in-line part, or to the out-of-line part if `in_line` is false.
+-- Returns true if the callee's instruction at `index` is placed at the call, or, if `in_line` is false, after the caller's code.
 abbrev pub stands_in : (in_line : Bool) → (line index : ℕ) → Bool
 stands_in true line index = nat_lt index line
 stands_in false line index = nat_le line index
 
 -- ---- an instruction of the callee
 
--- The jump after an inlined return; no jump is needed if the return is the last in-line instruction.
+-- The jump after an inlined return; no jump is needed if the return is the last of the callee's instructions placed at the call.
 abbrev pub way_following : (is_last : Bool) → (following : ℕ) → List Instruction
 way_following true following = []
 way_following false following = instructions.Jump following ∷ []
@@ -49,7 +49,8 @@ abbrev pub inside_count : (results line index : ℕ) → Option ℕ → ℕ
 inside_count results line index (Some value) = results + way_count (index + 1 == line)
 inside_count results line index None = 1
 
--- The number of instructions that a callee's instruction contributes to the in-line part, or to the out-of-line part.
+-- The number of instructions that a callee's instruction contributes to the part placed at the call, or to the part
+-- after the caller's code.
 abbrev pub count_in : (results line : ℕ) → (in_line : Bool) → (index : ℕ) → Option ℕ → ℕ
 count_in results line in_line index end = if stands_in in_line line index then inside_count results line index end else 0
 
@@ -70,8 +71,7 @@ abbrev pub inside_size : (results line : ℕ) → (in_line : Bool) → (index : 
 inside_size results line in_line index [] = 0
 inside_size results line in_line index (i ∷ code) = count_in results line in_line index (is_end i) + inside_size results line in_line (suc index) code
 
--- The code positions of the callee's instructions, if the next in-line instruction is at `here` and the next out-of-line
--- instruction at `there`.
+-- The code positions of the callee's instructions, if `here` is the next position at the call and `there` the next after the caller's code.
 abbrev pub inside_places : (results line index here there : ℕ) → List Instruction → List ℕ
 inside_places results line index here there [] = []
 inside_places results line index here there (i ∷ code) =
@@ -83,7 +83,7 @@ inside_places results line index here there (i ∷ code) =
 abbrev pub places_inside : Site → (here : ℕ) → List Instruction → (index : ℕ) → ℕ
 places_inside site here code = place_in (inside_places site.results site.call.line 0 (here + site.call.count + 1) site.rest code)
 
--- The code in the place of an inlined call: moves of the arguments, the check of stack space, and the in-line part of the callee's code.
+-- The code in the place of an inlined call: moves of the arguments, the check of stack space, and the callee's instructions placed there.
 abbrev pub site_code : Site → (in_line : Bool) → (here : ℕ) → List Instruction → List Instruction
 site_code site true here code =
     passing site.shift site.call.arguments site.call.count ++ instructions.Enter site.call.callee ∷ inside_code site (places_inside site here code) true 0 code

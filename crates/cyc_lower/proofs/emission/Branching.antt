@@ -30,8 +30,8 @@ use Rattle.cyc_lower_proof.proofs.emission.CodeLengths.{branch_same}
 
 -- ---- blocks
 
--- Returns the code of one item, without the code that closes its regions at the end of the block. The state of an item is its exits
--- and its first slot for temporaries.
+-- Returns the code of one declaration or statement of a block, without the code that closes its regions at the end of the block.
+-- Between two elements of a block, the state is the exits (handlers and regions to close) and the first slot for temporaries.
 abbrev pub one_item : Starts → ItemCode → List ItemCode → (p : ℕ) → Exits × ℕ → List Instruction
 one_item starts j js p s = item_code starts j p s.0 s.1
 
@@ -42,7 +42,7 @@ abbrev pub opened_items : Starts → List ItemCode → (p : ℕ) → Exits × �
 opened_items starts [] p s = []
 opened_items starts (j ∷ js) p s = one_item starts j js p s ++ opened_items starts js (p + length (one_item starts j js p s)) (next_item j js s)
 
--- Returns the code that closes `many` lexical regions, newest first; the numbers that close them are in the slots from `t` on.
+-- Returns the code that closes `many` lexical regions, newest first; the slots from `t` on hold the number of regions open before each.
 abbrev pub closed_items : (many t : ℕ) → List Instruction
 closed_items zero t = []
 closed_items (suc many) t = closed_items many (t + 1) ++ closed_code t
@@ -82,8 +82,9 @@ closed_first (suc many) t =
     ∙ append_assoc (closed_code (t + 1 + many)) (closed_items many (t + 1)) (closed_code t)
     ∙ ap (λ (n : ℕ). closed_code n ++ closed_items (suc many) t) e
 
--- `ItemsRemain` says that the code so far, extended by the remaining items of the block, is the code of the whole block. The exits and
--- the first slot for temporaries are those of the next item, and the frame has space for the values that the remaining items keep.
+-- `ItemsRemain` says that the code so far, extended by that of the block's remaining declarations and statements, is the code of the
+-- whole block. The exits and the first slot for temporaries are those of the block's next element; the frame has space for values that
+-- later elements keep.
 abbrev pub ItemsRemain : Starts → (old : List Instruction) → List ItemCode → (first : Exits) → (free i : ℕ) → (code : List Instruction) → (inside : Exits) → (following : ℕ) → Type 0
 ItemsRemain starts old js first free i code inside following =
     Remains (opened_items starts) old js (first, free) i code (inside, following)
@@ -96,7 +97,7 @@ items_kept (item.Execute s) js = refl
 items_kept (item.Region w r n) js = refl
 items_kept j js = omega arith
 
--- An item that opens a lexical region takes one slot, for the number that closes the region.
+-- A statement that opens a lexical region takes one slot, which holds the number of regions open before, with which the region is closed.
 one_region : (j : ItemCode) (js : List ItemCode) (t : ℕ) → free_after j t + regions_in js ≡ t + regions_in (j ∷ js)
 one_region (item.Region w r n) js t = omega arith
 one_region j js t = refl
@@ -133,7 +134,8 @@ module _ (starts : Starts) (old : List Instruction) (js : List ItemCode) (first 
         omega (arith, begun, longer, head),
       )
 
--- `ClosesLeft` says that the code, extended by the closing of the regions from slot `following` down to slot `free`, is the whole code.
+-- `ClosesLeft` says that the code so far, extended by the closing of the regions with slots from `following` down to `free`, is the
+-- whole code.
 abbrev pub ClosesLeft : (whole code : List Instruction) → (free following : ℕ) → Type 0
 ClosesLeft whole code free following = (many : ℕ) × (following ≡ free + many) × (code ++ closed_items many free ≡ whole)
 
@@ -176,8 +178,8 @@ module _ (starts : Starts) (value : Stmt) (region : ℕ) (v : Vec ItemCode Heap)
 
 -- ---- branches
 
--- The module assumes a condition followed by two pieces of code, each after a jump whose target is set later. The first jump and the inner
--- jumps of the condition go to the second piece.
+-- The module assumes a condition followed by two pieces of code, each after a jump whose target is set later. If the condition fails, the
+-- jump after it and the condition's inner jumps go to the second of these two pieces of code.
 module _ (old : List Instruction) (condition : ℕ → List Instruction) (aim : ℕ → List Instruction → List Instruction) (aims : (rest : List Instruction) (target : ℕ) → aim target (old ++ (condition 0 ++ rest)) ≡ old ++ (condition target ++ rest)) (same : (target : ℕ) → length (condition target) ≡ length (condition 0)) (x y : Instruction) (first second : ℕ → List Instruction) (over : ℕ → Instruction) (out : ℕ → Instruction) (m0 m1 m2 m3 m4 m5 m6 : List Instruction) where
   pub branched : m0 ≡ old ++ condition 0 → m1 ≡ m0 ++ x ∷ [] → m2 ≡ m1 ++ first (length m1) → m3 ≡ m2 ++ y ∷ [] → m4 ≡ aim (length m3) (set m3 (length m0) (over (length m3)))
       → m5 ≡ m4 ++ second (length m4) → m6 ≡ set m5 (length m2) (out (length m5)) → (p : ℕ) → p ≡ length old + length (condition 0) + 1 → (q : ℕ) → q ≡ p + length (first p) + 1

@@ -1,4 +1,4 @@
--- The search for a `break` that leaves the body of a loop visits one item after the other.
+-- The search for a `break` that leaves the body of a loop visits one declaration or statement after the other.
 use Rattle.std.proofs.Common.{◌≡◌, ℕ, Bool, true, false, List, [], ◌∷◌, drop, Option, refl, sym, ap, ◌∙◌}
 use Rattle.std.specs.Prelude.{◌||◌}
 use Rattle.cyc_words.proofs.Booleans.{or_assoc}

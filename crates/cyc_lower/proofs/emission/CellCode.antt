@@ -1,4 +1,4 @@
--- The loop that emits stores of values to the cells of an object, before it has finished.
+-- This file describes the loop that emits stores of values to the cells of an object, at a moment before the loop has finished.
 use Rattle.std.proofs.Common.{◌≡◌, ℕ, zero, suc, ◌+◌, ◌*◌, ◌<◌, ◌≤◌, List, [], ◌∷◌, ◌++◌, length, get_or, drop, refl, sym, ap, ◌∙◌, arith, append_assoc, append-nil}
 use Rattle.std.proofs.lemmas.List.{drop_more}
 use Rattle.cyc_types.specs.declared.typed.Kind.{Kind}
@@ -16,7 +16,7 @@ use Rattle.cyc_lower.proofs.emission.Emitting.{Remains, goes_on_by}
 
 -- ---- one cell
 
--- `StoresLeft` says that the code so far, extended by the stores of the words from number `i` on, is the whole code.
+-- `StoresLeft` says that the code so far, extended by the stores of the words from index `i` on, is the whole code.
 abbrev pub StoresLeft : (old code : List Instruction) → Kind → (many address offset first i : ℕ) → Type 0
 StoresLeft old code kind many address offset first i =
     (left : ℕ) × (i + left ≡ many) × (code ++ stores_code kind left address (offset + 4 * i) (first + i) ≡ old ++ stores_code kind many address offset first)
@@ -63,7 +63,7 @@ same_item ks i other inside =
     let e : get_or ks i other ∷ drop (i + 1) ks ≡ get_or ks i kind ∷ drop (i + 1) ks = sym (drop_more ks i other inside) ∙ drop_more ks i kind inside in
     cc
 
--- `KindsLeft` says that the kinds collected so far, extended by those of the remaining fields, are all kinds.
+-- `KindsLeft` says that the representation kinds collected so far, extended by those of the remaining fields, are the kinds of all fields.
 abbrev pub KindsLeft : List ConvertedCode → (i : ℕ) → List Kind → Type 0
 KindsLeft cs i ks = ks ++ kinds_passed (arguments_of (drop i cs)) ≡ kinds_passed (arguments_of cs)
 
@@ -103,7 +103,7 @@ slots_next ks first i slot kind inside at left =
 
 -- ---- several cells
 
--- Returns the code that fills all cells; its state is the number of bytes before the next cell, and the slot of the cell's value.
+-- Returns the code that fills all cells of an object, with the next cell's byte offset and the slot of its value as the state.
 abbrev pub all_cells : (address : ℕ) → List Kind → ℕ → ℕ × ℕ → List Instruction
 all_cells address ks p s = cells_code ks address s.0 s.1
 

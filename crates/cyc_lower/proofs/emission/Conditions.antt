@@ -158,7 +158,8 @@ module _ (starts : Starts) where
 -- ---- conditions with several operands
 
 module _ (starts : Starts) where
-  -- Returns the code of the operands of a chain after the first one; its state is the condition of the previous operand.
+  -- Returns the code of the operands of a chain after the first one; between two operands, the state is the condition of
+  -- the previous operand.
   abbrev pub all_others : LogicalOperator → (following t : ℕ) → List Operation → ℕ → Condition → List Instruction
   all_others u following t os p c = others_code starts u (operations_of os) c following p t
 
@@ -193,7 +194,7 @@ module _ (starts : Starts) where
     omega (arith, low, no_shorter_than old _ code made),
   )
 
-  -- An operation of a chain that is not skipped does not change which condition is the last one.
+  -- The condition of a chain's last operand stays the same if one operand of the chain is handled before the remaining ones.
   last_more : (o : Operation) (os : List Operation) (c : Condition) (t : ℕ) → last_condition starts (operations_of (o ∷ os)) c t ≡ last_condition starts (operations_of os) (next_other t o os c) t
   last_more (operation.Test o e) os c t = refl
   last_more (operation.Compute w o e) os c t = refl
@@ -221,7 +222,7 @@ module _ (starts : Starts) where
             ∙ append_assoc old first (others_code starts u (operations_of os) (condition_of starts a t) following (length old + length first) t),
       )
 
-  -- A condition that is a chain of tests is emitted as tests, and any other chain as a value or a comparison.
+  -- A condition that is a chain of logical operators is emitted as tests, and any other chain as a value or a comparison.
   pub chain_chosen : (u : LogicalOperator) (a : Expression) (os : Operations) (ty : Ty) (whole : Expression) (answer : Condition) (old new : List Instruction) (t : ℕ) → whole ≡ Binary a os ty → are_tests u os ≡ true
       → (answer ≡ last_condition starts os (condition_of starts a t) t) × (new ≡ old ++ tests_code starts u a os (after_tests starts u a os (length old) t) (length old) t)
       → (answer ≡ choice_of starts u whole t) × (new ≡ old ++ choice_code starts u whole (length old) t)
@@ -254,7 +255,7 @@ pub failed_long : (js : List Pending) (target : ℕ) (code : List Instruction) �
 failed_long [] target code = refl
 failed_long (j ∷ js) target code = failed_long js target (set code j.place (failing_jump j.condition target)) ∙ length-set code j.place (failing_jump j.condition target)
 
--- `FailedRest` says that the jumps not visited yet still have to get the target that the other ones have.
+-- `FailedRest` says that the jumps not visited yet still have to get the target that the jumps visited so far have.
 abbrev pub FailedRest : List Pending → (target : ℕ) → (old : List Instruction) → (i : ℕ) → (code : List Instruction) → Type 0
 FailedRest js target old i code =
     (failed (drop i js) target code ≡ failed js target old) × (length code ≡ target) × AreBefore (drop i js) target
@@ -279,7 +280,7 @@ failed_place js target old i code none inside (rest, long, before) =
 pub failed_done : (js : List Pending) (target : ℕ) (old : List Instruction) (i : ℕ) (code : List Instruction) → length js ≤ i → FailedRest js target old i code → code ≡ failed js target old
 failed_done js target old i code done (rest, long, before) = sym (ap (λ (l : List Pending). failed l target code) (drop_all i js done)) ∙ rest
 
--- The emitted result for a condition is also that for another condition whose code is equal.
+-- The result proved for the emitted code of one condition also holds for another condition whose code is equal.
 same_tested : (last again : Condition) (code other : ℕ → List Instruction) (old new : List Instruction) (tested : Tested) → again ≡ last → ((x : ℕ) → other x ≡ code x) → IsTested last code old new tested → IsTested again other old new tested
 same_tested last again code other old new tested answers same (last_is, aims, before, made) = (
   last_is ∙ sym answers,
@@ -296,7 +297,8 @@ pub none_wait : (code : List Instruction) (early : List Pending) (place : ℕ) �
 none_wait code early place none = λ old rest target here. ap (λ (l : List Pending). failed l target (old ++ (code ++ rest))) none
 
 module _ (starts : Starts) where
-  -- `EarlyRemain` says that the collected jumps without a target, extended by those of the remaining operands, are all of them.
+  -- `EarlyRemain` says that the jumps collected so far, extended by those of the remaining operands, are all jumps of the chain
+  -- without a target.
   abbrev pub EarlyRemain : LogicalOperator → Expression → List Operation → (t : ℕ) → (old : List Instruction) → (i : ℕ) → (code : List Instruction) → Condition → List Pending → Type 0
   EarlyRemain u a os t old i code c early =
       OthersRemain starts u a os 0 t old i code c
@@ -337,7 +339,7 @@ module _ (starts : Starts) where
       let (last, made) = others_end starts u a os 0 t old i code c done remains in
       (last, sym (append-nil early) ∙ sym (ap (λ (l : List Operation). early ++ early_jumps starts u l c (length code) t) (drop_all i os done)) ∙ jumps, made)
 
-  -- The collected jumps of a chain of tests are exactly those whose target must be set.
+  -- The jumps collected for a chain of one logical operator are exactly those whose target must be set.
   others_aim : (u : LogicalOperator) (os : List Operation) (c : Condition) (t : ℕ) (old rest : List Instruction) (target : ℕ) → all_test u (operations_of os) ≡ true
       → failed (early_jumps starts u os c (length old) t) target (old ++ (others_code starts u (operations_of os) c 0 (length old) t ++ rest)) ≡ old ++ (others_code starts u (operations_of os) c target (length old) t ++ rest)
   others_aim u [] c t old rest target all = refl
@@ -376,7 +378,7 @@ module _ (starts : Starts) where
   others_before u (operation.Pointer o e ∷ os) c p t all = absurd (let z : false ≡ true = all in cc)
   others_before u (operation.PointerPeek n o e ∷ os) c p t all = absurd (let z : false ≡ true = all in cc)
 
-  -- The condition of a branch is emitted in two ways: for a chain of tests by one operator, and for any other expression.
+  -- The condition of a branch is emitted in two ways: for a chain of the given logical operator, and for any other expression.
   tests_all : (u : LogicalOperator) (os : List Operation) → are_tests u (operations_of os) ≡ true → all_test u (operations_of os) ≡ true
   tests_all u [] tests = refl
   tests_all u (operation.Test o e ∷ os) tests = tests
@@ -427,8 +429,8 @@ module _ (starts : Starts) where
       (λ x. ap (λ (z : Expression). branch_code starts u z x p t) is ∙ ap (λ (b : Bool). if b then tests_code starts u a os x p t else choice_code starts (turned_test u) (Binary a os ty) p t) other ∙ ap (λ (z : Expression). choice_code starts (turned_test u) z p t) (sym is))
       made
 
-  -- `IsBare` says that an expression is neither a chain of tests nor a negation, so that a branch
-  -- emits it as a condition for the other operator.
+  -- `IsBare` says that an expression, neither a negation nor a chain of the given logical operator,
+  -- is emitted as a condition for the other one.
   abbrev pub IsBare : LogicalOperator → Expression → (t : ℕ) → Type 0
   IsBare u a t = (branch_of starts u a t ≡ choice_of starts (turned_test u) a t) × ((x p : ℕ) → branch_code starts u a x p t ≡ choice_code starts (turned_test u) a p t)
 

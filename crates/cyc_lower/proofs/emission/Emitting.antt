@@ -1,4 +1,4 @@
--- Code is emitted piece by piece: lists of nodes, nodes with lists, and jumps whose targets are set later.
+-- Code is emitted piece by piece: for lists of tree nodes, for nodes that contain lists, and for jumps whose targets are set later.
 use Rattle.std.proofs.Common.{◌≡◌, ℕ, zero, suc, ◌+◌, ◌-◌, ◌<◌, ◌≤◌, Bool, true, false, List, [], ◌∷◌, ◌++◌, length, get_or, drop, set, refl, sym, ap, ◌∙◌, arith, append_assoc, append-nil}
 use Rattle.std.specs.Prelude.{if◌then◌else◌}
 use Rattle.std.proofs.lemmas.List.{drop_all, drop_more, length-append, length-drop}
@@ -58,8 +58,8 @@ operates starts o l r d = omega arith
 
 -- ---- lists
 
--- `Lowers` says that a list is lowered one node after the other. Each node has a code position and a state, such as the next slot. The
--- code of a node may depend on the remaining nodes of the list.
+-- `Lowers` says that the code of a list of tree nodes is emitted one node after the other. Each tree node has a code position and a
+-- state, such as the next slot. The code of a tree node may depend on the remaining nodes of the list.
 pub record Lowers {X S : Type 0} (all : List X → ℕ → S → List Instruction) (one : X → List X → ℕ → S → List Instruction) (next : X → List X → S → S) : Type 0 where
   pub none : (p : ℕ) (s : S) → all [] p s ≡ []
   pub more : (x : X) (xs : List X) (p : ℕ) (s : S) → all (x ∷ xs) p s ≡ one x xs p s ++ all xs (p + length (one x xs p s)) (next x xs s)
@@ -112,7 +112,7 @@ pub slot_at_end : (os : List Operation) (d t : ℕ) → length os ≡ 0 → next
 slot_at_end [] d t none = refl
 slot_at_end (o ∷ os) d t none = absurd (omega (arith, none))
 
--- The words passed so far and those of the remaining arguments are all passed words.
+-- The words of the arguments passed so far and those of the remaining arguments are all argument words of the call.
 pub passed_on : (cs : List ConvertedCode) (i slot first : ℕ) (c : ConvertedCode) → i < length cs → c ≡ get_or cs i c → slot + all_passed (arguments_of (drop i cs)) ≡ first + all_passed (arguments_of cs)
     → slot + words_of_kind c.to + all_passed (arguments_of (drop (i + 1) cs)) ≡ first + all_passed (arguments_of cs)
 passed_on cs i slot first c inside at left =
@@ -133,7 +133,7 @@ binary_viewed value b v t is first at items same =
 
 -- ---- targets that are set later
 
--- The module assumes an instruction that jumps over the body after it, and whose target is set once the body is emitted.
+-- The module assumes an instruction that jumps over a body of code after it, and whose target is set once the body is emitted.
 module _ (old : List Instruction) (x : Instruction) (body : ℕ → List Instruction) (jump : ℕ → Instruction) (begun made patched : List Instruction) where
   pub written_back : begun ≡ old ++ x ∷ [] → made ≡ begun ++ body (length begun) → patched ≡ set made (length old) (jump (length made))
       → patched ≡ old ++ jump (length old + 1 + length (body (length old + 1))) ∷ body (length old + 1)
@@ -148,7 +148,8 @@ module _ (old : List Instruction) (x : Instruction) (body : ℕ → List Instruc
       ∙ ap (λ (l : List Instruction). set l (length old) (jump (length old + 1 + length (body (length old + 1))))) inside
       ∙ set-append_seam old x (body (length old + 1)) (jump (length old + 1 + length (body (length old + 1))))
 
--- The module assumes the code of a test: the jump, the operand, the target of the jump, and the truth value of the operand.
+-- The module assumes the code of a logical operator: the jump over its right operand, the operand's code, and the
+-- conversion to a truth value.
 module _ (old : List Instruction) (x : Instruction) (body : ℕ → List Instruction) (jump : ℕ → Instruction) (begun made patched new last : List Instruction) (place : ℕ) (here : place ≡ length old) (target : ℕ) where
   pub tested : begun ≡ old ++ x ∷ [] → made ≡ begun ++ body (length begun) → target ≡ length made → patched ≡ set made place (jump target) → new ≡ patched ++ last
       → new ≡ old ++ (jump (length old + 1 + length (body (length old + 1))) ∷ (body (length old + 1) ++ last))
@@ -251,7 +252,7 @@ made_elements starts counters a old begun made filled patched new i last kind he
 
 -- ---- words of globals
 
--- `WordsLeft` says that the instructions so far, extended by those for the remaining words, are all instructions.
+-- `WordsLeft` says that the instructions so far, extended by those for the remaining words of a global, are all instructions.
 abbrev pub WordsLeft : (each : (global slot : ℕ) → Instruction) → (old code : List Instruction) → (words first slot i : ℕ) → Type 0
 WordsLeft each old code words first slot i =
     (left : ℕ) × (i + left ≡ words) × (code ++ word_by_word each left (first + i) (slot + i) ≡ old ++ word_by_word each words first slot)

@@ -1,4 +1,4 @@
--- The code of an expression is emitted piece by piece, also for nodes with lists. No expression has empty code.
+-- The code of an expression is emitted piece by piece, also for tree nodes that contain lists. No expression has empty code.
 use Rattle.std.proofs.Common.{◌≡◌, ℕ, zero, suc, ◌+◌, ◌-◌, ◌<◌, ◌≤◌, Bool, true, false, List, [], ◌∷◌, ◌++◌, length, drop, set, Option, Some, None, refl, sym, ap, ◌∙◌, arith, append_assoc}
 use Rattle.std.specs.Prelude.{◌==◌, if◌then◌else◌}
 use Rattle.std.proofs.lemmas.Bool.{eqb-true, eq-eqb}
@@ -149,7 +149,7 @@ module _ (starts : Starts) where
         initial_by (converts_there from to) (source_of starts (Convert from to a)) (brought_code starts (Convert from to a) p d t) (brought_code starts (Convert from to a) p slot t) from to (span_of a) (converted_operand starts (Convert from to a) t) p d
         (brought_by_some (masks from to) (operand_of starts a) (expression_code starts a p d t) (expression_code starts a p (value_slot starts a t) t) (value_operand starts a t) d (expression_some a p d t))
 
-  -- Returns the code of the arguments of a call; its state is the slot of the next argument.
+  -- Returns the code of the arguments of a call; between two arguments, the state is the slot of the next argument.
   abbrev pub all_arguments : List ConvertedCode → (p t : ℕ) → List Instruction
   all_arguments cs p t = arguments_code starts (arguments_of cs) p t
 
@@ -162,7 +162,7 @@ module _ (starts : Starts) where
   pub arguments_lower : Lowers all_arguments one_argument next_argument
   arguments_lower = record { none = λ p t. refl; more = λ x xs p t. refl }
 
-  -- Returns the code of the argument of `putchar`; its state is the operand of the argument's value.
+  -- Returns the code of the argument of `putchar`, as a loop over arguments whose state is the operand of the printed value.
   abbrev pub all_printed : ℕ → List ConvertedCode → ℕ → Operand → List Instruction
   all_printed t cs p o = printed_code starts (arguments_of cs) p t
 
@@ -175,14 +175,15 @@ module _ (starts : Starts) where
   pub printed_lower : (t : ℕ) → Lowers (all_printed t) (one_printed t) (next_printed t)
   printed_lower t = record { none = λ p o. refl; more = λ x xs p o. refl }
 
-  -- `PrintedLeft` says that the operand `o` becomes the operand of the printed value after the remaining arguments.
+  -- `PrintedLeft` says that, once the remaining arguments of `putchar` are visited, the current operand `o` has
+  -- become the operand of the printed value.
   abbrev pub PrintedLeft : List ConvertedCode → (i : ℕ) → Operand → ℕ → Type 0
   PrintedLeft cs i o t = printed_operand starts (arguments_of (drop i cs)) o t ≡ printed_operand starts (arguments_of cs) (operands.Slot t) t
 
   pub printed_done : (cs : List ConvertedCode) (i : ℕ) (o : Operand) (t : ℕ) → length cs ≤ i → PrintedLeft cs i o t → o ≡ printed_operand starts (arguments_of cs) (operands.Slot t) t
   printed_done cs i o t done left = sym (ap (λ (ys : List ConvertedCode). printed_operand starts (arguments_of ys) o t) (drop_all i cs done)) ∙ left
 
-  -- Returns the code of a chain of operators; its state is the left operand of the next operator.
+  -- Returns the code of a chain of operators; between two operators, the state is the left operand of the next operator.
   abbrev pub all_operations : (d t : ℕ) → List Operation → ℕ → Operand → List Instruction
   all_operations d t os p l = operations_code starts (operations_of os) p l d t
 
@@ -271,7 +272,7 @@ module _ (starts : Starts) where
       (e2 ∙ ap (λ (os' : List Operation). m1 ++ operations_code starts (operations_of os') (length m1) l d t) (same_others ∙ sym same) ∙ ap (λ (o : Operand). m1 ++ operations_code starts os (length m1) o d t) l_is)
       ∙ ap (λ (x : Expression). old ++ expression_code starts x (length old) d t) (sym (binary_viewed value b v ty is first at items same))
 
-  -- After the left operand of a chain is emitted, the number of the next free slot is still within the limit.
+  -- After the left operand of a chain is emitted, the index of the next free slot is still within the limit.
   pub room_following : (a : Expression) (os : Operations) (old new : List Instruction) (d t : ℕ) → t ≤ most_locals + length old → new ≡ old ++ left_code starts a os (length old) d t → t ≤ most_locals + length new
   room_following a os old new d t low is = omega (arith, low, no_shorter_than old _ new is)
 
@@ -333,7 +334,7 @@ module _ (starts : Starts) where
       (e2 ∙ ap (λ (x : Operand). m1 ++ operator_code starts o l x d) (r_is ∙ ap (value_operand starts a) next))
       ∙ ap (λ (x : Operation). old ++ operation_code starts x (length old) l d t) (sym is)
 
-  -- After one operator of a chain is emitted, the number of the next free slot is still within the limit.
+  -- After one operator of a chain is emitted, the index of the next free slot is still within the limit.
   pub room_after : (x : Operation) (old new : List Instruction) (l : Operand) (d t : ℕ) → t ≤ most_locals + length old → new ≡ old ++ operation_code starts x (length old) l d t → t ≤ most_locals + length new
   room_after x old new l d t low is = omega (arith, low, no_shorter_than old _ new is)
 
@@ -423,7 +424,7 @@ module _ (starts : Starts) where
       let last : m3 ≡ m2 ++ summed = e3 ∙ ap (λ (x : ℕ). m2 ++ summed_code span n x t) distance_is in
       emitted_joined old scaled (λ p. inside_code starts n m p ++ summed) m1 m3 first (emitted_joined m1 (inside_code starts n m (length m1)) (λ p. summed) m2 m3 e2 last)
 
-  -- The code of an element access changes the third word of the fat pointer and then accesses its cell.
+  -- The code of an element access changes the fat pointer's third word, which is its index, and then accesses the cell at this index.
   pub made_element : (span : Option ℕ) (old m1 m2 : List Instruction) (o : Operand) (n past following t : ℕ) → past ≡ n + 3 → following ≡ t + 3
       → m1 ≡ old ++ instructions.Binary plain_binary.Add (following - 1) (operands.Slot (past - 1)) o ∷ []
       → m2 ≡ m1 ++ reached_code starts span n (following - 1) t (length m1)
@@ -445,7 +446,7 @@ module _ (starts : Starts) where
   made_store x c old m1 m2 t e1 e2 =
       emitted_joined old (store_address_code starts x (length old) t) (λ p. converted_operand_code starts c p (t + 1) ++ saved_code (kind_passed c) t (converted_operand starts c (t + 1))) m1 m2 e1 e2
 
-  -- The code of a store expression stores the value in a cell and then moves it to a slot.
+  -- The code of a store expression stores the value in a memory cell and then moves it to a slot.
   pub made_stored : (value : Expr) (b : Box DereferenceCode Heap) (b' : Box ConvertedCode Heap) (ty : ValueTypeCode) → value ≡ expr.Store b b' ty → (x : DereferenceCode) → x ≡ b.value → (y : ConvertedCode) → y ≡ b'.value
       → (old m1 m2 m3 : List Instruction) (o : Operand) (d t : ℕ) → o ≡ converted_operand starts (view_converted y) (t + 1)
       → m1 ≡ old ++ addressed_by (place_code starts (view_dereference x) (length old) t) (place_operand starts (view_dereference x) t) (place_offset starts (view_dereference x)) t
@@ -457,7 +458,7 @@ module _ (starts : Starts) where
       ∙ ap (λ (q : Operand). old ++ (front ++ copy_code (words_of_kind y.to) q d)) o_is
       ∙ ap (λ (z : Expression). old ++ expression_code starts z (length old) d t) (sym (stored_viewed value b b' ty is x x_at y y_at))
 
-  -- The code of a store whose value is dropped only stores the value in a cell.
+  -- The code of a store whose value is dropped only stores the value in a memory cell.
   pub made_stored_only : (value : Expr) (b : Box DereferenceCode Heap) (b' : Box ConvertedCode Heap) (ty : ValueTypeCode) → value ≡ expr.Store b b' ty → (x : DereferenceCode) → x ≡ b.value → (y : ConvertedCode) → y ≡ b'.value
       → (old m1 m2 : List Instruction) (t : ℕ)
       → m1 ≡ old ++ addressed_by (place_code starts (view_dereference x) (length old) t) (place_operand starts (view_dereference x) t) (place_offset starts (view_dereference x)) t

@@ -1,5 +1,5 @@
--- The code of exception handlers is emitted piece by piece: clauses, whose jumps get their targets later, and the slots that handlers
--- keep besides the variables.
+-- The code of exception handlers is emitted piece by piece: catch clauses, whose jumps get their targets later, and slots besides
+-- those of variables.
 use Rattle.std.proofs.Common.{◌≡◌, ℕ, zero, suc, ◌+◌, ◌≤◌, ◌<◌, List, [], ◌∷◌, ◌++◌, length, get_or, set, Option, None, Some, refl, sym, ap, ◌∙◌, arith, append_assoc, length-set}
 use Rattle.std.proofs.lemmas.List.{drop_all, length-append}
 use Rattle.std.specs.declared.vec.Vec.{Vec}
@@ -42,20 +42,20 @@ one_clause starts out exits c cs p t = case_code starts c.tag c.number (items_of
 abbrev pub next_clause : Clause → List Clause → (t : ℕ) → ℕ
 next_clause c cs t = t
 
--- Once all clauses are visited, the code of all clauses has been emitted.
+-- Once all catch clauses are visited, the code of all catch clauses has been emitted.
 pub made_clauses : (starts : Starts) (out : ℕ) (exits : Exits) (old : List Instruction) (cs : List Clause) (i : ℕ) (code : List Instruction) (t : ℕ) → length cs ≤ i
     → ((default : Clauses) → Remains (all_clauses starts default out exits) old cs t i code t) → BeginClauses starts cs out exits t old code
 made_clauses starts out exits old cs i code t done r default =
     ap (λ (xs : List Clause). code ++ all_clauses starts default out exits xs (length code) t) (sym (drop_all i cs done)) ∙ r default
 
--- Emitting one more clause keeps the invariant of the loop over the clauses.
+-- Emitting one more catch clause keeps the invariant of the loop over the catch clauses.
 pub more_clauses : (starts : Starts) (out : ℕ) (exits : Exits) (old : List Instruction) (cs : List Clause) (i : ℕ) (code new : List Instruction) (t : ℕ) (x : Clause) → i < length cs → x ≡ get_or cs i x
     → new ≡ code ++ case_code starts x.tag x.number (items_of x.items.items) (length code) out exits t
     → ((default : Clauses) → Remains (all_clauses starts default out exits) old cs t i code t) → (default : Clauses) → Remains (all_clauses starts default out exits) old cs t (i + 1) new t
 more_clauses starts out exits old cs i code new t x inside at is r default =
     goes_on_by (all_clauses starts default out exits) (one_clause starts out exits) next_clause (λ c rest p s. refl) old cs t i code new t x inside at is (r default)
 
--- The code of a default clause does not depend on where the clauses before it jump.
+-- The code of a default clause does not depend on where the catch clauses before it jump.
 default_alike : (starts : Starts) (d : Option Body) (p out : ℕ) (exits : Exits) (t : ℕ) → clauses_code starts (default_of d) p 0 exits t ≡ clauses_code starts (default_of d) p out exits t
 default_alike starts None p out exits t = refl
 default_alike starts (Some body) p out exits t = refl
@@ -126,7 +126,7 @@ module _ (starts : Starts) (value : Stmt) {w : Span} (b : Box Stmt Heap) (v : Ve
       (e6 ∙ ap (λ (l : List Instruction). m5 ++ l) (default_alike starts d (length m5) out exits t) ∙ begin (default_of d)) e7
       ∙ ap (λ (s : Statement). old ++ statement_code starts s (length old) exits t) (sym e)
 
--- A handler's record and the number after it take at most six slots.
+-- The record of an exception handler, with the number of open regions stored after it, takes at most six slots.
 pub record_room : (scopes : Option ℕ) (t : ℕ) → after_record_in scopes t ≤ t + 6
 record_room None t = omega arith
 record_room (Some place) t = omega arith

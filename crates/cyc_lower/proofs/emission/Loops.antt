@@ -32,7 +32,7 @@ entering_keeps starts a code head new is = ap length is ∙ by (is_guard starts 
     by true = refl
     by false = length-set code head (instructions.Jump (length code))
 
--- If the condition of a loop may be emitted twice, its first copy enters the loop.
+-- If the condition of a loop may be emitted twice, its first copy decides if the loop is entered.
 pub entered_first : (starts : Starts) (a : Expression) (t : ℕ) (o : Condition) (old m1 m2 : List Instruction) (body : ℕ) → is_guard starts a ≡ true → o ≡ choice_of starts logical.AndThen a t
     → m1 ≡ old ++ choice_code starts logical.AndThen a (length old) t → body ≡ length m1 + 2 → m2 ≡ m1 ++ holding_jump o body ∷ [] → m2 ≡ old ++ begun_loop starts a (length old) t
 entered_first starts a t o old m1 m2 body guarded is made there jumps =
@@ -47,7 +47,7 @@ entered_first starts a t o old m1 m2 body guarded is made there jumps =
     ∙ append_assoc old condition (holding_jump answer (p + length condition + 1 + 1) ∷ [])
     ∙ ap (λ (s : Bool). old ++ entry_code s condition (holding_jump answer) 0 p) (sym guarded)
 
--- The module assumes the code of a loop's entry, with the pieces that follow it.
+-- The module assumes the code at a loop's entry, with the pieces of code that follow it.
 module _ (guarded : Bool) (old condition : List Instruction) (jump : ℕ → Instruction) (y test : Instruction) (body again : List Instruction) (m1 m2 m3 m4 m5 m6 m7 : List Instruction) where
   abbrev entry : (place : ℕ) → List Instruction
   entry place = entry_code guarded condition jump place (length old)

@@ -1,4 +1,4 @@
--- The loop that replaces targets after one position by targets after another one visits all of the code.
+-- The loop that replaces jump targets after a far position by targets after a near position visits all of the code.
 use Rattle.std.proofs.Common.{◌≡◌, ℕ, zero, suc, ◌≤◌, List, [], ◌∷◌, ◌++◌, length, take, drop, refl, sym, ap, subst, ◌∙◌, arith}
 use Rattle.cyc_plain.specs.declared.instruction.Instruction.{Instruction}
 use Rattle.cyc_lower_proof.specs.inside.Lowering.{AreTurned}

@@ -48,12 +48,12 @@ Gives answer result old new code = IfOk result (λ given. (given ≡ answer) × 
 abbrev pub view_starts : StartsCode → Starts
 view_starts starts = record { locals = starts.locals.now; tag_slot = starts.tag_slot; structs = map view_struct starts.structs.now; raises = starts.raises; counters = starts.counters.now; globals = starts.globals.now; scopes = starts.scopes }
 
--- The limit of slot numbers, so that they fit a word. A function has fewer locals than this limit, and at most as many temporaries at a
--- time as instructions before them.
+-- The limit of slot indices, chosen so that the indices fit a machine word. A function has fewer locals than this limit, and at most as
+-- many temporaries at a time as instructions before them.
 abbrev pub most_locals : ℕ
 most_locals = 2 ^ 32
 
--- Returns true if an item of a block may leave the enclosing loop by a `break`.
+-- Returns true if a declaration or statement of a block may leave the enclosing loop by a `break`.
 abbrev pub item_breaks : Item → Bool
 item_breaks (item.Execute s) = breaks (view_statement s)
 item_breaks i = false
@@ -62,7 +62,7 @@ item_breaks i = false
 abbrev pub IsChain : (whole first : Expression) → Operations → Type 0
 IsChain whole first os = (ty : Ty) × (whole ≡ Binary first os ty)
 
--- Returns true if an operation is a test by this logical operator.
+-- Returns true if an operation of a chain applies the given logical operator.
 abbrev pub is_test : LogicalOperator → Operation → Bool
 is_test u (operation.Test o e) = is_same u o
 is_test u o = false
@@ -87,12 +87,12 @@ right_of (operation.Test o e) = view_expression e
 right_of (operation.Pointer o e) = view_expression e
 right_of (operation.PointerPeek n o e) = view_expression e
 
--- Returns the code in which the reserved jumps, which are taken if their conditions fail, have this target.
+-- Returns the code in which these jumps, which are taken if their conditions fail and had no target so far, have this target.
 abbrev pub failed : List Pending → (target : ℕ) → List Instruction → List Instruction
 failed [] target code = code
 failed (j ∷ js) target code = failed js target (set code j.place (failing_jump j.condition target))
 
--- `AreBefore` says that all reserved jumps are before a code position.
+-- `AreBefore` says that all jumps whose targets are not yet known are before a code position.
 abbrev pub AreBefore : List Pending → (place : ℕ) → Type 0
 AreBefore [] place = Unit {0}
 AreBefore (j ∷ js) place = (j.place < place) × AreBefore js place
@@ -151,12 +151,12 @@ module _ (starts : Starts) where
   abbrev pub left_code : Expression → Operations → (p d t : ℕ) → List Instruction
   left_code a os p d t = code_unless (left_of starts a os) (expression_code starts a p (left_slot starts a os d t) t)
 
-  -- Returns true if a chain of these operators is simple, provided that its first operand is.
+  -- Returns true if a chain of these operators is simple (evaluated without side effects), provided that its first operand is.
   abbrev pub is_simple_chain : Operations → Bool
   is_simple_chain (ThenCompute o b os) = are_simple starts (ThenCompute o b os)
   is_simple_chain os = false
 
-  -- Returns true if the first of these operators has a simple right operand.
+  -- Returns true if the first of these operators has a simple right operand, whose evaluation has no side effect.
   abbrev pub takes_operand : Operations → Bool
   takes_operand (ThenCompute o b os) = is_simple starts b
   takes_operand os = false
@@ -173,7 +173,7 @@ module _ (starts : Starts) where
   operation_code (operation.Pointer o e) p l d t = pointer_operation_code o (view_expression e) p l d t
   operation_code (operation.PointerPeek n o e) p l d t = pointer_operation_code o (view_expression e) p l d t
 
-  -- Returns the code of the right operand of a test, after a jump that is taken if the left operand decides the test.
+  -- Returns the code of the right operand of a logical operator, after a jump that is taken if the left operand decides the result.
   abbrev pub other_code : LogicalOperator → Operation → Condition → (following p t : ℕ) → List Instruction
   other_code u (operation.Test o e) c following p t = deciding_jump u c following ∷ condition_code starts (view_expression e) (p + 1) t
   other_code u o c following p t = []
@@ -182,14 +182,14 @@ module _ (starts : Starts) where
   other_condition (operation.Test o e) c t = condition_of starts (view_expression e) t
   other_condition o c t = c
 
-  -- Returns the jumps of a chain of tests by one operator. Each jump is at the position after the operand that it tests.
+  -- Returns the jumps of a chain of one logical operator. Each jump is at the position after the operand that it tests.
   abbrev pub early_jumps : LogicalOperator → List Operation → Condition → (p t : ℕ) → List Pending
   early_jumps u [] c p t = []
   early_jumps u (o ∷ os) c p t =
       record { place = p; condition = deciding_condition u c }
       ∷ early_jumps u os (other_condition o c t) (p + length (other_code u o c 0 p t)) t
 
-  -- `IsEarly` says that the code of a chain of tests is emitted while the target of the deciding jumps is unknown.
+  -- `IsEarly` says that the code of a chain of one logical operator is emitted while the target of its deciding jumps is unknown.
   abbrev pub IsEarly : LogicalOperator → Expression → List Operation → (t : ℕ) → (old new : List Instruction) → Tested → Type 0
   IsEarly u a os t old new tested =
       (tested.last ≡ last_condition starts (operations_of os) (condition_of starts a t) t)
@@ -211,7 +211,7 @@ module _ (starts : Starts) where
   abbrev pub caught_items_code : (number : Option ℕ) → Items → (p : ℕ) → Exits → (t : ℕ) → List Instruction
   caught_items_code x js p exits t = caught_code starts x t ++ items_code starts js (p + length (caught_code starts x t)) exits t
 
-  -- Returns the code of one item of a block.
+  -- Returns the code of one declaration or statement of a block.
   abbrev pub item_code : Item → (p : ℕ) → Exits → (t : ℕ) → List Instruction
   item_code (item.Execute s) p exits t = statement_code starts (view_statement s) p exits t
   item_code (item.Local w n ty v) p exits t = declaration_code starts n (view_ty ty) (option_map view_converted v) p t
@@ -224,7 +224,7 @@ module _ (starts : Starts) where
   abbrev pub case_code : (tag : ℕ) → (number : Option ℕ) → Items → (p out : ℕ) → Exits → (t : ℕ) → List Instruction
   case_code tag x js p out exits t = clause_code tag t (caught_items_code x js (p + 1) exits t) p out
 
-  -- `BeginClauses` says that clauses were appended to the old code, before the default clause, which may be any.
+  -- `BeginClauses` says that the code of catch clauses was appended to the old code, whatever default clause comes after them.
   abbrev pub BeginClauses : List Clause → (out : ℕ) → Exits → (t : ℕ) → (old new : List Instruction) → Type 0
   BeginClauses cs out exits t old new =
       (default : Clauses)
@@ -242,17 +242,17 @@ module _ (starts : Starts) where
   abbrev pub then_code : Expression → Statement → (p : ℕ) → Exits → (t : ℕ) → List Instruction
   then_code a s p exits t = statement_code starts (If a s Empty) p exits t
 
-  -- Returns the code of a loop with a light condition and without a `break`.
+  -- Returns the code of a loop without a `break` whose condition is light (simple enough to be emitted twice).
   abbrev pub through_loop : Expression → Statement → (p : ℕ) → Exits → (t : ℕ) → List Instruction
   through_loop a s p exits t =
       through_code (choice_code starts logical.OrElse a p t) (failing_jump (choice_of starts logical.OrElse a t)) (λ q. statement_code starts s q (inside_loop p p exits) t) (λ q. choice_code starts logical.AndThen a q t) (holding_jump (choice_of starts logical.AndThen a t)) p
 
-  -- Returns the code of a loop that has a `break` or no light condition.
+  -- Returns the code of a loop that has a `break`, or whose condition is not light (simple enough to be emitted twice).
   abbrev pub loop_code : Expression → Statement → (p : ℕ) → Exits → (t : ℕ) → List Instruction
   loop_code a s p exits t =
       looped_code (is_guard starts a) (λ q. choice_code starts logical.AndThen a q t) (λ leaving. statement_code starts s (body_target leaving) (inside_loop p leaving exits) t) (holding_jump (choice_of starts logical.AndThen a t)) p
 
--- Returns the exits after an item of a block.
+-- Returns the exits (the handlers and regions to close) after a declaration or statement of a block.
 abbrev pub exits_after : Item → Exits → (t : ℕ) → Exits
 exits_after (item.Region w r n) exits t = inside_region exits t
 exits_after i exits t = exits

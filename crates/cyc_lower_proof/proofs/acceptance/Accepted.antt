@@ -1,5 +1,6 @@
--- An accepted program can be lowered. The typed tree of a text within the limits has valid numbers, and the constants of the tree
--- fit in 32-bit words. The globals of the typed tree have at most as many words as the text has tokens.
+-- An accepted program can be lowered. In the typed tree of a program text within the limits, each index (of a local, a function
+-- and so on) is valid. The constants of the typed tree of a text within the limits fit in 32-bit words. The globals of the typed
+-- tree have at most as many machine words as the text has tokens.
 use Rattle.std.proofs.Common.{◌≡◌, ℕ, ◌+◌, ◌*◌, ◌≤◌, ◌<◌, Bool, true, false, ◌&&◌, List, [], ◌∷◌, ◌++◌, length, map, Option, Some, None, inl, inr, subst, arith}
 use Rattle.std.specs.Prelude.{if◌then◌else◌, ◌==◌, nat_le, IsTrue}
 use Rattle.std.specs.List.{AllByRecursion}
@@ -122,7 +123,7 @@ symbol_constants : (texts : List (List ℕ)) (tokens : List Token) → AllByRecu
 symbol_constants texts [] h b = tt
 symbol_constants texts (t ∷ ts) (h, hs) (b, bs) = (terminal_constants texts t.kind h b, symbol_constants texts ts hs bs)
 
--- The constants in the symbols of a text within the limits are 32-bit words.
+-- The constants among the tokens of a program text within the limits are 32-bit words.
 pub text_constants : (text : List ℕ) (tokens : List Token) → HasTokens text tokens → IsWithinLimits tokens → AreOfWordsSymbols (symbols_of tokens)
 text_constants text tokens (parts, cut, e) within =
     symbol_constants (distinct_texts (texts_in tokens)) tokens (recursion_from_All (λ t. IsSmall t.kind) tokens within.numbers) (subst AreByteTokens e (cut_bytes [] parts text [] cut))

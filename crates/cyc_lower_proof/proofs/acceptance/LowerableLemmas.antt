@@ -1,4 +1,4 @@
--- This file proves that the parts of a well-typed tree can be lowered: its conversions, and pointers of one word.
+-- This file proves, for the conversions in a well-typed tree and for its pointers of one word, that they can be lowered.
 use Rattle.std.proofs.Common.{◌≡◌, ◌*◌, ◌≤◌, true, refl, ap, arith}
 use Rattle.cyc_syntax.specs.declared.tree.PointerKind.{PointerKind}
 use Rattle.cyc_syntax.specs.declared.tree.PointerKind.TheVariants as marks
@@ -15,7 +15,7 @@ use Rattle.cyc_lower_proof.proofs.slots.Widths.{kind_few}
 
 -- ---- objects
 
--- A passed value takes at most three words.
+-- The value of an argument that is passed takes at most three machine words.
 pub all_few : (cs : Arguments) → all_passed cs ≤ 3 * argument_count cs
 all_few NoArguments = omega arith
 all_few (MoreArguments (Convert from to a) cs) =

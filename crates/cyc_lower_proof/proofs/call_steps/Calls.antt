@@ -239,7 +239,7 @@ module _ (source : Program) (pages calls : ℕ) where
         (m, subst (λ t. ItemsAt g (bounds_at source n) (types_at source n) h.body outside_loops t 0 m) (sym least) items, stack m end, holds, parameters_fit n h there),
       )
 
-  -- If no further call fits in the call stack, then the source run and the plain run both end as full.
+  -- If no further call fits in the call stack, then the source run and the plain run both end for lack of space.
   full : (k : List Entry) (e : Environment) (w : World) (c : Configuration) (focus : Focus) (next : State) (n first many into : ℕ)
       → step source (Running focus k e w) ≡ next → is_within pages calls next ≡ false
       → (shared : SharedAt source pages calls k e w c) → At (code_of source c.active.function) c.active.next (instructions.Call n first many into)

@@ -40,7 +40,7 @@ use Rattle.cyc_lower_proof.proofs.relation.simulation.Matched.{IsMatched, silent
 use Rattle.cyc_lower_proof.proofs.value_steps.Landings.{IsStep}
 
 module _ (source : Program) (pages calls : ℕ) where
-  -- The shared invariant of source and lowered run holds after a return with one waiting call less.
+  -- The invariant that the source run and the lowered run share still holds after a return, when one call fewer waits for its callee.
   abbrev pub shared_returned : (w : World) (regions : List ℕ) (counting : Type 0) (output input : List ℕ) (store : StoreState) (home waiting : ℕ) → Shared pages calls w (home ∷ regions) counting output input store (suc waiting)
       → Shared pages calls w regions counting output input store waiting
   shared_returned w regions counting output input store home waiting s = record {

@@ -1,5 +1,5 @@
 -- This file compares two versions of a piece of code, emitted for two positions of the blocks that raise exceptions. Each instruction is
--- equal in both versions, or its jump goes equally far past the position of the other version.
+-- equal in both versions of the code, or it jumps into the exception blocks, equally far past their start in each version.
 use Rattle.std.proofs.Common.{◌≡◌, ℕ, zero, suc, get_or, set, add-one, ◌+◌, ◌<◌, ◌≤◌, ◌⊎◌, inl, inr, Bool, true, false, List, [], ◌∷◌, ◌++◌, length, Option, None, Some, refl, sym, ap, subst, ◌∙◌, arith}
 use Rattle.std.specs.Prelude.{if◌then◌else◌}
 use Rattle.cyc_plain.specs.declared.instruction.Operand.{Operand}
@@ -43,7 +43,8 @@ module _ (far near : ℕ) where
   each_joined (i ∷ a) b [] y first second = absurd first
   each_joined (i ∷ a) b (j ∷ x) y (one, rest) second = (one, each_joined a b x y rest second)
 
-  -- An instruction whose jump target was adjusted jumps to the target that the other version of the code has.
+  -- If an instruction's jump target is adjusted to the other position of the exception blocks, then the
+  -- result equals the instruction emitted for that position.
   one_turned : (i j k : Instruction) → target_of k ≤ far → IsAlike far near i k → IsTurned far near i j → j ≡ k
   one_turned i j k low one (beyond, before) = elim one [
     | inl same ↦ before (omega (arith, low, ap target_of same)) ∙ same
@@ -77,7 +78,7 @@ still {far} {near} {a} {x} is = subst (λ (z : List Instruction). AreAlike far n
 pub alike_joined : {far near : ℕ} (a b x y : List Instruction) → AreAlike far near a x → AreAlike far near b y → AreAlike far near (a ++ b) (x ++ y)
 alike_joined {far} {near} a b x y first second = record { each = each_joined far near a b x y first.each second.each }
 
--- Two versions of a piece of code begin at one position, so the code that follows them begins at one position too.
+-- If two versions of some code that differ only in jumps to exception blocks begin at one position, then they also end at one position.
 pub onward : {far near p q : ℕ} (a b x y : List Instruction) → p ≡ q → AreAlike far near a x → (p + length a ≡ q + length x → AreAlike far near b y) → AreAlike far near (a ++ b) (x ++ y)
 onward {far} {near} a b x y place first second = alike_joined a b x y first (second (λ i. place i + same_length first i))
 
@@ -172,7 +173,8 @@ module _ (far near : ℕ) where
 
 -- ---- adjusting instructions one by one
 
--- Says that the first n instructions of the new code have been adjusted and the rest are unchanged.
+-- Says that the first n instructions of the new code have adjusted jump targets, and that the other
+-- instructions equal those of the old code.
 abbrev pub TurnedTo : (far near n : ℕ) → (old new : List Instruction) → Type 0
 TurnedTo far near zero old new = new ≡ old
 TurnedTo far near (suc n) [] new = new ≡ []

@@ -80,7 +80,7 @@ pub record BlocksStand (code : List Instruction) (raises slot : ℕ) : Type 0 wh
   pub reported : (p : ℕ) (i : Instruction) → At code p i → target_of i ≡ raises + 1 → HasAt code (raises + 1) (telling slot)
   pub within : (p : ℕ) (i : Instruction) → At code p i → 1 ≤ target_of i → p < raises
 
--- The exception block with a number exists if more blocks than this number exist.
+-- The exception block with a given index exists if more exception blocks than this index are kept.
 block_there : (code : List Instruction) (p slot n number : ℕ) (i : Instruction) → HasAt code p (take n (blocks slot)) → number < n → At (blocks slot) number i → At code (p + number) i
 block_there code p slot n number i has some is = taken_there (blocks slot) p n number has some is
   where

@@ -43,7 +43,7 @@ module _ (code : List Instruction) (b : Numbering) (types : Types) (raised : Blo
             (cut p q front back end) (has_back code p front back has) (λ e h. expression_stands code b types raised c (value_slot (starts_of types) c (suc t)) (suc t) m q numbered_c e h),
       )
 
-  -- The operands of a condition's comparison contain only valid numbers of locals and functions.
+  -- The operands of a condition's comparison refer only to locals and functions that exist.
   sides_numbered : (null beside : Option Comparison) (a c whole : Expression) → Fits b types a → Fits b types c → Fits b types whole
       → Fits b types (nulled_or null beside a c whole).left × Fits b types (nulled_or null beside a c whole).right
   sides_numbered (Some failing) beside a c whole first second all = (first, tt)

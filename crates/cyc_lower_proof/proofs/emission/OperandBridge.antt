@@ -65,7 +65,7 @@ module _ (code : List Instruction) (b : Numbering) (types : Types) (raised : Blo
   returned_by (Some (operands.Word n)) computed x slot p q end has stands = (refl, stands end has)
   returned_by None computed x slot p q end has stands = (refl, stands end has)
 
-  -- The right operand of an operator either needs no code, or its code is at this position beside a left operand.
+  -- Either the right operand of an operator needs no code, or its code is at this position and a fact about the left operand holds.
   pub right_by : (known : Option Operand) (left computed : Type 0) (x : List Instruction) (slot p q : ℕ) → left → p + length (code_unless known x) ≡ q → HasAt code p (code_unless known x)
       → (p + length x ≡ q → HasAt code p x → computed) → OperandBy code b types known (left × computed) slot (operand_or known slot) p q
   right_by (Some o) left computed x slot p q there end has stands = (refl, omega (arith, end))
@@ -411,7 +411,7 @@ module _ (code : List Instruction) (b : Numbering) (types : Types) (raised : Blo
   words_kept : (from to : Kind) (a : Expression) → from ≡ given b.functions a → converts_there from to ≡ true → words_of_kind (given b.functions a) ≡ words_of_kind to
   words_kept from to a kind lands = ap words_of_kind (sym kind) ∙ as_wide from to lands
 
-  -- An int that becomes a char is an operand, and the code moves its low byte to a slot.
+  -- If an int becomes a char, then the int is used as an operand, and the code moves its low byte to a slot.
   pub brought_by : (masking : Bool) (a : Expression) (d t p q : ℕ)
       → ((slot r : ℕ) → p + length (expression_code (starts_of types) a p slot t) ≡ r → HasAt code p (expression_code (starts_of types) a p slot t) → ExpressionAt code b types a slot t p r)
       → p + length (if masking then masked_by (operand_of (starts_of types) a) (expression_code (starts_of types) a p (value_slot (starts_of types) a t) t) (value_operand (starts_of types) a t) d else expression_code (starts_of types) a p d t) ≡ q

@@ -228,7 +228,7 @@ module _ (source : Program) (pages calls : ℕ) where
   beyond_all tag value c a rest none last =
       ap (throws c tag value a) last ∙ ap (λ (handlers : List plain.Handler). lands c tag value a [] (plain.Ended (Uncaught tag (signed value)) c.output c.input) handlers) none
 
-  -- The exception reaches the newest handler; the record of this handler then contains the exception's number and int.
+  -- The exception reaches the newest handler; the record of this handler then contains the exception's index and int.
   abbrev catching_in : (tag value index first : ℕ) → List plain.Handler → Configuration → Activation → List Frame → Configuration
   catching_in tag value index first later c a rest = record c {
     active = record a { next = index; slots = put (put a.slots first tag) (suc first) value; handlers = plain.Caught ∷ later };
@@ -282,7 +282,7 @@ module _ (source : Program) (pages calls : ℕ) where
     value_is : reported_slots (floor source a.function k + 1) ≡ value
     value_is = ap reported_slots (let z : floor source a.function k + 1 ≡ suc first = omega (arith, first_is) in z) ∙ put-same (put a.slots first tag) (suc first) value
 
-    -- The shared invariant holds with one open handler less.
+    -- The invariant that the source run and the lowered run share still holds with one open exception handler fewer.
     abbrev shared_fewer : (closing : Option ℕ) → SharedBy source closing pages calls (Handler handler ∷ k) e w c → SharedBy source closing pages calls k e w resumed
     shared_fewer closing s = record {
       tables = s.tables;
@@ -302,7 +302,7 @@ module _ (source : Program) (pages calls : ℕ) where
     written t facts others =
         data_written source t a.function a.base w.objects e.locals k a.slots reported_slots later c.globals rest first 2 (omega (arith, first_is)) (λ n away. both_elsewhere a.slots first tag value n away) (facts, others)
 
-    -- A step is matched by two instructions, followed by the instructions at the given code positions.
+    -- A source step is matched by two instructions of the lowered code, followed by the instructions at the given code positions.
     by_handler : (places : List CodePlace) → Inside source pages calls w resumed → plain.seen_of (plain.Running c) ≡ seen_in w
         → AllByRecursion (λ r. place_in source pages calls c ≢ r) places → AllByRecursion (λ r. place_in source pages calls thrown_to ≢ r) places → IsDistinct places
         → AllByRecursion (Contains (places_of (lower_program source))) places

@@ -54,7 +54,7 @@ newest_open (plain.Caught ∷ handlers) P is = absurd is
 newest_open (plain.Open index first contents ∷ handlers) P is = (index, first, contents, handlers, refl, is)
 
 module _ (source : Program) where
-  -- The exits recorded for a loop or function agree with the exception handlers that are open inside it.
+  -- The record of what a loop or function must close when it is left agrees with the exception handlers that are open inside it.
   pub record_left : (g : ℕ) (exits : Exits) (p : ℕ) (frames : List Frame) (k : List Entry) → StatementStack source g exits p frames k
       → (exits.in_loop ≡ opened_by source true g k) × (exits.in_function ≡ opened_by source false g k)
   record_left g exits p frames (Rest items ∷ k) (q, at, stack) = record_left g exits q frames k stack
@@ -76,7 +76,7 @@ module _ (source : Program) where
   record_left g exits p frames (Main ∷ k) (s, at, outside, last) = outside
   record_left g exits p frames k stack = absurd stack
 
-  -- The outermost open handler record comes before the temporaries.
+  -- The record of the outermost open exception handler is in slots before the temporaries.
   record_there : (loop : Bool) (g : ℕ) (k : List Entry) (first : ℕ) → (opened_by source loop g k).handler ≡ Some first → first < floor source g k
   record_there loop g [] first is = absurd (none-some first is)
   record_there true g (Loop condition body ∷ k) first is = absurd (none-some first is)
@@ -205,14 +205,14 @@ module _ (source : Program) where
   caught_by a rest (entry ∷ k) stand = stand
 
 module _ (source : Program) (pages calls : ℕ) where
-  -- The shared invariant while stack entries are popped.
+  -- The invariant that the source run and the lowered run share, while a source step pops continuation frames.
   abbrev pub shared_leaving : (loop : Bool) (k : List Entry) (e : Environment) (w : World) (c : Configuration) → SharedAt source pages calls k e w c
       → SharedBy source (opened_by source loop c.active.function k).mark pages calls k e w c
   shared_leaving loop k e w c shared =
       shared_ahead source (opened_by source loop c.active.function k).mark pages calls k e w c (marked_reported source loop c.active.function k shared.counters.1) shared
 
-  -- A step begins to pop stack entries: one instruction closes the handlers of these entries, or they have no handlers. Lexical
-  -- regions are closed later.
+  -- A source step begins to pop continuation frames: one instruction closes the exception handlers of these frames, or they
+  -- have none. The lexical regions of the popped frames are closed by later instructions.
   pub leaving : (loop : Bool) (from next : Focus) (old k : List Entry) (e : Environment) (w : World) (c : Configuration) (opened : Opened) (r q : ℕ)
       → step source (Running from old e w) ≡ Running next k e w → SharedAt source pages calls old e w c → weight (Running next k e w) < weight (Running from old e w)
       → opened ≡ opened_by source loop c.active.function k
@@ -250,7 +250,7 @@ module _ (source : Program) (pages calls : ℕ) where
           (λ choice. subst (Matches source pages calls (Running next k e w)) (sym gone)
           (subst (λ n. Related source pages calls next k e w (record c { active = record c.active { next = n; handlers = later } })) (sym following) (goes_on later rest)))
 
-  -- The instruction raises an exception.
+  -- The lowered code's instruction that raises an exception matches the source step that throws this exception.
   pub raised : (tag value : ℕ) (k : List Entry) (e : Environment) (w : World) (c : Configuration) (x o : Operand) → IsNumber tag → (shared : SharedAt source pages calls k e w c) → DataIn source shared.tables c.active.slots k e w c
       → At (code_of source c.active.function) c.active.next (instructions.Throw x o) → operand_word c.active.slots x ≡ tag → operand_word c.active.slots o ≡ value → Related source pages calls (Throwing tag value) k e w c
   raised tag value k e w c x o word shared (facts, stand) here x_is o_is = (

@@ -118,8 +118,8 @@ block_size_fits vs few =
 
 -- ---- allocation for an owner
 
--- A new object with these cells is allocated for an owner, and the allocation yields the world `new`. The store is full exactly if the
--- source is full, and the store's new content is related to `new`.
+-- A new object with these cells is allocated for an owner, and the allocation yields the heap state `new`. The heap store is out of
+-- pages exactly if the source run is, and the heap store after the allocation is related to `new`.
 pub record Makes (t : Tables) (w : World) (s : StoreState) (owner : Owner) (handle : ℕ) (cells : List Cell) (new : World) : Type 0 where
   pub creates : created w owner cells ≡ Found new
   pub joined : new.objects ≡ w.objects ++ record { owner = owner; cells = cells } ∷ []
@@ -180,7 +180,7 @@ module _ {t : Tables} {w : World} {s : StoreState} (related : objects.Related t 
   made_for (Unique true) handle made handle_is creates = (made_unique w cells, subst (λ h. Makes t w s (Unique true) h cells (made_unique w cells)) (sym handle_is) made_alone)
   made_for (Unique false) handle made owned creates = absurd owned
 
--- If an object is allocated, then the memory of its owner has room for it.
+-- If the step that allocates an object is no fault, then the allocation for the object's owner yields a new heap state.
 object_made : (a : Access World) (object : ℕ) (vs : List Kinded) (k : List Entry) (e : Environment) (w : World) → IsWell (filled a object vs k e w) → (made : World) × (a ≡ Found made)
 object_made (Found made) object vs k e w well = (made, refl)
 object_made Closed object vs k e w well = absurd (well refl)
@@ -229,7 +229,7 @@ module _ (source : Program) (pages calls : ℕ) where
         within_pages : demand after.store ≤ pages
         within_pages = omega (arith, (served-sound c.store (Allocate handle (block_size cells)) choice shared.related.sound free served.allowed).demand, makes.pages choice, shared.same_pages)
 
-    -- An allocation changes only the slot after the values.
+    -- An allocation changes only the slot after the slots of the object's values; that slot receives the address of the object.
     same_slots : (m : ℕ) → Outside (t + words_held vs) 1 m → after.active.slots m ≡ c.active.slots m
     same_slots m (inl short) = put-other c.active.slots (t + words_held vs) m choice.address (λ same. omega (arith, same, short))
     same_slots m (inr long) = put-other c.active.slots (t + words_held vs) m choice.address (λ same. omega (arith, same, long))

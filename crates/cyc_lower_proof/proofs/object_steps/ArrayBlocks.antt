@@ -65,7 +65,7 @@ use Rattle.cyc_lower_proof.proofs.pointer_steps.PointerSteps.{int_word}
 
 -- ---- the owner of the array
 
--- If an array is allocated, then the memory of its owner has room for it.
+-- If the step that allocates an array is no fault, then the allocation for the array's owner yields a new heap state.
 array_made : (a : Access World) (object count level : ℕ) (wanted : Kind) (element : Expression) (k : List Entry) (e : Environment) (w : World)
     → IsWell (begun a object count level wanted element k e w) → (made : World) × (a ≡ Found made)
 array_made (Found made) object count level wanted element k e w well = (made, refl)
@@ -137,7 +137,7 @@ module _ (source : Program) (pages calls : ℕ) where
     abbrev t : ℕ
     t = top source c.active.function k
 
-    -- Says where the code after the length of an array is.
+    -- Says at which code position the instructions after the computation of an array's length are.
     abbrev Waits : (p : ℕ) → Type 0
     Waits p =
         (handle : Operand) × (d : ℕ) × (h : ℕ) × (r : ℕ) × (s : ℕ) × (q : ℕ) × IsHandleOf owner handle t k

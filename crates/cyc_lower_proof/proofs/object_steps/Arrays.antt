@@ -261,11 +261,12 @@ module _ (source : Program) (pages calls : ℕ) where
     facts_there : DataIn source shared.tables s2 k e w c2
     facts_there = data_written source shared.tables g c.active.base w.objects e.locals k slots s2 c.active.handlers c.globals c.frames z 1 (omega (arith, height-least (floor source g k) (held k))) outside_both facts
 
-    -- The configuration after a store has changed the store, the globals or the slots of locals, at instruction m of the code.
+    -- The configuration at instruction m of the code, after a store instruction has changed the heap store, the globals or the
+    -- slots of locals.
     abbrev reached : Parts → (m : ℕ) → Configuration
     reached s m = stage c2 s m
 
-    -- A path stores the words of the element in its cell, and then increments the index.
+    -- A path of instructions stores the words of an array element in its cell, and then increments the index of the element.
     goes_on : (m : ℕ) (parts : Parts) (links : List Link) → end_of c2 links ≡ reached parts m → IsPath source c2 links
         → At (code_of source g) m (instructions.Binary plain_binary.Add (free + 2) (operands.Slot (free + 2)) (operands.Word 1)) → At (code_of source g) (m + 1) (instructions.Jump h)
         → objects.Related shared.tables (silent new) parts.store → parts.store.pages ≡ pages → demand parts.store ≤ pages

@@ -29,7 +29,7 @@ use Rattle.cyc_lower_proof.proofs.relation.simulation.Matched.{IsMatched, Execut
 -- ---- consecutive places
 
 module _ (source : Program) (pages calls : ℕ) where
-  -- The store answers a request, and further instructions follow.
+  -- The heap store answers a request of the lowered code, and further instructions follow until the source step is matched.
   pub asks_then : (focus : Focus) (k : List Entry) (e : Environment) (w : World) (c : Configuration) (next : State) (request : Request) (count : ℕ)
       → step source (Running focus k e w) ≡ next → plain.seen_of (plain.Running c) ≡ seen_in w
       → At (code_of source c.active.function) c.active.next (instructions.Ask request)
@@ -50,7 +50,7 @@ module _ (source : Program) (pages calls : ℕ) where
             subst (Executes source pages calls (Running focus k e w) next rest) (sym is) (goes choice served).0,
       )
 
-  -- The store answers a request, and no further instructions follow.
+  -- The heap store answers a request of the lowered code, and no further instructions are needed to match the source step.
   pub by_asking : (focus : Focus) (k : List Entry) (e : Environment) (w : World) (c : Configuration) (next : State) (request : Request)
       → step source (Running focus k e w) ≡ next → SharedAt source pages calls k e w c
       → At (code_of source c.active.function) c.active.next (instructions.Ask request)
@@ -61,7 +61,7 @@ module _ (source : Program) (pages calls : ℕ) where
       → IsMatched source pages calls (Running focus k e w) (plain.Running c)
   by_asking focus k e w c next request does shared here free goes = asks_then focus k e w c next request 0 does (shared_seen shared) here tt free goes
 
-  -- The store has no room for the request, so the source run and the plain run both end as full.
+  -- The heap store has too few free pages for the request, so the source run and the plain run both end for lack of space.
   pub by_full : (focus : Focus) (k : List Entry) (e : Environment) (w : World) (c : Configuration) (next : State) (request : Request)
       → step source (Running focus k e w) ≡ next → is_within pages calls next ≡ false → SharedAt source pages calls k e w c
       → At (code_of source c.active.function) c.active.next (instructions.Ask request)

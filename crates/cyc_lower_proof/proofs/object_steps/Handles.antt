@@ -1,5 +1,5 @@
--- This file is about the region handles that are kept while objects are allocated: the words of these handles, and the handles that
--- remain when a value is passed on.
+-- This file is about the region handles that are kept in slots while the values of new objects are evaluated. It treats the words
+-- of these handles, and the handles that remain when a value is passed to the next evaluation step.
 use Rattle.std.proofs.Common.{◌≡◌, ℕ, ◌≤◌, true, List, ◌∷◌, Some, slice_get, sym, ap, subst, ◌∙◌, arith}
 use Rattle.cyc_store.specs.declared.range.TheConstants.{HEAP}
 use Rattle.cyc_plain.specs.declared.instruction.Operand.{Operand}

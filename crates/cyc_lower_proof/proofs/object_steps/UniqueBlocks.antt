@@ -98,7 +98,7 @@ part_at t kind object start count index words p is = absurd is
 module _ (source : Program) (pages calls : ℕ) where
   -- ---- freeing the block
 
-  -- A step is matched by one instruction, followed by a request that the store answers.
+  -- A source step is matched by one instruction of the lowered code, followed by a request that the heap store answers.
   by_asking_after : (focus : Focus) (k : List Entry) (e : Environment) (w : World) (c d : Configuration) (next : State) (i : Instruction) (request : Request)
       → step source (Running focus k e w) ≡ next → SharedAt source pages calls k e w c → SharedAt source pages calls k e w d
       → At (code_of source c.active.function) c.active.next i → ((choice : Choice) → performed (lower_program source) choice c i ≡ plain.Running d)

@@ -1,4 +1,5 @@
--- This file is about the content of a cell at an address: the cell belongs to the store, to a global, or to a local of an active call.
+-- This file is about the value stored in a cell at an address: the cell belongs to the heap store, to a global, or to a local of an
+-- active call.
 use Rattle.std.proofs.Common.{◌≡◌, ℕ, ◌+◌, ◌*◌, ◌<◌, List, length, Option, None, Some, refl, sym, ap, subst, ◌∙◌, arith, false, inl, inr, ◌%◌, [], ◌∷◌}
 use Rattle.std.specs.Prelude.{slice_get, option_map}
 use Rattle.std.proofs.lemmas.Option.{none-some, same_Some}
@@ -54,16 +55,16 @@ pub globals_long : (source : Program) (number : ℕ) → number < words_of_all (
 globals_long source number few =
     omega (arith, few, global_words_counted source.globals)
 
--- Says that the slots of a local's words are equal in two slot maps.
+-- Says that the slots of a local's words are equal in two maps from slots to words.
 abbrev pub AreSame : (here : Option ℕ) → (words : ℕ) → (old new : Words) → Type 0
 AreSame here words old new = (slot j : ℕ) → here ≡ Some slot → j < words → new (slot + j) ≡ old (slot + j)
 
--- Says that the slot `here`, if it exists, is the first slot of a local of the running call that has room for a value of this kind.
+-- Says that the slot `here`, if it exists, is the first slot of a local of the running call with enough slots for this kind.
 abbrev pub IsOwn : Program → (g : ℕ) → Kind → (here : Option ℕ) → Type 0
 IsOwn source g kind here = (slot : ℕ) → here ≡ Some slot → (number : ℕ) × (slot_of (starts_at source g) number ≡ slot) × (number < length (types_at source g).locals) × HasRoom (types_at source g) number kind
 
--- The words of the cell of a pointer are at the cell's address and represent the cell's content. If the cell belongs to a local of the
--- running call, then the slots of this local still have these words.
+-- The words of the cell to which a pointer points are at the cell's address and represent the value stored in the cell. If the cell
+-- belongs to a local of the running call, then the slots of this local still have these words.
 pub record IsRead (source : Program) (t : Tables) (c : Configuration) (address : ℕ) (kind : Kind) (content : Option Value) : Type 0 where
   pub word : ℕ → ℕ
   pub here : Option ℕ
@@ -85,7 +86,7 @@ module _ (source : Program) {t : Tables} {w : World} (c : Configuration) {locals
   none-own : (kind : Kind) → IsOwn source g kind None
   none-own kind slot here = absurd (none-some slot here)
 
-  -- A load through the address of a cell of whole words yields the cell's content.
+  -- A load through the address of a cell that is not a char yields the value stored in the cell.
   wide_stored : (object offset address h : ℕ) (at : Located) → is_kind at.cell.kind kinds.Char ≡ false → Points t object offset address → Alive t (silent w) object h at.object → slice_get at.object.cells offset ≡ Some at.cell
       → IsRead source t c address at.cell.kind at.cell.content
   wide_stored object offset address h cell wide points alive there = record {
@@ -101,7 +102,7 @@ module _ (source : Program) {t : Tables} {w : World} (c : Configuration) {locals
         (subst (λ (x : Option Value). IsContent t cell.cell.kind x c.store.memory address) has (cell-read related alive points there));
   }
 
-  -- A load through the address of a cell of type char yields the cell's content.
+  -- A load through the address of a cell of type char yields the char stored in the cell.
   byte_stored : (object offset address h : ℕ) (at : Located) → at.cell.kind ≡ kinds.Char → Points t object offset address → Alive t (silent w) object h at.object → slice_get at.object.cells offset ≡ Some at.cell
       → IsRead source t c address at.cell.kind at.cell.content
   byte_stored object offset address h cell char points alive there =
@@ -254,7 +255,7 @@ read_there source c related cell found points reads slots next j same below =
     ap (loaded_at (lower_program source) cell.cell.kind (at (with_slots c slots) next)) (word_is points cell.cell.kind j (cell_kind related cell points found) below)
     ∙ reads.there slots next j same below
 
--- If two slot maps are equal below the temporaries, then they are equal in the words of each local.
+-- If two maps from slots to words are equal below the temporaries, then they are equal in the words of each local.
 pub low_same : (source : Program) (g : ℕ) (kind : Kind) (here : Option ℕ) (old new : Words) → IsOwn source g kind here → ((n : ℕ) → n < base_of source g → new n ≡ old n) → AreSame here (words_of_kind kind) old new
 low_same source g kind here old new own low slot j is below =
     let (number, first, inside, room) = own slot is in

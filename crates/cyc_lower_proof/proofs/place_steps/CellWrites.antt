@@ -1,5 +1,5 @@
--- This file creates objects that are not variables, and writes cells: it shows that the facts about variables and the shared state are
--- preserved or updated.
+-- This file creates objects that are not variables, and writes cells. It shows that the facts about variables, and the invariant that
+-- source run and lowered run share, are preserved or updated.
 use Rattle.std.proofs.Common.{◌≡◌, ℕ, ◌+◌, ◌*◌, ◌≤◌, ◌<◌, List, [], ◌∷◌, length, set, Option, Some, slice_get, refl, sym, ap, subst, ◌∙◌, arith, length-set, inl, inr, suc, false}
 use Rattle.std.specs.Prelude.{if◌then◌else◌, ◌⊎◌}
 use Rattle.cyc_words.specs.Word as words
@@ -94,7 +94,7 @@ module _ (t : Tables) (source : Program) where
       let (row, is, small) = hold number below in
       (row, (λ v has. is v (sym (same number (inr (inl row))) ∙ has)), small)
 
-  -- All data of the relation are unchanged if the source only adds objects.
+  -- The facts of the simulation relation about data still hold if the source run only adds objects.
   pub data_beside : (g base : ℕ) (objects others : List Object) (locals : ℕ → Option ℕ) (outer : List Waiting) (slots globals : Words) (frames : List Frame) → length objects ≤ length others
       → Same objects others → DataAt source t g base objects locals outer slots globals frames → DataAt source t g base others locals outer slots globals frames
   data_beside g base objects others locals outer slots globals frames many same (low, below, hold, waiting, words) = (
@@ -117,12 +117,12 @@ cell_is_there (Found at) number offset v focus k e w well =
 cell_is_there Closed number offset v focus k e w well = absurd (well refl)
 cell_is_there Missing number offset v focus k e w well = absurd (well refl)
 
--- The configuration with its store, globals, slots and frames replaced.
+-- The configuration with its heap store, globals, slots and frames replaced.
 abbrev pub with_parts : Configuration → StoreState → (globals slots : Words) → List Frame → Configuration
 with_parts c store globals slots frames = record c { store = store; globals = globals; active = record c.active { slots = slots }; frames = frames }
 
--- A cell is written with the word that represents a value. The cell belongs to the store, to a global, or to a local of an active
--- call. A write of the cell changes the store, the globals, or the slots of that call.
+-- A cell is written with the word that represents a value. The cell belongs to the heap store, to a global, or to a local of an
+-- active call. A write of the cell changes the heap store, the globals, or the slots of that call.
 module _ (source : Program) (pages calls : ℕ) (k : List Entry) (e : Environment) (w : World) (c : Configuration) (shared : SharedAt source pages calls k e w c)
     (names : AreNamed source e.locals (callers k) w c.active.function c.active.base c.frames c.store)
     (facts : DataIn source shared.tables c.active.slots k e w c) (object offset address word : ℕ) (at : Located) (v : Value) (found : cell_at w object offset ≡ Found at)
@@ -161,7 +161,7 @@ module _ (source : Program) (pages calls : ℕ) (k : List Entry) (e : Environmen
   byte_fits : at.cell.kind ≡ kinds.Char → word < 256
   byte_fits char = small_word shared.tables at.cell.kind v word is char
 
-  -- If a cell of the store is written, then the facts that the tables record about variables are preserved.
+  -- If a cell of the heap store is written, then the facts that the tables of objects record about variables are preserved.
   data_there : (h : ℕ) → objects.Alive shared.tables (silent w) object h at.object
       → DataAt source shared.tables c.active.function c.active.base next.objects e.locals (callers k) c.active.slots c.globals c.frames
   data_there h alive =
@@ -169,7 +169,7 @@ module _ (source : Program) (pages calls : ℕ) (k : List Entry) (e : Environmen
       (λ o row. ap content_of (slice_get-set_other w.objects object o now (λ same. row-away shared.related globals_of_source o h at.object row (subst (λ n. objects.Alive shared.tables (silent w) n h at.object) (sym same) alive))))
       facts.0
 
-  -- A write to a cell of the store changes the memory of the store.
+  -- A write to a cell of the heap store changes only the memory of this store.
   remembers : (m : Memory) (h : ℕ) → objects.Alive shared.tables (silent w) object h at.object
       → saved_at (lower_program source) at.cell.kind c address word ≡ plain.Running (advanced (record c { store = record c.store { memory = m } }))
       → objects.Related shared.tables (silent next) (record c.store { memory = m }) → IsSaved
@@ -396,14 +396,14 @@ module _ (source : Program) (pages calls : ℕ) (k : List Entry) (e : Environmen
   pub above_there : (n : ℕ) → base_of source c.active.function ≤ n → with_word.active.slots n ≡ c.active.slots n
   above_there = is_saved.above
 
-  -- A slot that held the stored word still holds it after the store.
+  -- A slot that held the stored word still holds it after the store instruction.
   pub word_stays : (n : ℕ) → c.active.slots n ≡ word → with_word.active.slots n ≡ word
   word_stays n holds = elim (is_saved.either n) [
     | inl same ↦ same ∙ holds
     | inr now ↦ now
   ]
 
-  -- After the store, the shared state still holds with the same tables of objects.
+  -- After the store instruction, the invariant that the source run and the lowered run share still holds with the same tables of objects.
   abbrev pub shared_saved : SharedAt source pages calls k e next (advanced with_word)
   shared_saved = record {
     tables = shared.tables;
@@ -418,7 +418,7 @@ module _ (source : Program) (pages calls : ℕ) (k : List Entry) (e : Environmen
     counters = shared.counters;
   }
 
-  -- After the store, the data of all calls are preserved.
+  -- After the store instruction, the slots and globals still represent the values of the source run in all active calls.
   pub data_saved : DataIn source shared.tables with_word.active.slots k e next (advanced with_word)
   data_saved = (
     is_saved.stays,

@@ -26,7 +26,7 @@ abbrev pub loaded_at : Program → Kind → Configuration → (address : ℕ) �
 loaded_at program kinds.Char c address = option_map (λ (word : ℕ). byte_in word (address % 4)) (memory_at program c (word_of address))
 loaded_at program kind c address = memory_at program c address
 
--- The state after a store of a value of this kind.
+-- The state after a store instruction for a value of this kind.
 abbrev pub saved_at : Program → Kind → Configuration → (address word : ℕ) → State
 saved_at program kinds.Char c address word = saves_byte program c address (word % 256) (memory_at program c (word_of address))
 saved_at program kind c address word = saves program c address word (memory_at program c address)

@@ -93,7 +93,8 @@ module _ (source : Program) (pages calls : ℕ) where
 
   -- ---- the pending address of a store
 
-  -- The right side of an assignment is evaluated next, and the address of the left side is in the temporary before those of the right side.
+  -- The right operand of an assignment is evaluated next. The address of the left operand is in the temporary before those of the right
+  -- operand.
   abbrev StoresAfter : (from to : Kind) → Expression → List Entry → Environment → Configuration → (s : ℕ) → Type 0
   StoresAfter from to a k e c s =
       (x : Operand) × (u : ℕ) × (q : ℕ) × ConvertedOperandAt (code_of source c.active.function) (bounds_at source c.active.function) (types_on source c.active.function k) (Convert from to a) (top source c.active.function k + 1) x s u

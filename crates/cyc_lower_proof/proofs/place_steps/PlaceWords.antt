@@ -39,7 +39,7 @@ shifted_is i below = remainder_of_word (i * 4) (omega (arith, below))
 pub multiplied_is : (i : ℕ) → 12 * i < 4294967296 → mul_of i 12 ≡ i * 12
 multiplied_is i below = remainder_of_word (i * 12) (omega (arith, below))
 
--- The number of bytes before a field is the number of bytes before its cell, if this number fits in a 32-bit word.
+-- The offset of a field in bytes equals the offset of the field's cell, if this offset fits in a 32-bit word.
 field_before : (ts : List Ty) (field bytes : ℕ) → before_from bytes field (map kind_of ts) < 4294967296 → field_from bytes ts field ≡ before_from bytes field (map kind_of ts)
 field_before [] field bytes below = refl
 field_before (t ∷ ts) zero bytes below = begins_is (kind_of t) bytes below
@@ -118,7 +118,7 @@ module _ {t : Tables} where
 
 -- ---- reading and writing the words of a cell
 
--- A word of a live block exists for every content of the memory.
+-- A word of a live block exists, whatever values the memory of the store holds.
 pub there_still : (s : StoreState) (m : Memory) (x old : ℕ) → word_at s x ≡ Some old → word_at (record s { memory = m }) x ≡ Some (m x)
 there_still s m x old found = elim (cases_eq (x % 4) 0) [
   | inl even ↦

@@ -1,5 +1,5 @@
--- This file accesses words by their addresses: the words of cells are in the address range of the store, and other words belong to
--- globals. Loads and stores through these addresses access the store and the globals.
+-- This file accesses words by their addresses: the words of cells are in the address range of the heap store, and other words
+-- belong to globals. Load and store instructions through these addresses access the heap store and the globals.
 use Rattle.std.proofs.Common.{◌≡◌, ℕ, ◌+◌, ◌*◌, ◌/◌, ◌<◌, length, Option, None, Some, ap, subst, ◌∙◌, arith, false, ◌%◌}
 use Rattle.std.specs.Prelude.{slice_get, nat_lt}
 use Rattle.std.proofs.lemmas.Bool.{lt-ltb}
@@ -27,7 +27,7 @@ use Rattle.cyc_memory_relation.proofs.Bytes.{put_byte}
 use Rattle.cyc_memory_relation.proofs.Places.{bytes-some}
 use Rattle.cyc_types.specs.declared.typed.Kind.TheVariants as kinds
 
--- The words of a live cell of the store exist at the addresses that the code computes.
+-- The words of a live cell of the heap store exist at the addresses that the code computes.
 module _ {t : Tables} {w : World} {s : StoreState} (related : Related t w s) {o h k p : ℕ} {x : Object} {c : Cell}
     (alive : Alive t w o h x) (points : Points t o k p) (at : slice_get x.cells k ≡ Some c) where
   pub cell-stored : is_kind c.kind kinds.Char ≡ false → (j : ℕ) → j < words_of_kind c.kind → store_word s (p + 4 * j) ≡ Some (s.memory (p + 4 * j))
@@ -37,7 +37,7 @@ module _ {t : Tables} {w : World} {s : StoreState} (related : Related t w s) {o 
       let word : 4 * ((p + 4 * j) / 4) ≡ p + 4 * j = omega (arith, wide-aligned c.kind p wide (cell-aligned related alive points at)) in
       stored-there s (p + 4 * j) low high ∙ subst (λ n. word_at s n ≡ Some (s.memory n)) word (cell-live related alive points at (4 * j) byte)
 
-  -- The store has the word that contains the byte of a char.
+  -- The heap store has the word that contains the byte of a char.
   pub byte-stored : store_word s (word_of p) ≡ Some (s.memory (word_of p))
   byte-stored =
       let first : p + 0 ≡ p = omega arith in
@@ -45,7 +45,7 @@ module _ {t : Tables} {w : World} {s : StoreState} (related : Related t w s) {o 
       stored-there s (word_of p) (omega (arith, low)) (omega (arith, high))
       ∙ subst (λ n. word_at s (word_of n) ≡ Some (s.memory (word_of n))) first (cell-live related alive points at 0 (bytes-some c.kind))
 
--- The configuration after a word of the store is written.
+-- The configuration after a word of the heap store is written.
 abbrev pub with_saved : Configuration → (address word : ℕ) → Configuration
 with_saved c address word = record c { store = saved c.store address word }
 
@@ -55,7 +55,7 @@ saves-stored source c address word old there =
     ap (saves (lower_program source) c address word) (memory-stored (lower_program source) c address old there)
     ∙ ap (λ (d : Configuration). plain.Running (advanced d)) (written-stored (lower_program source) c address old there word)
 
--- The state after a byte of the store is written.
+-- The state after a byte of the heap store is written.
 pub saves-stored_byte : (source : Program) (c : Configuration) (address byte : ℕ) → byte < 256 → store_word c.store (word_of address) ≡ Some (c.store.memory (word_of address))
     → saved_at (lower_program source) kinds.Char c address byte ≡ plain.Running (advanced (record c { store = record c.store { memory = put_byte c.store.memory address byte } }))
 saves-stored_byte source c address byte small there =

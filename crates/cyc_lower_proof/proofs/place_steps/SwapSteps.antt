@@ -1,5 +1,5 @@
--- This file proves the steps of a swap: both sides are evaluated, both values are read, and then both values are written. Each side is
--- a local, a global or a cell.
+-- This file proves the steps of a swap `:=:`: both operands are evaluated, both values are read, and then both values are written.
+-- Each operand is a local, a global or a cell.
 use Rattle.std.proofs.Common.{◌≡◌, ℕ, zero, suc, ◌+◌, ◌*◌, ◌≤◌, ◌<◌, Bool, true, false, List, [], ◌∷◌, length, Option, None, Some, refl, sym, ap, subst, ◌∙◌, arith, inl, inr}
 use Rattle.std.specs.Prelude.{◌==◌, if◌then◌else◌}
 use Rattle.std.proofs.lemmas.Bool.{eqb-true}
@@ -55,7 +55,7 @@ use Rattle.cyc_lower_proof.proofs.place_steps.KindWords.{loaded_at, saved_at, sa
 
 -- ---- the values that a swap reads
 
--- The cell of one side of a swap, and its content.
+-- The cell that is one operand of a swap, and the value stored in this cell.
 pub record IsSwapped (kind : Kind) (found : Access Located) (left right : Value) (before : Option Kinded) (k : List Entry) (e : Environment) (w : World) : Type 0 where
   pub at : Located
   pub there : found ≡ Found at
@@ -107,7 +107,7 @@ module _ (source : Program) (pages calls : ℕ) where
 
   -- ---- reading a side
 
-  -- Says that instructions load the words of one side of a swap into slots from d on.
+  -- Says that instructions load the words of one operand of a swap into slots from d on.
   pub record IsSideRead (t : Tables) (kind : Kind) (v : Value) (d q : ℕ) (c : Configuration) : Type 0 where
     pub links : List Link
     pub some : 0 < length links
@@ -346,7 +346,7 @@ module _ (source : Program) (pages calls : ℕ) where
 
   -- ---- writing a side
 
-  -- In a swap, the next side is written; after the last side, the statement ends.
+  -- In a swap, the next operand is written; after the last operand, the statement ends.
   pub writing_sides : (writes : List Write) (k : List Entry) (e : Environment) (w : World) (c : Configuration) → plain.HoldsWords (plain.Running c) → AreNamed source e.locals (callers k) w c.active.function c.active.base c.frames c.store → IsStep source pages calls (Writing writes None) k e w c
   writing_sides [] k e w c words names well (shared, facts, (exits, q, end, stack)) =
       silently source pages calls (Running (Writing [] None) k e w) (Running Proceeding k e w) (plain.Running c) refl
@@ -417,7 +417,7 @@ module _ (source : Program) (pages calls : ℕ) where
 
   -- ---- evaluating the places
 
-  -- The address of a cell is moved to a slot, and execution continues after it.
+  -- The address of a cell is moved to a slot, and execution continues after this move.
   comes_to : (focus next : Focus) (k₀ k : List Entry) (e : Environment) (w : World) (c : Configuration) (object offset d q : ℕ) (shared : SharedAt source pages calls k₀ e w c) → step source (Running focus k₀ e w) ≡ Running next k e w
       → focus_weight next + stack_weight k < focus_weight focus + stack_weight k₀ → Brought source shared.tables object offset d q c
       → ((slots : Words) → ((m : ℕ) → Outside d 1 m → slots m ≡ c.active.slots m) → Points shared.tables object offset (slots d) → Matches source pages calls (Running next k e w) (plain.Running (at (with_slots c slots) q)))
@@ -431,7 +431,7 @@ module _ (source : Program) (pages calls : ℕ) where
       (subst (λ p. Matches source pages calls (Running next k e w) (plain.Running (at (with_slots c (put c.active.slots d word)) p))) (sym end)
       (goes (put c.active.slots d word) (λ m out. put_elsewhere c.active.slots d word 1 m (omega arith) out) (subst (Points shared.tables object offset) (sym (put-same c.active.slots d word)) points))))
 
-  -- A side of a swap that is a variable needs no code.
+  -- An operand of a swap that is a variable needs no code to be found.
   right_there : (kind : Kind) (left : Value) (x : Option ℕ) (k : List Entry) (e : Environment) (w : World) → IsWell (finds_right_object kind left x k e w) → (object : ℕ) × (x ≡ Some object)
   right_there kind left None k e w well = absurd (well refl)
   right_there kind left (Some object) k e w well = (object, refl)
@@ -444,7 +444,7 @@ module _ (source : Program) (pages calls : ℕ) where
       → DataIn source t c.active.slots k e w c → DataIn source t slots k e w (at (with_slots c slots) q)
   slots_above t d q slots k e w c above same facts = data_written source t c.active.function c.active.base w.objects e.locals k c.active.slots slots c.active.handlers c.globals c.frames d 1 above same facts
 
-  -- The left side of a swap is a cell that has been found, and the right side is evaluated next.
+  -- The left operand of a swap is a cell that has been found, and the right operand is evaluated next.
   pub left_found : (object offset : ℕ) (kind : Kind) (peek : Option ℕ) (right : Side) (k : List Entry) (e : Environment) (w : World) (c : Configuration) {m : ℕ}
       → IsWell (step source (Running (GivenPlace (Thin object offset)) (NeedsPlace (SwapLeft kind peek right) ∷ k) e w)) → (shared : SharedAt source pages calls k e w c) → DataIn source shared.tables c.active.slots k e w c
       → Brought source shared.tables object offset (floor source c.active.function k) m c
@@ -485,7 +485,7 @@ module _ (source : Program) (pages calls : ℕ) where
         (o, more, s, at_y, (points, tt), (exits, CellSide x, y, r, q, tt, tt, address, exchange, stack)),
       ))
 
-  -- Both sides of a swap have been evaluated.
+  -- Both operands of a swap have been evaluated.
   pub right_found : (object offset : ℕ) (kind : Kind) (peek : Option ℕ) (is_cell : Bool) (left : Value) (a : Side) (k : List Entry) (e : Environment) (w : World) (c : Configuration) {m : ℕ}
       (shared : SharedAt source pages calls k e w c) → DataIn source shared.tables c.active.slots k e w c → Holds shared.tables c.active.slots (floor source c.active.function k) (held (NeedsPlace (SwapRight kind peek is_cell left) ∷ k))
       → Brought source shared.tables object offset (right_slot a (floor source c.active.function k)) m c → IsLeft source e.locals is_cell a left

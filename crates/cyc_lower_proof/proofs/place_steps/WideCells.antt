@@ -52,7 +52,7 @@ use Rattle.cyc_types.specs.declared.typed.Kind.{Kind}
 use Rattle.cyc_lower_proof.specs.inside.ValueCode.{variable_bytes}
 use Rattle.cyc_memory_relation.proofs.Chars.{wide-aligned}
 
--- The parts of a configuration that change while the words of a cell are written.
+-- The components of a configuration (heap store, globals, slots, frames) that change while the words of a cell are written.
 pub record Parts : Type 0 where
   pub store : StoreState
   pub globals : Words
@@ -62,11 +62,11 @@ pub record Parts : Type 0 where
 abbrev pub parts_of : Configuration → Parts
 parts_of c = record { store = c.store; globals = c.globals; slots = c.active.slots; frames = c.frames }
 
--- The configuration `c` with the given store, globals, slots and frames, at the instruction `next`.
+-- The configuration `c` with the given heap store, globals, slots and frames, at the instruction `next`.
 abbrev pub stage : Configuration → Parts → (next : ℕ) → Configuration
 stage c s next = record c { store = s.store; globals = s.globals; active = record c.active { next = next; slots = s.slots }; frames = s.frames }
 
--- Says that two stages of a write have equal page use and equally many frames.
+-- Says that the heap store requests equally many pages, and that there are equally many frames, at two stages of a write.
 abbrev IsAsFar : Parts → Parts → Type 0
 IsAsFar s others = (demand others.store ≡ demand s.store) × (length others.frames ≡ length s.frames)
 
@@ -105,12 +105,12 @@ module _ (source : Program) (pages calls : ℕ) (k : List Entry) (e : Environmen
   abbrev globals_of_source : List Ty
   globals_of_source = global_types source.globals
 
-  -- Says that one instruction stores a word and takes the configuration from one stage to the next.
+  -- Says that one instruction stores a word and takes the configuration from one stage of the write to the next.
   abbrev pub Goes : (s others : Parts) → (more from : ℕ) → Type 0
   Goes s others more from = (i : ℕ) (choice : Choice) → performed (lower_program source) choice (stage c s i) (instructions.Store (operands.Slot a) more (operands.Slot from)) ≡ plain.Running (stage c others (i + 1))
 
-  -- The written cell belongs to the store, to a global or to a local. Writing the cell changes the store, the globals, or
-  -- the slots of a call.
+  -- The written cell belongs to the heap store, to a global or to a local. Writing the cell changes the heap store, the
+  -- globals, or the slots of a call.
   pub record IsSaved : Type 0 where
     pub one : Parts
     pub two : Parts
@@ -480,7 +480,8 @@ module _ (source : Program) (pages calls : ℕ) (k : List Entry) (e : Environmen
   pub value_stays : (j : ℕ) → j < 3 → stored.active.slots (n + j) ≡ c.active.slots (n + j)
   value_stays = is_saved.value
 
-  -- After the three stores, the shared state still holds with the same tables of objects, and so do the data of all calls.
+  -- After the three stores, the invariant that source run and lowered run share still holds with the same tables of
+  -- objects. After the three stores, the facts about the data of all calls hold too.
   abbrev pub shared_stored : SharedAt source pages calls k e next stored
   shared_stored = record {
     tables = shared.tables;

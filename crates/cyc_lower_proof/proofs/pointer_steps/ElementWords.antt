@@ -71,7 +71,7 @@ abbrev some_or : (kind : Kind) → Option Kind → Kind
 some_or kind None = kind
 some_or kind (Some other) = other
 
--- Each cell of the pointed-to part of an object has the size of the kind in the typed tree.
+-- Each cell of the part of an object to which a fat pointer points has the size of the kind that the typed tree gives.
 module _ {t : Tables} {w : World} {s : StoreState} (related : objects.Related t w s) where
   cell_of_kind : (kind : Kind) (offset : ℕ) (x : Option Object) → is_target (Some kind) offset (cell_of x offset) ≡ true → (y : Object) × (cell : Cell) × (x ≡ Some y) × (slice_get y.cells offset ≡ Some cell) × (cell.kind ≡ kind)
   cell_of_kind kind offset None leads = absurd (let f : false ≡ true = leads in cc)
@@ -96,7 +96,7 @@ module _ {t : Tables} {w : World} {s : StoreState} (related : objects.Related t 
       subst (λ (j : ℕ). Points t o (start + i) (add_of a (scaled (bytes_of_kind kind) j))) (sym index_is)
       (subst (λ (j : ℕ). Points t o (start + i) (add_of a (scaled j i))) (part_bytes i part kind below leads) (element_is i part below))
 
--- An access through a fat pointer changes only the first slot of the access and one slot after it.
+-- An access through a fat pointer changes only the first temporary of the access and one later slot.
 pub elsewhere : (slots : Words) (t far x y m : ℕ) → Outside t (far + 1) m → put (put slots (t + far) x) t y m ≡ slots m
 elsewhere slots t far x y m out =
     put_elsewhere (put slots (t + far) x) t y (far + 1) m (omega arith) out ∙ put-other slots (t + far) m x (λ same. beside out same)

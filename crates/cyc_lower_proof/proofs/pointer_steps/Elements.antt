@@ -84,7 +84,7 @@ module _ (source : Program) (pages calls : ℕ) where
     within_path : nat_lt (b.active.slots m) (b.active.slots (n + 1)) ≡ true → IsPath source b (within ∷ [])
     within_path less = (here.0, (λ choice. branch_taken b (nat_lt (b.active.slots m) (b.active.slots (n + 1))) u less), omega (arith, here.3), is_quiet b (at b u).active, tt)
 
-    -- The slot for the tag receives the first word of the pointer, and then the tag of the exception.
+    -- The slot for an exception's tag receives the first word of the pointer, and then the tag of the exception.
     abbrev tag_slot : ℕ
     tag_slot = base_of source b.active.function
 
@@ -220,7 +220,7 @@ module _ (source : Program) (pages calls : ℕ) where
         data_written source shared.tables c.active.function c.active.base w.objects e.locals k c.active.slots (put c.active.slots (free + 3) far) c.active.handlers c.globals c.frames free 4 (height-least (floor source c.active.function k) (held k))
         (λ x out. scaled_elsewhere c.active.slots free far x out) facts
 
-    -- Within bounds, the access finds the first cell, or the cell at the index.
+    -- If the index is within bounds, then an access through a fat pointer finds the target's first cell, or the cell at the index.
     cell_reached : (object start count index : ℕ) {x : Value} → c.active.slots n ≢ 0 → nat_lt (c.active.slots m) (c.active.slots (n + 1)) ≡ true → index < count
         → (shared : SharedAt source pages calls k e w c) → (part : IsPartOf shared.tables object start count (c.active.slots n)) → c.active.slots m ≡ index
         → step source (Running (Given (given x)) waiting e w) ≡ Running (GivenPlace (Thin object (start + index))) k e w → leads_to w target (reaches.At object (start + index)) ≡ true

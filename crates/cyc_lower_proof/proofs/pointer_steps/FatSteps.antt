@@ -80,7 +80,7 @@ module _ (source : Program) (pages calls : ℕ) where
     abbrev in_bounds : (following : Configuration) → Link
     in_bounds following = record { instruction = instructions.Branch comparisons.LessUnsigned (operands.Slot (n + 1)) (operands.Slot (n + 2)) (p + 3); following = following }
 
-    -- The element count is 0, which the last instruction yields.
+    -- If the element count of a pointer is 0, then the last instruction of the code that counts elements yields this 0.
     none_counted : (choice : Choice) → Matches source pages calls (Running (Given (record { kind = kinds.Int; value = Int 0 })) k e w) (performed (lower_program source) choice (at c (p + 3)) (instructions.Move d (operands.Word 0)))
     none_counted choice =
         let (past, subtract, jump, move, end) = here in
@@ -185,7 +185,8 @@ widened_elsewhere slots n m (inl below) =
 widened_elsewhere slots n m (inr above) =
     put-other (put slots (n + 1) (many_of (slots n))) (n + 2) m 0 (λ same. absurd (omega (arith, same, above))) ∙ put-other slots (n + 1) m (many_of (slots n)) (λ same. absurd (omega (arith, same, above)))
 
--- The three words are those of a fat pointer to one cell, and the first word is the address of this cell.
+-- The three words that result from converting a thin pointer are those of a fat pointer to one cell. The
+-- first of these words is the address of this cell.
 widened_is : (t : Tables) (kind : Kind) (v u : Value) (slots : Words) (n : ℕ) → words_of_kind kind ≢ 3 → conversion kinds.Fat v ≡ Gives u → Is t kind v slots n → Is t kinds.Fat u (widened slots n) n
 widened_is t kind v u slots n narrow gives is = by kind v is gives narrow
   where

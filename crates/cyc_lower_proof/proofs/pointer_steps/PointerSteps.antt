@@ -302,7 +302,7 @@ is_moved change Null k e w well = record { value = Null; gives = refl }
 is_moved change (Fat object start many index) k e w well = record { value = Fat object start many (change index); gives = refl }
 is_moved change v k e w well = absurd (well refl)
 
--- Writing the moved index changes no slot outside the three slots of the pointer.
+-- Writing the changed index of a fat pointer changes no slot outside the three slots of the pointer.
 pub outside_index : (slots : Words) (d x m : ℕ) → Outside d 3 m → put slots (d + 2) x m ≡ slots m
 outside_index slots d x m (inl below) = put-other slots (d + 2) m x (λ same. absurd (omega (arith, same, below)))
 outside_index slots d x m (inr above) = put-other slots (d + 2) m x (λ same. absurd (omega (arith, same, above)))

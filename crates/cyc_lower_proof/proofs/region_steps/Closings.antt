@@ -1,5 +1,5 @@
--- This file proves that the store closes lexical regions down to a saved number of open regions. The source closes one region in
--- each step, and the store closes several regions at once.
+-- This file proves that the heap store closes lexical regions down to a saved number of open regions. The source closes one
+-- region in each step, and the heap store closes several regions at once.
 use Rattle.std.proofs.Common.{◌≡◌, ◌≢◌, ℕ, suc, ◌≤◌, true, List, [], ◌∷◌, Option, None, Some, refl, sym, ap, subst, arith}
 use Rattle.std.specs.List.{AllByRecursion}
 use Rattle.cyc_types.specs.TypedTrees.{Program}
@@ -34,7 +34,7 @@ use Rattle.cyc_lower_proof.proofs.relation.simulation.Stacks.{code_of, bounds_at
 use Rattle.cyc_lower_proof.proofs.relation.simulation.Shared.{HasScopes, store_by, silent}
 use Rattle.cyc_lower_proof.proofs.relation.simulation.Matched.{Inside, IsMatched, Executes, by_places, place_in, known, elsewhere, seen_way, inside_within}
 
--- Closing regions does not raise the number of pages that the store needs.
+-- Closing regions does not raise the number of pages that the heap store needs.
 pub fewer_pages : (s : StoreState) (mark : ℕ) (choice : services.Choice) → demand (served s (CloseTo mark) choice) ≤ demand s
 fewer_pages s mark choice = demand-part (IsPart-down_to mark s.regions) s.classes
 
@@ -49,7 +49,7 @@ module _ (source : Program) (pages calls : ℕ) where
       → AllByRecursion (λ q. place ≢ q) (place_in source pages calls c ∷ [])
   closing_apart c slot ask place i here other = (elsewhere source pages calls place (place_in source pages calls c) i _ here ask other, tt)
 
-  -- For every choice of the store, the instruction closes the regions.
+  -- For every choice that the heap store may make, the instruction that closes lexical regions closes them.
   pub closing_executes : (focus : Focus) (k : List Entry) (e : Environment) (w : World) (next : State) (c : Configuration) (slot many q : ℕ)
       → ClosedAt (code_of source c.active.function) (bounds_at source c.active.function) (types_at source c.active.function) slot c.active.next q
       → Inside source pages calls w c → c.active.slots slot ≡ many → many ≤ lexical_count c.store.regions
@@ -89,7 +89,8 @@ module _ (source : Program) (pages calls : ℕ) where
 
   -- ---- the shared state
 
-  -- The shared state after the source closes its newest lexical region, while the store still has this region.
+  -- The invariant that source run and lowered run share, after the source closes its newest lexical region
+  -- while the heap store still has this region.
   abbrev pub shared_after : (closing : Option ℕ) (region : ℕ) (k : List Entry) (e : Environment) (w : World) (c : Configuration) (ends : Ends w region)
       → HasScopes (scopes_of source) → HasScopes closing
       → SharedBy source closing pages calls (CloseLexical region ∷ k) e w c → SharedBy source closing pages calls k e (closed w region ends.region) c
@@ -135,7 +136,7 @@ module _ (source : Program) (pages calls : ℕ) where
       counted None leaves reported = absurd leaves
       counted (Some mark) leaves (has, sound, more) = (has, sound, omega (arith, more, less))
 
-  -- The store closes the lexical regions that the source has already closed.
+  -- The heap store closes the lexical regions that the source run has already closed.
   abbrev pub settled : (mark : ℕ) (k : List Entry) (e : Environment) (w : World) (c : Configuration) (many q : ℕ) (choice : services.Choice) → scopes w.regions ≡ many → scopes_in k ≡ many
       → IsAllowed c.store (CloseTo many) choice → SharedBy source (Some mark) pages calls k e w c → SharedAt source pages calls k e w (closed_down c choice many q)
   settled mark k e w c many q choice now ended allowed s = record {

@@ -1,4 +1,4 @@
--- This file proves the step that closes a dynamic region by its key: the store closes the region whose handle is the word of the key.
+-- This file proves the step that closes a dynamic region by its key: the heap store closes the region whose handle is the word of the key.
 use Rattle.std.proofs.Common.{◌≡◌, ℕ, ◌≤◌, true, List, ◌∷◌, None, Some, slice_get, refl, sym, ap, ◌∙◌, subst, arith}
 use Rattle.std.specs.Prelude.{if◌then◌else◌}
 use Rattle.cyc_types.specs.declared.typed.Kind.{Kind}

@@ -63,7 +63,7 @@ module _ (source : Program) (pages calls : ℕ) where
   locals_in None = refl
   locals_in (Some h) = sym (slot_types-many h)
 
-  -- A number that is a valid local of a function is below the number of the function's types of locals.
+  -- A valid index of a local of a function is below the length of the list of types of this function's locals.
   pub local_there : (g n : ℕ) → n < (bounds_at source g).locals → n < length (types_at source g).locals
   local_there g n few = omega (arith, few, locals_in (slice_get source.functions g))
 
@@ -74,7 +74,8 @@ module _ (source : Program) (pages calls : ℕ) where
     abbrev t : ℕ
     t = floor source c.active.function k
 
-    -- The configuration after the store has opened a lexical region and the number of regions open before is in its slot.
+    -- The configuration after the heap store has opened a lexical region. The number of lexical regions that were open
+    -- before is in its slot.
     abbrev asked : Configuration
     asked = served_to choice c (t + 1) OpenLexical
 
@@ -135,7 +136,7 @@ module _ (source : Program) (pages calls : ℕ) where
         let (written, stand) = data_written source shared.tables g c.active.base w.objects e.locals k c.active.slots marked.active.slots c.active.handlers c.globals c.frames t 3 (omega arith) elsewhere facts in
         (data_grows shared.tables grown grows source g c.active.base w.objects e.locals (callers k) marked.active.slots c.globals c.frames written, (mark_is, stand))
 
-  -- The region handle is bound to a local, and then the items of the block run.
+  -- The region handle is bound to a local, and then the declarations and statements of the block run.
   named_at : (n : ℕ) (js : Items) (k : List Entry) (e : Environment) (w : World) (c : Configuration) (exits : Exits) (place m u q : ℕ)
       → (shared : SharedAt source pages calls k e w c) (facts : DataIn source shared.tables c.active.slots k e w c) (nested : IsNested k e w)
       (free : refusal c.store OpenLexical ≡ None) (choice : services.Choice) (served_it : plain_step.IsServed c.store OpenLexical choice) (some : scopes_of source ≡ Some place)
@@ -218,7 +219,7 @@ module _ (source : Program) (pages calls : ℕ) where
       somewhere None n none = omega (arith, none)
       somewhere (Some place) n may = tt
 
-  -- When the block that opened a key ends, the key becomes usable again.
+  -- When the block that opened a dynamic region by its key ends, the key becomes usable again.
   pub ends_loan : (lent : ℕ) (k : List Entry) (e : Environment) (w : World) (c : Configuration) (exits : Exits)
       → (shared : SharedAt source pages calls (EndLoan lent ∷ k) e w c) → DataIn source shared.tables c.active.slots (EndLoan lent ∷ k) e w c
       → StatementStack source c.active.function exits c.active.next c.frames (EndLoan lent ∷ k) → IsMatched source pages calls (Running Proceeding (EndLoan lent ∷ k) e w) (plain.Running c)

@@ -1,4 +1,4 @@
--- This file counts the lexical regions that are open in the store by the stack entries that close them.
+-- This file counts the lexical regions that are open in the heap store by the continuation frames that close them.
 use Rattle.std.proofs.Common.{◌≡◌, ◌≤◌, List, ◌∙◌, arith}
 use Rattle.std.specs.Prelude.{◌%◌, ◌^◌}
 use Rattle.cyc_store.specs.State.{StoreState, lexical_count}
@@ -14,7 +14,7 @@ use Rattle.cyc_lower_proof.proofs.relation.simulation.Shared.{silent}
 -- ---- the source
 
 module _ (t : Tables) (w : World) (s : StoreState) (related : objects.Related t (silent w) s) where
-  -- The store has as many open lexical regions as there are stack entries that close one.
+  -- The heap store has as many open lexical regions as there are continuation frames that close one.
   pub scopes_there : (k : List Entry) (e : Environment) → IsNested k e w → lexical_count s.regions ≡ scopes_in k
   scopes_there k e nested = scopes-same related.regions ∙ scopes-counted k e w nested
 

@@ -28,7 +28,7 @@ module _ (source : Program) (pages calls : ℕ) (loop : Bool) (focus : Focus) (r
   abbrev g : ℕ
   g = c.active.function
 
-  -- The source closes the outermost region that is left, or it closes inner regions first.
+  -- The source run closes the outermost lexical region that an exit leaves, or it closes inner regions first.
   by_mark : (o : Option ℕ) → (opened_by source loop g k).mark ≡ o → (shared : SharedBy source (outermost o (floor source g k)) pages calls (CloseLexical region ∷ k) e w c)
       → DataAt source shared.tables g c.active.base w.objects e.locals (callers k) c.active.slots c.globals c.frames → HandlersStand source g c.active.slots c.active.handlers c.frames (left_by loop k)
       → (r : ℕ) → MarksAt (code_of source g) (bounds_at source g) (types_at source g) (outermost o (floor source g k)) c.active.next r

@@ -1,4 +1,4 @@
--- This module describes the contents of slots, variables and memory, and shows which contents are preserved.
+-- This module describes the values stored in slots, variables and memory, and shows which of these values are preserved.
 pub mod HeldValues
 pub mod Data
 pub mod HandlerData

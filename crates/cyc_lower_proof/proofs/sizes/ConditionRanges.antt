@@ -30,7 +30,7 @@ use Rattle.cyc_lower_proof.proofs.emission.CodeLengths.{tests_same}
 use Rattle.cyc_lower_proof.proofs.sizes.ExpressionRanges.{expression_in}
 
 module _ (program : PlainProgram) (r : Routine) (b : Numbering) (types : Types) (locals : (n : ℕ) → n < b.locals → slot_of (starts_of types) n + words_in types.locals n ≤ r.slots) (levels : (l slot : ℕ) → slice_get types.counters l ≡ Some slot → slot < r.slots) (globals : AreGlobals program types.globals) (called : (n : ℕ) (s : Signature) → slice_get b.functions n ≡ Some s → IsKnown program n s) (results : r.results ≡ results_of b.result) (following : HasEnd r types) where
-  -- If the code of the second compared operand is in range, then both compared operands are in range.
+  -- If the code of the second compared operand refers only to existing things, then both compared operands exist in the function.
   pair_in : (a c : Expression) (p t : ℕ) → Fits b types a → t + expression_need a + spare_slots ≤ r.slots → p + length (pair_code (starts_of types) a c p t) < length r.code
       → (p + length (first_code (starts_of types) a c p t) + length (second_code (starts_of types) c (p + length (first_code (starts_of types) a c p t)) t) < length r.code → AreIn program r b types locals levels globals called results following (second_code (starts_of types) c (p + length (first_code (starts_of types) a c p t)) t)) → AreIn program r b types locals levels globals called results following (pair_code (starts_of types) a c p t)
   pair_in a c p t numbered few short second =
@@ -89,7 +89,7 @@ module _ (program : PlainProgram) (r : Routine) (b : Numbering) (types : Types) 
       sides_are_operands (null_compared o c) (pointers_failing o) a c (Binary a (ThenPointerPeek n o c NoOperations) ty) t first second (first, (wide, second, none)) (omega (arith, few)) (omega (arith, few, operand_positive (type_of a), operand_positive (type_of c), words_positive ty)) few
   compared_in a t numbered few = (value_in r b types locals levels a t numbered (omega (arith, few, kind_few (kind_at r b types locals levels a))), tt)
 
-  -- The operands of a chain of tests are in range, and their jumps stay inside the code.
+  -- The operands of a chain of tests exist in the function, and their jumps stay inside the code.
   deciding_in : (u : LogicalOperator) (c : Condition) (x : ℕ) (code : List Instruction) → IsOperand r c.left × IsOperand r c.right → x < length r.code → AreIn program r b types locals levels globals called results following code → AreIn program r b types locals levels globals called results following (deciding_jump u c x ∷ code)
   deciding_in logical.AndThen c x code (left, right) inside all = ((left, right, inside), all)
   deciding_in logical.OrElse c x code (left, right) inside all = ((left, right, inside), all)
@@ -117,7 +117,7 @@ module _ (program : PlainProgram) (r : Routine) (b : Numbering) (types : Types) 
   last_in (ThenPointer o a os) ty words c t (wide, first, fits) room few = last_in os ty (words_of ty) c t fits room (omega (arith, few))
   last_in (ThenPointerPeek n o a os) ty words c t (wide, first, fits) room few = last_in os ty (words_of ty) c t fits room (omega (arith, few))
 
-  -- A condition with its jump is in range if further code follows it.
+  -- A condition with its jump refers only to existing slots and code positions if further code follows it.
   pub choice_in : (u : LogicalOperator) (a : Expression) (p t : ℕ) → Fits b types a → t + expression_need a + spare_slots ≤ r.slots → p + length (choice_code (starts_of types) u a p t) + 1 < length r.code → AreIn program r b types locals levels globals called results following (choice_code (starts_of types) u a p t)
   choice_in u (Unary unary.Not a) p t numbered few short = choice_in (turned_test u) a p t numbered (omega (arith, few)) short
   choice_in u (Binary a os ty) p t (first, fits) few short = by (are_tests u os) short
@@ -145,7 +145,7 @@ module _ (program : PlainProgram) (r : Routine) (b : Numbering) (types : Types) 
       by false = compared_in (Binary a os ty) t (first, fits) few
   chosen_in u a t numbered few = compared_in a t numbered few
 
-  -- The operands of a branch's condition are in range, and the jumps of the condition stay inside the code.
+  -- The operands of a branch's condition exist in the function, and the jumps of the condition stay inside the code.
   pub branch_in : (u : LogicalOperator) (a : Expression) (x p t : ℕ) → Fits b types a → t + expression_need a + spare_slots ≤ r.slots → x < length r.code → p + length (branch_code (starts_of types) u a x p t) + 1 < length r.code
       → AreIn program r b types locals levels globals called results following (branch_code (starts_of types) u a x p t)
   branch_in u (Unary unary.Not a) x p t numbered few inside short = branch_in (turned_test u) a x p t numbered (omega (arith, few)) inside short
@@ -172,7 +172,7 @@ module _ (program : PlainProgram) (r : Routine) (b : Numbering) (types : Types) 
       by false = chosen_in (turned_test u) (Binary a os ty) t (first, fits) few
   branched_in u a t numbered few = chosen_in (turned_test u) a t numbered few
 
-  -- The code that enters a loop is in range if the loop's body and condition end within the code.
+  -- The code that enters a loop refers only to existing slots and code positions if the loop's body and condition end within the code.
   pub entry_in : (guarded : Bool) (a : Expression) (p t test : ℕ) → Fits b types a → t + expression_need a + spare_slots ≤ r.slots
       → (p + entry_length guarded (choice_code (starts_of types) logical.AndThen a p t) + 1 < length r.code) × (test < length r.code)
       → AreIn program r b types locals levels globals called results following (entry_code guarded (choice_code (starts_of types) logical.AndThen a p t) (holding_jump (choice_of (starts_of types) logical.AndThen a t)) test p)

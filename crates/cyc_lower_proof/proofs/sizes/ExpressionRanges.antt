@@ -182,8 +182,8 @@ module _ (program : PlainProgram) (r : Routine) (b : Numbering) (called : (n : �
         (unless_in program r b types locals levels globals called results following (operand_of (starts_of types) a) inner p (omega (arith, short, long)) (λ less. expression_in types locals levels globals following a p slot t numbered (slot_fits r b types locals levels a t numbered free) (omega (arith, few)) less))
         (record { answer_in_range = omega arith; first_in_range = value_in r b types locals levels a t numbered free; second_in_range = tt }, tt)
 
-    -- The code of a new object is in range, after a region handle of this number of words. If the handle is in a slot, then it is in the
-    -- first of the slots for these words.
+    -- The code of a new object refers only to existing slots, after a region handle of this number of words. If the handle is in a slot,
+    -- then it is in the first of the slots for these words.
     made_in : (types : Types) (locals : (n : ℕ) → n < b.locals → slot_of (starts_of types) n + words_in types.locals n ≤ r.slots) (levels : (l slot : ℕ) → slice_get types.counters l ≡ Some slot → slot < r.slots) (globals : AreGlobals program types.globals) (following : HasEnd r types) → (i : Initial) (handle : Operand) (words first : ℕ) (ty : Ty) (p d t : ℕ) → FitsObject b types i → IsOperand r handle → d + words_of_kind (made_kind i) ≤ r.slots → t ≤ first + words → first + initial_value_need i words (words_of ty) ≤ r.slots → p + length (made_code (starts_of types) i handle p d t) < length r.code → AreIn program r b types locals levels globals called results following (made_code (starts_of types) i handle p d t)
     made_in types locals levels globals following (Plain kind a) handle words first ty p d t (kind_is, numbered) there room place few short =
         let front = expression_code (starts_of types) a p t t in
@@ -224,7 +224,7 @@ module _ (program : PlainProgram) (r : Routine) (b : Numbering) (called : (n : �
               ((omega (arith, few, place), tt), pointer_copied program r b types locals levels globals called results following d t room (omega (arith, few, place))),
         ))
 
-    -- The code of the memory access of a value with this number of words is in range.
+    -- The code of the memory access of a value with this number of words refers only to existing things.
     pub place_in : (types : Types) (locals : (n : ℕ) → n < b.locals → slot_of (starts_of types) n + words_in types.locals n ≤ r.slots) (levels : (l slot : ℕ) → slice_get types.counters l ≡ Some slot → slot < r.slots) (globals : AreGlobals program types.globals) (following : HasEnd r types) → (x : Dereference) (own p t : ℕ) → FitsCell b types x → 1 ≤ own → t + dereference_need x own ≤ r.slots → p + length (place_code (starts_of types) x p t) < length r.code → AreIn program r b types locals levels globals called results following (place_code (starts_of types) x p t)
     place_in types locals levels globals following (Target k a ty) own p t (pointer, kind_is, wide, numbered) some few short =
         let slot = value_slot (starts_of types) a t in
@@ -293,7 +293,7 @@ module _ (program : PlainProgram) (r : Routine) (b : Numbering) (called : (n : �
         (unless_in program r b types locals levels globals called results following known inner p (omega (arith, short, length-append front back)) (λ less. brought_by program r b types locals levels globals called results following (masks from to) a p slot t numbered (source_fits r b types locals levels from to a t (kind, wide, numbered) room) (omega (arith, room, ap words_of_kind kind)) (λ s within shorter. expression_in types locals levels globals following a p s t numbered within few shorter) less))
         (conversion_in program r b types locals levels globals called results following from to (span_of a) o (p + length front) (brought_room r b types locals levels (Convert from to a) t (kind, wide, numbered) room) (omega (arith, short, length-append front back)))
 
-    -- The arguments of `putchar` are in range, and all of them use one set of temporaries.
+    -- The code of the arguments of `putchar` refers only to existing slots, and all of them use one set of temporaries.
     pub printed_in : (types : Types) (locals : (n : ℕ) → n < b.locals → slot_of (starts_of types) n + words_in types.locals n ≤ r.slots) (levels : (l slot : ℕ) → slice_get types.counters l ≡ Some slot → slot < r.slots) (globals : AreGlobals program types.globals) (following : HasEnd r types) → (cs : Arguments) (p t first before : ℕ) → FitArguments b types cs → t + argument_words cs ≤ r.slots → t ≤ first + before → first + arguments_need cs before ≤ r.slots → p + length (printed_code (starts_of types) cs p t) < length r.code → AreIn program r b types locals levels globals called results following (printed_code (starts_of types) cs p t)
     printed_in types locals levels globals following NoArguments p t first before numbered room place few short = tt
     printed_in types locals levels globals following (MoreArguments c cs) p t first before (numbered, rest) room place few short =
@@ -302,7 +302,7 @@ module _ (program : PlainProgram) (r : Routine) (b : Numbering) (called : (n : �
         append program r b types locals levels globals called results following front back (converted_operand_in types locals levels globals following c p t numbered (omega (arith, room)) (omega (arith, few, place)) (omega (arith, short, length-append front back)))
         (printed_in types locals levels globals following cs (p + length front) t first (before + converted_words c) rest (omega (arith, room)) (omega (arith, place)) (omega (arith, few)) (omega (arith, short, length-append front back)))
 
-    -- The arguments from `first` on are in range, after the words of the earlier arguments.
+    -- The code of the arguments from `first` on refers only to existing slots, which come after the words of the earlier arguments.
     arguments_in : (types : Types) (locals : (n : ℕ) → n < b.locals → slot_of (starts_of types) n + words_in types.locals n ≤ r.slots) (levels : (l slot : ℕ) → slice_get types.counters l ≡ Some slot → slot < r.slots) (globals : AreGlobals program types.globals) (following : HasEnd r types) → (cs : Arguments) (p t first before : ℕ) → FitArguments b types cs → t ≤ first + before → first + (before + argument_words cs) ≤ r.slots → first + arguments_need cs before ≤ r.slots → p + length (arguments_code (starts_of types) cs p t) < length r.code → AreIn program r b types locals levels globals called results following (arguments_code (starts_of types) cs p t)
     arguments_in types locals levels globals following NoArguments p t first before numbered place few needs short = tt
     arguments_in types locals levels globals following (MoreArguments c cs) p t first before (numbered, rest) place few needs short =

@@ -1,5 +1,5 @@
--- The size of the code of an expression is bounded by the number of tokens in the expression's text. The code of a simple expression has
--- at most half the bound of other expressions.
+-- The size of the code of an expression is bounded by the number of tokens in the expression's text. The code of an expression without
+-- effects has at most half the bound of other expressions.
 use Rattle.std.proofs.Common.{◌≡◌, ℕ, zero, suc, ◌+◌, ◌*◌, ◌≤◌, true, false, List, [], ◌∷◌, ◌++◌, length, Option, None, Some, refl, arith}
 use Rattle.std.specs.Prelude.{◌==◌, is_some}
 use Rattle.cyc_words.proofs.Booleans.{and_left, and_right}
@@ -268,7 +268,7 @@ mutual
       let q = p + length (converted_code starts c p t) in
       omega (arith, code_size-append (converted_code starts c p t) (arguments_code starts cs q (t + passed_words c)), converted_size starts c p t, passed_few c, fields_size starts cs q (t + passed_words c))
 
-  -- The size of the code of arguments, including the words that are passed.
+  -- The size of the code of arguments, including the moves of the words that are passed.
   arguments_size : (starts : Starts) → (cs : Arguments) (p t : ℕ) → code_size (arguments_code starts cs p t) + 4 * all_passed cs ≤ size_per_weight * arguments_weight cs + 56
   arguments_size starts NoArguments p t = omega arith
   arguments_size starts (MoreArguments c cs) p t =
@@ -370,7 +370,7 @@ module _ (starts : Starts) where
       )
   simple_size a p d t simple = known_operand_size a p d t simple
 
--- The code of a load at a simple index through a pointer that needs no code has at most half the bound of other expressions.
+-- A load through a pointer without code, at an index without code, has at most half the code size that other expressions may have.
 module _ (starts : Starts) where
   known_few_size : (a : Expression) (p d t : ℕ) → is_some (operand_of starts a) ≡ true → code_size (expression_code starts a p d t) ≤ 30
   known_few_size (Number n) p d t some = omega arith

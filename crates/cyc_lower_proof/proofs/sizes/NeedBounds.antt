@@ -1,4 +1,4 @@
--- A function of a short program has few words in its frame.
+-- A function of a short program has few machine words in its frame.
 use Rattle.std.proofs.Common.{ℕ, ◌+◌, ◌*◌, ◌≤◌, List, [], ◌∷◌, Some, None, arith, length}
 use Rattle.cyc_syntax.specs.declared.tree.PointerKind.TheVariants as marks
 use Rattle.cyc_syntax.specs.TokenRule.{max_tokens}

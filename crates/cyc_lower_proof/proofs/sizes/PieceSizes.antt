@@ -122,7 +122,7 @@ conversion_by_size starts false to span o p = thinned_size starts to span o p
 abbrev masking_size : (from to : Kind) → ℕ
 masking_size from to = if masks from to then 11 else 0
 
--- The conversion of a value takes no code except the code that masks the low byte.
+-- A bound for the size of the code that converts a value, including the code that masks the low byte of an int.
 pub conversion_size : (starts : Starts) (from to : Kind) (span : Option ℕ) (o : Operand) (p : ℕ) → masking_size from to + code_size (conversion_code starts from to span o p) ≤ 44
 conversion_size starts kinds.Int kinds.Char span o p = omega arith
 conversion_size starts from to span o p = omega (arith, conversion_by_size starts (keeps_words from to) to span o p)

@@ -1,4 +1,5 @@
--- This file has lemmas for the bounds of instructions: on the number of temporaries, and on instructions whose operands are in range.
+-- This file has lemmas for the bounds of instructions: on the number of temporaries, and on instructions whose operands exist in the
+-- function.
 use Rattle.std.proofs.Common.{◌≡◌, ℕ, zero, suc, ◌+◌, ◌-◌, ◌≤◌, ◌<◌, true, false, List, [], ◌∷◌, length, take, min, Option, None, Some, All, IsSomeAnd, slice_get, refl, sym, subst, arith, length-take, inl, inr}
 use Rattle.std.specs.List.{AllByRecursion}
 use Rattle.cyc_types.specs.Types.{Ty, words_of, ValueType, Void, Null, Value}
@@ -48,12 +49,12 @@ made_needs (Plain kind a) before own = omega arith
 made_needs (Fields cs) before own = omega arith
 made_needs (Array p level n kind a) before own = omega arith
 
--- A function's result has at most as many words as the returned value, and this value has at most as many words as the result, or one.
+-- A function's result has at most as many words as the returned value. This value has at most as many words as the result, or one word.
 pub result_least : (t : Option Ty) → (results_of t ≤ words_of_kind (kind_of_result t)) × (words_of_kind (kind_of_result t) ≤ max 1 (results_of t))
 result_least None = (omega arith, omega arith)
 result_least (Some t) = (omega (arith, type_words t), omega (arith, type_words t))
 
--- After one counter is added, all counters are still in slots of the function.
+-- If one more loop counter of an array is added, then all of these counters are still in slots of the function.
 pub levels_inside : (r : Routine) (types : Types) → ((l slot : ℕ) → slice_get types.counters l ≡ Some slot → slot < r.slots) → (slot : ℕ) → slot < r.slots
     → (l other : ℕ) → slice_get (counted types slot).counters l ≡ Some other → other < r.slots
 levels_inside r types levels slot inside l other found = elim (slice_get_last_cases types.counters slot l other found) [
@@ -67,7 +68,7 @@ levels_inside r types levels slot inside l other found = elim (slice_get_last_ca
 abbrev pub HasEnd : Routine → Types → Type 0
 HasEnd r types = (types.raises + 6 < length r.code) × (words_of_all types.locals < r.slots)
 
--- The properties of a plain program's function to which the bounds of a source function refer.
+-- The properties of a plain program's function that the bounds of the corresponding source function state.
 pub record IsKnown (program : PlainProgram) (n : ℕ) (s : Signature) : Type 0 where
   pub there : n < length program.functions
   pub parameters : (routine_at program n).parameters ≡ words_of_all s.parameters
@@ -77,12 +78,13 @@ pub record IsKnown (program : PlainProgram) (n : ℕ) (s : Signature) : Type 0 w
 pub record AreGlobals (program : PlainProgram) (globals : List Ty) : Type 0 where
   pub room : words_of_all globals ≤ length program.globals
 
--- Says that an instruction takes only the address of a whole local, by the local's first slot.
+-- Says that an instruction takes the address of a local only at the local's first slot and with all of the local's slots.
 abbrev pub TakesLocal : (locals : List Ty) → Instruction → Type 0
 TakesLocal locals (instructions.AddressOf d first count) = (n : ℕ) × (t : Ty) × (slice_get locals n ≡ Some t) × (first ≡ slot_in locals n) × (count ≡ words_of t)
 TakesLocal locals i = Unit {0}
 
--- Holds if all parts of an instruction exist, and if the instruction takes only the address of a whole local.
+-- Holds if each slot, function, global and code position that an instruction names exists. If the instruction
+-- takes an address, then it takes that of a complete local.
 abbrev pub IsIn : PlainProgram → Routine → (locals : List Ty) → Instruction → Type 0
 IsIn program r locals (instructions.AddressOf d first count) = (d < r.slots) × (first + count ≤ r.slots) × TakesLocal locals (instructions.AddressOf d first count)
 IsIn program r locals i = IsInRange program r i

@@ -1,5 +1,5 @@
 -- The size of the code of a function is bounded by the number of tokens in the function's text. Reading a fat pointer through a fat
--- pointer is one token, and its code takes some eighty words.
+-- pointer is one token, and its code takes some eighty machine words.
 use Rattle.cyc_types.specs.typing.Expressions.{type_of_side}
 use Rattle.std.proofs.Common.{◌≡◌, ℕ, zero, suc, ◌+◌, ◌*◌, ◌≤◌, Bool, true, false, List, [], ◌∷◌, ◌++◌, ◌-◌, length, take, Option, None, Some, refl, arith, inl, inr}
 use Rattle.std.specs.Prelude.{◌&&◌, is_some, if◌then◌else◌, ◌||◌, not}
@@ -257,7 +257,7 @@ module _ (starts : Starts) where
   named_size : (ty : Ty) (n : ℕ) (o : Operand) → code_size (named_code starts (words_of ty) n o) ≤ 20
   named_size ty n o = move_size (words_of ty) (slot_of starts n) o (omega (arith, type_words ty, kind_few (kind_of ty)))
 
-  -- The size of the code of one side of a swap, and of the two instructions that read and write this side.
+  -- The size of the code of one operand of a swap, and of the two instructions that read and write this operand.
   side_size : (a : Side) (p t : ℕ) → code_size (side_code starts a p t) ≤ size_per_weight * side_weight a
   side_size (VariableSide l ty) p t = omega arith
   side_size (CellSide x) p t = omega (arith, store_address_size starts x p t)

@@ -65,7 +65,7 @@ module _ (program : PlainProgram) (r : Routine) (b : Numbering) (types : Types) 
 
   -- ---- regions
 
-  -- The code that gives a value to a local of this kind is in range.
+  -- The code that gives a value to a local of this kind refers only to existing slots.
   named_in : (kind : Kind) (n : ℕ) (o : Operand) → n < b.locals → HasRoom types n kind → HasOperand r b types locals levels o (words_of_kind kind) → AreIn program r b types locals levels globals called results following (named_code (starts_of types) (words_of_kind kind) n o)
   named_in kind n o within room inside = (move_in program r b types locals levels globals called results following kind (slot_of (starts_of types) n) o (omega (arith, locals n within, room)) inside, tt)
 
@@ -113,7 +113,7 @@ module _ (program : PlainProgram) (r : Routine) (b : Numbering) (types : Types) 
   leave_in : (opened : Opened) → CanLeave opened → AreIn program r b types locals levels globals called results following (leave_code opened)
   leave_in opened (record_inside, mark_inside) = append program r b types locals levels globals called results following (handlers_code opened.handler) (marks_code opened.mark) (handlers_in opened.handler record_inside) (marks_in opened.mark mark_inside)
 
-  -- The slot in which a `try` saves the number of open regions is in range.
+  -- The slot in which a `try` saves the number of open regions exists in the function.
   kept_in : (known : Option ℕ) (t : ℕ) → t + RECORD_WORDS < r.slots → AreIn program r b types locals levels globals called results following (kept_code_in known t)
   kept_in None t free = tt
   kept_in (Some place) t free = (free, tt)
@@ -249,7 +249,7 @@ module _ (program : PlainProgram) (r : Routine) (b : Numbering) (types : Types) 
   caught_in None t numbered few = tt
   caught_in (Some n) t (within, room) few = ((omega (arith, locals n within, room), few), tt)
 
-  -- Inside a `try` one more handler is open, and after the item that opens a region one more region is open.
+  -- Inside a `try` one more handler is open, and after the declaration that opens a region one more region is open.
   record_after : (first : Option ℕ) (slot : ℕ) → IsRecord first → slot + RECORD_WORDS ≤ r.slots → IsRecord (outermost first slot)
   record_after None slot inside room = room
   record_after (Some first) slot inside room = inside

@@ -56,7 +56,7 @@ module _ (program : PlainProgram) (r : Routine) (b : Numbering) (types : Types) 
   pub append : (x y : List Instruction) → AreIn x → AreIn y → AreIn (x ++ y)
   append x y first rest = all_append (IsIn program r types.locals) x y first rest
 
-  -- If code is omitted because an operand is known, then it need not be in range.
+  -- If code is omitted because an operand needs no code, then this code need not refer to existing things.
   pub unless_in : (known : Option Operand) (x : List Instruction) (p : ℕ) → p + length (code_unless known x) < length r.code → (p + length x < length r.code → AreIn x) → AreIn (code_unless known x)
   unless_in (Some o) x p short inside = tt
   unless_in None x p short inside = inside short
@@ -154,7 +154,7 @@ module _ (program : PlainProgram) (r : Routine) (b : Numbering) (types : Types) 
   thinned_in kinds.Nullable span (operands.Slot n) p inside short = ((omega (arith, inside), tt, omega (arith, short, past_long (starts_of types) span n (n + 2) n)), bounded_in span n (n + 2) n (omega (arith, inside)) (omega (arith, inside)) inside)
   thinned_in to span o p inside short = tt
 
-  -- Converting a fat pointer needs room for three words.
+  -- Converting a fat pointer needs slots for three words.
   conversion_by_in : (same : Bool) (to : Kind) (span : Option ℕ) (o : Operand) (p words : ℕ) → words_of_kind to ≤ words → (same ≡ false → (to ≡ kinds.Char) ⊎ (3 ≤ words)) → HasOperand r b types locals levels o words
       → p + length (conversion_by (starts_of types) same to span o p) < length r.code → AreIn (conversion_by (starts_of types) same to span o p)
   conversion_by_in true to span o p words least three inside short = tested_in to o (operand_in r b types locals levels o to (less_operand r b types locals levels o words (words_of_kind to) least inside))
@@ -202,7 +202,7 @@ module _ (program : PlainProgram) (r : Routine) (b : Numbering) (types : Types) 
   blank_in kinds.Char slot few = ((few, tt), tt)
   blank_in kind slot few = tt
 
-  -- The code that loads words of globals into slots is in range, and so is the code that stores them.
+  -- The code that loads words of globals into slots refers only to existing words and slots, and so does the code that stores them.
   pub loads_in : (words first d : ℕ) → first + words ≤ length program.globals → d + words ≤ r.slots → AreIn (word_by_word load_word words first d)
   loads_in zero first d inside few = tt
   loads_in (suc words) first d inside few = ((omega (arith, few), omega (arith, inside)), loads_in words (suc first) (suc d) (omega (arith, inside)) (omega (arith, few)))
@@ -215,7 +215,7 @@ module _ (program : PlainProgram) (r : Routine) (b : Numbering) (types : Types) 
   global_in words first (operands.Slot n) some inside few = saves_in words first n inside few
   global_in words first (operands.Word n) some inside few = ((omega (arith, some, inside), few), tt)
 
-  -- The global to which a value is assigned has room for all words of the value.
+  -- The global to which a value is assigned has enough words for all words of the value.
   pub assigned_in : (n : ℕ) (c : Converted) (o : Operand) → HasGlobal types n (kind_passed c) → HasOperand r b types locals levels o (words_of_kind (kind_passed c)) → AreIn (global_code (passed_words c) (global_of (starts_of types) n) o)
   assigned_in n c o room few =
       subst (λ words. AreIn (global_code words (global_of (starts_of types) n) o)) (sym (passed_is c))
@@ -273,7 +273,7 @@ module _ (program : PlainProgram) (r : Routine) (b : Numbering) (types : Types) 
       let long = length-append operand (truth_code t d) in
       ((room, tt, omega (arith, short, long)), append operand (truth_code t d) inside ((few, room, tt), tt))
 
-  -- The code that stores a word of a value in a cell is in range, and so is the code that loads it.
+  -- The code that stores a word of a value in a cell refers only to existing slots, and so does the code that loads it.
   store_in : (kind : Kind) (address : Operand) (offset : ℕ) (o : Operand) → IsOperand r address → IsOperand r o → IsIn program r types.locals (store_of kind address offset o)
   store_in kinds.Char address offset o first second = (first, second)
   store_in kind address offset o first second = (first, second)
@@ -364,7 +364,7 @@ module _ (program : PlainProgram) (r : Routine) (b : Numbering) (types : Types) 
   own_needed (Member k a s f ty) own = omega arith
   own_needed (Element a i ty) own = omega arith
 
-  -- If a fat pointer stays in its slots while an index is evaluated, then these slots are in range.
+  -- If a fat pointer stays in its slots while an index is evaluated, then these slots exist in the function.
   pub pointer_room : (a i : Expression) (t : ℕ) → kind_at r b types locals levels a ≡ kinds.Fat → Fits b types a → t + 3 ≤ r.slots → pointer_slot (starts_of types) a i t + 3 ≤ r.slots
   pointer_room a i t fat numbered room = by (is_simple (starts_of types) i)
     where
@@ -416,7 +416,7 @@ module _ (program : PlainProgram) (r : Routine) (b : Numbering) (types : Types) 
 
   -- ---- expressions
 
-  -- A pointer operator is in range with its right operand, which is evaluated after the left operand.
+  -- The code of a pointer operator, and of its right operand, which is evaluated after the left operand, refers only to existing slots.
   pub right_in : (o : PointerOperator) (a : Expression) (ty : Ty) (p : ℕ) (l : Operand) (d t left : ℕ) → Fits b types a → words_of_kind (left_kind o) ≤ left → d + words_of_kind (operator_kind o) ≤ r.slots → HasOperand r b types locals levels l (words_of_kind (left_kind o)) → IsOperand r l
       → t + max (left + operand_words (type_of a) + words_of ty) (left + expression_need a) ≤ r.slots
       → p + length (pointer_code o l (value_operand (starts_of types) a (after_left o t)) (code_unless (operand_of (starts_of types) a) (expression_code (starts_of types) a p (value_slot (starts_of types) a (after_left o t)) (after_left o t))) d) < length r.code
@@ -434,7 +434,7 @@ module _ (program : PlainProgram) (r : Routine) (b : Numbering) (types : Types) 
       (unless_in (operand_of (starts_of types) a) inner p (omega (arith, short, length-append operand back)) (λ less. computed slot (slot_fits r b types locals levels a u numbered free) less))
       (pointer_in o l m d room all inside (value_in r b types locals levels a u numbered free))
 
-  -- An int that becomes a char is an operand, and the code that moves its low byte to a slot is in range.
+  -- An int that becomes a char is an operand, and the code that moves its low byte to a slot refers only to existing slots.
   pub brought_by : (masking : Bool) (a : Expression) (p d t : ℕ) → Fits b types a → d + words_of_kind (kind_at r b types locals levels a) ≤ r.slots → t + words_of_kind (kind_at r b types locals levels a) ≤ r.slots
       → ((slot : ℕ) → slot + words_of_kind (kind_at r b types locals levels a) ≤ r.slots → p + length (expression_code (starts_of types) a p slot t) < length r.code → AreIn (expression_code (starts_of types) a p slot t))
       → p + length (if masking then masked_by (operand_of (starts_of types) a) (expression_code (starts_of types) a p (value_slot (starts_of types) a t) t) (value_operand (starts_of types) a t) d else expression_code (starts_of types) a p d t) < length r.code

@@ -1,4 +1,4 @@
--- This file proves that values and the operands of operators have room in the slots of a function.
+-- This file proves that the slots of a function are enough for values and for the operands of operators.
 use Rattle.std.proofs.Common.{◌≡◌, ℕ, ◌+◌, ◌≤◌, ◌<◌, Bool, true, false, Option, None, Some, slice_get, refl, ap, subst, arith}
 use Rattle.cyc_types.specs.declared.typed.Kind.{Kind}
 use Rattle.cyc_types.specs.declared.typed.Kind.TheVariants as kinds
@@ -126,7 +126,7 @@ module _ (r : Routine) (b : Numbering) (types : Types) (locals : (n : ℕ) → n
   pub value_in : (a : Expression) (t : ℕ) → Fits b types a → t + words_of_kind (kind_at a) ≤ r.slots → IsOperand r (value_operand (starts_of types) a t)
   value_in a t numbered few = operand_in (value_operand (starts_of types) a t) (kind_at a) (value_room a t numbered few)
 
-  -- A converted value has room both before and after the conversion.
+  -- The slots of a function are enough for a converted value both before and after the conversion.
   pub source_fits : (from to : Kind) (a : Expression) (t : ℕ) → FitsConverted b types (Convert from to a) → t + converted_words (Convert from to a) ≤ r.slots
       → source_slot (starts_of types) (Convert from to a) t + words_of_kind (kind_at a) ≤ r.slots
   source_fits from to a t (kind, wide, numbered) few = by (keeps_words from to)
@@ -162,7 +162,7 @@ module _ (r : Routine) (b : Numbering) (types : Types) (locals : (n : ℕ) → n
   printed_value_in (MoreArguments c cs) o t (first, rest) inside few =
       printed_value_in cs (converted_operand (starts_of types) c t) t rest (converted_value_in c t first (omega (arith, few))) (omega (arith, few))
 
-  -- The slot for the result of an operator has room for this result.
+  -- The slots of a function are enough for the result of an operator in its destination.
   pub next_in : (os : Operations) (kind : Kind) (d t : ℕ) → d + words_of_kind (chain_kind kind os) ≤ r.slots → t + words_of_kind kind ≤ r.slots → next_slot os d t + words_of_kind kind ≤ r.slots
   next_in NoOperations kind d t few room = few
   next_in (ThenCompute o a os) kind d t few room = room
@@ -170,7 +170,7 @@ module _ (r : Routine) (b : Numbering) (types : Types) (locals : (n : ℕ) → n
   next_in (ThenPointer o a os) kind d t few room = room
   next_in (ThenPointerPeek n o a os) kind d t few room = room
 
-  -- Holds if the words of a left operand of a pointer operator are in range.
+  -- Holds if the words of a left operand of a pointer operator are in slots of the function, or are a constant.
   abbrev pub LeftIn : Operations → Operand → Type 0
   LeftIn (ThenPointer o a os) l = HasOperand l (words_of_kind (left_kind o))
   LeftIn (ThenPointerPeek n o a os) l = HasOperand l (words_of_kind (left_kind o))
@@ -211,7 +211,7 @@ module _ (r : Routine) (b : Numbering) (types : Types) (locals : (n : ℕ) → n
   left_with_in true a t numbered few = value_in a t numbered few
   left_with_in false a t numbered few = omega (arith, few, kind_positive (kind_at a))
 
-  -- Holds if no operators follow, or if there is room for their left operand.
+  -- Holds if no operators follow, or if the slots of the function are enough for their left operand.
   abbrev LeftRoom : Operations → Expression → ℕ → Type 0
   LeftRoom NoOperations a t = Unit {0}
   LeftRoom os a t = t + words_of_kind (kind_at a) ≤ r.slots

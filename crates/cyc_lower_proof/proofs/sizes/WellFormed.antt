@@ -1,4 +1,4 @@
--- The lowered program is well-formed: its instructions refer only to existing things, and its frames have room for all slots.
+-- The lowered program is well-formed: its instructions refer only to existing things, and its frames have enough words for all slots.
 use Rattle.std.proofs.Common.{◌≡◌, ℕ, zero, suc, ◌≤◌, ◌<◌, ◌-◌, true, false, List, [], ◌∷◌, length, map, take, Option, Some, slice_get, slice_index_or, refl, ap, arith, length-append}
 use Rattle.std.specs.List.{AllByRecursion}
 use Rattle.std.proofs.lemmas.Option.{same_Some, none-some}
@@ -89,7 +89,7 @@ module _ (source : Program) (is_fitting : IsFitting source) where
         last = end_leaves body (tag_slot h) (farthest body - types.raises);
       }
 
-  -- The code of a function takes only the addresses of whole locals.
+  -- The code of a function takes the addresses of complete locals only, never of a part of a local.
   pub function_takes : (h : Function) → AreOfWordsItems h.body → FitItems (numbering_of (length source.globals) (signatures_of source.functions) h) (types_of source.structs (global_types source.globals) (scopes_of source) h) false h.body
       → AllByRecursion (TakesLocal (slot_types h)) (function_code source.structs (globals_of source) (scopes_of source) h)
   function_takes h words numbered_body =

@@ -59,7 +59,7 @@ slot-append (t ∷ ts) us n =
     = ap (slot_in ((t ∷ ts) ++ us)) (let e : length (t ∷ ts) + n ≡ suc (length ts + n) = omega arith in e) in
     omega (arith, next, slot-append ts us n)
 
--- if each local has one word, its slot is its number
+-- if each local has one word, the slot of a local is the index of the local
 pub slot-number : (ts : List Ty) (n : ℕ) → AllByRecursion (λ t. words_of t ≡ 1) ts → n ≤ length ts → slot_in ts n ≡ n
 slot-number [] n one few = omega (arith, few)
 slot-number (t ∷ ts) zero one few = refl
@@ -81,7 +81,7 @@ type-there [] n inside = absurd (omega (arith, inside))
 type-there (t ∷ ts) zero inside = (t, refl)
 type-there (t ∷ ts) (suc n) inside = type-there ts n (omega (arith, inside))
 
--- The first slot of a local, for every local number, is at most the first slot for temporaries.
+-- The first slot of a local, for every index of a local, is at most the first slot for temporaries.
 low-from : (ts : List Ty) (slot n : ℕ) → unwrap_or (slice_get (starts_from slot ts) n) 0 ≤ slot + words_of_all ts
 low-from [] slot n = omega arith
 low-from (t ∷ ts) slot zero = omega arith
@@ -122,7 +122,7 @@ slot-apart ts n m inside there other = elim (cases_lt n m) [
   ]
 ]
 
--- If there is room for a value in the local with this number, then the local exists.
+-- If the local with this index has at least one word, then the local exists.
 has-words : (ts : List Ty) (n : ℕ) → 1 ≤ words_in ts n → n < length ts
 has-words [] n some = absurd (omega (arith, some))
 has-words (t ∷ ts) zero some = omega arith

@@ -199,35 +199,35 @@ module _ (signatures : List Signature) where
 
 -- ---- the words of locals
 
--- the number of words of the local, or global, with this number
+-- the number of machine words of the local, or global, with this index
 abbrev pub words_in : List Ty → ℕ → ℕ
 words_in [] n = 0
 words_in (t ∷ ts) zero = words_of t
 words_in (t ∷ ts) (suc n) = words_in ts n
 
--- Holds if the local with this number has room for a value of this kind.
+-- Holds if the local with this index has enough words for a value of this kind.
 abbrev pub HasRoom : Types → ℕ → Kind → Type 0
 HasRoom types n kind = words_of_kind kind ≤ words_in types.locals n
 
--- The kind of the local or global with number n in a list of types.
+-- The kind of the local or global with index n in a list of types.
 abbrev pub kind_in : List Ty → ℕ → Kind
 kind_in [] n = kinds.Int
 kind_in (t ∷ ts) zero = kind_of t
 kind_in (t ∷ ts) (suc n) = kind_in ts n
 
--- Holds if the local with this number has this kind and has room for a value of the kind.
+-- Holds if the local with this index has this kind and enough words for a value of the kind.
 abbrev pub HasLocal : Types → ℕ → Kind → Type 0
 HasLocal types n kind = HasRoom types n kind × (kind_in types.locals n ≡ kind)
 
--- Holds if the global with this number has room for a value of this kind.
+-- Holds if the global with this index has enough words for a value of this kind.
 abbrev pub HasGlobal : Types → ℕ → Kind → Type 0
 HasGlobal types n kind = words_of_kind kind ≤ words_in types.globals n
 
--- Holds if the local or global with this number has the kind to which a pointer of type `pointer` points.
+-- Holds if the local or global with this index has the kind to which a pointer of type `pointer` points.
 abbrev pub HasVariable : List Ty → ℕ → (pointer : Ty) → Type 0
 HasVariable ts n pointer = (t : Ty) × (slice_get ts n ≡ Some t) × (kind_after pointer ≡ kind_of t)
 
--- Holds if the struct with this number has a field with index `field`.
+-- Holds if the struct with this index has a field with index `field`.
 abbrev pub HasField : Types → (number field : ℕ) → Type 0
 HasField types number field = (s : StructType) × (slice_get types.structs number ≡ Some s) × (field < length s.fields)
 

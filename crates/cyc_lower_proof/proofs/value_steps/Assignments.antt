@@ -91,7 +91,7 @@ module _ (source : Program) (pages calls : ℕ) where
   handed v o k e w c q here stands (copies d r copy lands) =
       copied (is_in o d) v o d k e w c r refl stands (subst (λ x. CopyAt (code_of source c.active.function) (words_of_kind v.kind) o d x r) (sym here) copy) lands
 
-  -- After one instruction or none, a step passes the assigned value on.
+  -- After one instruction or none, a source step passes the assigned value to the next continuation frame.
   hands_after : {focus : Focus} {before : List Entry} {w0 : World} {i : Instruction} (v : Kinded) (k : List Entry) (e : Environment) (w : World) (c d : Configuration)
       → step source (Running focus before e w0) ≡ Running (Given v) k e w → SharedAt source pages calls before e w0 c → SharedAt source pages calls before e w0 d
       → At (code_of source c.active.function) c.active.next i → ((choice : Choice) → performed (lower_program source) choice c i ≡ plain.Running d) → c.active.next ≢ d.active.next
@@ -101,7 +101,7 @@ module _ (source : Program) (pages calls : ℕ) where
   hands_after {focus} {before} {w0} {i} v k e w c d does shared shared_d here first other (by_copy j at goes) =
       by_two source pages calls d does shared shared_d here first at other goes
 
-  -- After several instructions, a step passes the assigned value on.
+  -- After several instructions, a source step passes the assigned value to the next continuation frame.
   hands_through : {focus : Focus} {before : List Entry} {w0 : World} (v : Kinded) (k : List Entry) (e : Environment) (w : World) (c d : Configuration) (links : List Link) → 0 < length links
       → step source (Running focus before e w0) ≡ Running (Given v) k e w → SharedAt source pages calls before e w0 c → IsPath source c links → end_of c links ≡ d
       → Handed v k e w d → IsMatched source pages calls (Running focus before e w0) (plain.Running c)
@@ -115,7 +115,7 @@ module _ (source : Program) (pages calls : ℕ) where
   abbrev IsWordNow : Configuration → Kinded → Operand → Type 0
   IsWordNow c v o = (t : Tables) → IsIn t v c.active.slots o → IsWord t v.kind v.value (operand_word c.active.slots o)
 
-  -- A step stores a value, and after several instructions the value is passed on.
+  -- A source step stores a value, and after several instructions the value is passed to the next continuation frame.
   hands_stored : {i : Instruction} (v : Kinded) (before : List Entry) (k : List Entry) (e : Environment) (w0 w : World) (c d : Configuration) (links : List Link)
       → step source (Running (Given v) before e w0) ≡ Running (Given v) k e w → SharedAt source pages calls before e w0 c → IsPath source c links
       → At (code_of source (end_of c links).active.function) (end_of c links).active.next i → ((choice : Choice) → performed (lower_program source) choice (end_of c links) i ≡ plain.Running d)
@@ -128,7 +128,7 @@ module _ (source : Program) (pages calls : ℕ) where
       (subst (λ (x : Configuration). At (code_of source x.active.function) x.active.next j) (sym ends) at)
       (λ choice. subst (λ (x : Configuration). Matches source pages calls (Running (Given v) k e w) (performed (lower_program source) choice x j)) (sym ends) (goes choice))
 
-  -- A step stores a value in memory, and after several instructions the value is passed on.
+  -- A source step stores a value in memory, and after several instructions the value is passed to the next continuation frame.
   hands_saved : {i : Instruction} (v : Kinded) (before : List Entry) (k : List Entry) (e : Environment) (w0 w : World) (c d : Configuration)
       → step source (Running (Given v) before e w0) ≡ Running (Given v) k e w → SharedAt source pages calls before e w0 c → plain_step.is_within pages calls (plain.Running d) ≡ true → plain.seen_of (plain.Running d) ≡ seen_in w0
       → At (code_of source c.active.function) c.active.next i → ((choice : Choice) → performed (lower_program source) choice c i ≡ plain.Running d) → c.active.next ≢ d.active.next
@@ -208,7 +208,7 @@ module _ (source : Program) (pages calls : ℕ) where
       subst (λ p. GoesAfter source pages calls v (Needs (Store p) ∷ k) e w c) (sym place_is)
       (stores object v l o to k e w c q (sym (object_of_same l e) ∙ found) (subst (λ p. IsWell (stored_at p v (Given v) k e w)) place_is well) stands here hands)
 
-  -- The word in a store instruction is a 32-bit word.
+  -- A constant operand that a store instruction writes is a 32-bit word.
   stored_has : (kind : Kind) (address : Operand) (bytes n : ℕ) → HasWord (store_of kind address bytes (operands.Word n)) → IsMachineWord n
   stored_has kinds.Char address bytes n has = has.2
   stored_has kind address bytes n has = has.2
@@ -223,12 +223,13 @@ module _ (source : Program) (pages calls : ℕ) where
       (All_at HasWord (code_of source g) p (store_of kind address bytes (operands.Word n))
       (of_words.functions g no_routine (function_known (lower_program source) place (store_of kind address bytes (operands.Word n)) here)) here)
 
-  -- Writing the word of a one-word value over words of the same content does not change the value in an operand.
+  -- Writing the word of a one-word value over slots that already hold this word does not change the value in an operand.
   stays_in : (t : Tables) (v : Kinded) (o : Operand) (slots other : Words) → ((n : ℕ) → slots n ≡ operand_word slots o → other n ≡ operand_word slots o) → IsWord t v.kind v.value (operand_word slots o) → IsIn t v slots o → IsIn t v other o
   stays_in t v (operands.Slot n) slots other same tells is = IsWord-is t v.kind v.value (slots n) other n (same n refl) tells
   stays_in t v (operands.Word w) slots other same tells is = is
 
-  -- A value of one word is stored in a cell, whose address waits in a temporary. After the store, the value of one word is passed on.
+  -- A value of one word is stored in a cell, whose address waits in a temporary. After the store, the value of one word is passed to
+  -- the next continuation frame.
   stores_word : (peek : Option ℕ) (object offset : ℕ) (v : Kinded) (o : Operand) (q : ℕ) (k : List Entry) (e : Environment) (w : World) (c : Configuration) → HasWords (lower_program source) → plain.HoldsWords (plain.Running c) → AreNamed source e.locals (callers k) w c.active.function c.active.base c.frames c.store
       → IsWell (step source (Running (Given v) (Needs (StoreCell peek (Thin object offset)) ∷ k) e w)) → Stands source pages calls v o (Needs (StoreCell peek (Thin object offset)) ∷ k) e w c
       → IsWordNow c v o → At (code_of source c.active.function) c.active.next (store_of v.kind (operands.Slot (top source c.active.function k)) 0 o) → c.active.next + 1 ≡ q
@@ -258,7 +259,8 @@ module _ (source : Program) (pages calls : ℕ) where
         Holds-above shared.tables c.active.slots after.active.slots (floor source g k) (held k) (λ m above. above_there source pages calls k e w c shared names facts object offset address word at v.value found points is_word fits m (omega (arith, above, floor-least source g k))) holds,
       ) (hands_moves source g e.locals v.kind o q c.frames after.frames (frames_there source pages calls k e w c shared names facts object offset address word at v.value found points is_word fits) k hands))
 
-  -- A value of three words is stored in a cell, whose address waits in a temporary. After the store, the value of three words is passed on.
+  -- A value of three words is stored in a cell, whose address waits in a temporary. After the store, the value of three words is passed to
+  -- the next continuation frame.
   stores_words : (peek : Option ℕ) (object offset : ℕ) (v : Kinded) (n q : ℕ) (k : List Entry) (e : Environment) (w : World) (c : Configuration) → plain.HoldsWords (plain.Running c) → AreNamed source e.locals (callers k) w c.active.function c.active.base c.frames c.store
       → IsWell (step source (Running (Given v) (Needs (StoreCell peek (Thin object offset)) ∷ k) e w)) → Stands source pages calls v (operands.Slot n) (Needs (StoreCell peek (Thin object offset)) ∷ k) e w c
       → IsStanding source c.active.function n → v.kind ≡ kinds.Fat → StoresAt (code_of source c.active.function) (bounds_at source c.active.function) (types_on source c.active.function k) kinds.Fat 3 (top source c.active.function k) 0 n c.active.next q
@@ -322,7 +324,7 @@ module _ (source : Program) (pages calls : ℕ) where
           (subst (λ i. StoresAt (code_of source g) (bounds_at source g) (types_on source g k) i (words_of_kind i) (top source g k) 0 n c.active.next q) fat here) hands
   stores_cell peek place v o k e w c of_words words names well stands stack = absurd (well refl)
 
-  -- The local already has the value in its slots when the source assigns it.
+  -- The slots of the local already hold the value when the source assigns it to the local.
   pub catches_up : (object n : ℕ) (old : Words) (v : Kinded) (k : List Entry) (e : Environment) (w : World) (c : Configuration) (shared : SharedAt source pages calls k e w c)
       → e.locals n ≡ Some object → IsWell (stored_at (Thin object 0) v (Given v) k e w)
       → ((m : ℕ) → Outside (slot_of (starts_on source c.active.function k) n) (words_of_kind v.kind) m → old m ≡ c.active.slots m) → DataIn source shared.tables old k e w c

@@ -147,7 +147,7 @@ module _ (source : Program) (pages calls : ℕ) where
       let place : Lvalue = Local (record { line = 0; column = 0 }) n in
       (shared, facts, sources shared.tables from to a (Needs (Store (Thin object 0)) ∷ k) e w c x r s at_a at_to holds (place, o, m, (move, end, there, room), (object, refl, found), hands))
 
-  -- A variable is assigned, and then the value of the assignment is passed on.
+  -- A variable is assigned, and then the value of the assignment is passed to the next continuation frame.
   assigns : (l : Lvalue) (from to : Kind) (a : Expression) (t : ValueType) (k : List Entry) (e : Environment) (w : World) (c : Configuration) (object : Option ℕ) (o : Operand) (m : ℕ)
       → object_of e l ≡ object → At_step (Assign l (Convert from to a) t) k e w c
       → AssignmentAt (code_of source c.active.function) (bounds_at source c.active.function) (types_on source c.active.function k) l (Convert from to a) o (top source c.active.function k) c.active.next m
@@ -236,7 +236,7 @@ module _ (source : Program) (pages calls : ℕ) where
       operand_low (types_on source g k) a (top source g k) o (omega (arith, height-least (floor source g k) (held k), floor-least source g k)) (counters_low (floor source g k) k)
       (operand_is (code_of source g) (bounds_at source g) (types_on source g k) a (top source g k) c.active.next q o at)
 
-  -- The first operand of an operator chain may have no code if the second operand is simple.
+  -- The first operand of an operator chain may have no code if the evaluation of the second operand has no effect.
   pub chain_begins : (simple : Bool) (a : Expression) (os : Operations) (t : Ty) (k : List Entry) (e : Environment) (w : World) (c : Configuration) (l : Operand) (m : ℕ) → At_step (Binary a os t) k e w c
       → OperandBy (code_of source c.active.function) (bounds_at source c.active.function) (types_on source c.active.function k) (left_with simple (operand_of (starts_on source c.active.function k) a))
       (ExpressionAt (code_of source c.active.function) (bounds_at source c.active.function) (types_on source c.active.function k) a (slot_with (starts_on source c.active.function k) simple a (top source c.active.function k)) (top source c.active.function k) c.active.next m)
@@ -268,7 +268,7 @@ module _ (source : Program) (pages calls : ℕ) where
       (λ choice. landed_moved source pages calls v o d k e w c q choice shared (facts.0.2.holds n found.number v found.there found.has).0 facts holds end lands)
 
   -- The values of a new object are moved to slots; the object is allocated in the region of this handle. The weight of the
-  -- step exceeds the weight of the object's content.
+  -- step exceeds the weight of the object's initial values.
   pub made_of : (focus : Focus) (k₀ : List Entry) (owner : Owner) (handle : Operand) (i : Initial) (k : List Entry) (e : Environment) (w : World) (c : Configuration) (d q : ℕ)
       → step source (Running focus k₀ e w) ≡ makes owner i k e w → suc (object_weight i + stack_weight k) < weight (Running focus k₀ e w)
       → IsHandleOf owner handle (top source c.active.function k) k → (shared : SharedAt source pages calls k e w c) → DataIn source shared.tables c.active.slots k e w c
@@ -489,7 +489,7 @@ module _ (source : Program) (pages calls : ℕ) where
   in_top a k e w c o q known (is, at) stack =
       comes a k e w c (top source c.active.function k) q known at (in_temporary (omega arith) (subst (λ x. ValueStack source c.active.function e.locals (given_at source c.active.function a) x q c.frames k) is stack))
 
-  -- The code of an operand, without the further facts that the relation states about it.
+  -- The code of an operand, without the other facts that the simulation relation states about the operand.
   pub only_computed : (code : List Instruction) (b : Numbering) (types : Types) (known : Option Operand) (one computed : Type 0) (slot : ℕ) (o : Operand) (p q : ℕ)
       → OperandBy code b types known (one × computed) slot o p q → OperandBy code b types known computed slot o p q
   only_computed code b types (Some x) one computed slot o p q at = at

@@ -71,7 +71,7 @@ module _ (source : Program) (pages calls : ℕ) where
       (λ choice. not_taken next c (compares failing (operand_word c.active.slots x) (operand_word c.active.slots y)) s passes
       (subst (λ n. Matches source pages calls next (plain.Running (at c n))) (sym end) goes))
 
-  -- States the facts that are known about a value in an operand.
+  -- States the facts of the simulation relation that hold while a value is in an operand.
   abbrev pub Stands : Kinded → Operand → List Entry → Environment → World → Configuration → Type 0
   Stands v o k e w c = (shared : SharedAt source pages calls k e w c) × DataIn source shared.tables c.active.slots k e w c × IsIn shared.tables v c.active.slots o
       × Holds shared.tables c.active.slots (floor source c.active.function k) (held k)
@@ -81,7 +81,7 @@ module _ (source : Program) (pages calls : ℕ) where
 
   -- ---- conversions
 
-  -- A conversion that keeps the words passes the value on and executes no instruction.
+  -- A conversion that keeps the words of a value gives the value to the next continuation frame and executes no instruction.
   kept_value : (from to : Kind) (target : Option Kind) (i : Kind) (v : Value) (o : Operand) (k : List Entry) (e : Environment) (w : World) (c : Configuration) (q : ℕ)
       → words_of_kind i ≡ words_of_kind to → conversion to v ≡ Gives v
       → step source (Running (Given (of_kind i v)) (Needs (ConvertTo from to target) ∷ k) e w) ≡ Running (Given (of_kind to v)) k e w → Stands (of_kind i v) o k e w c
@@ -91,7 +91,7 @@ module _ (source : Program) (pages calls : ℕ) where
       (shared, in_operand o facts (kept_in shared.tables i to v c.active.slots o wide gives is) (kept_holds _ _ _ k holds) (subst (λ r. ValueStack source c.active.function e.locals to o r c.frames k) (sym end) stack))
       (omega arith)
 
-  -- A value is converted from the kind that it has.
+  -- The kind from which a conversion converts a value is the kind that the value has.
   converts_kind : (from to : Kind) (target : Option Kind) (v : Kinded) (k : List Entry) (e : Environment) (w : World) → IsWell (step source (Running (Given v) (Needs (ConvertTo from to target) ∷ k) e w))
       → step source (Running (Given v) (Needs (ConvertTo from to target) ∷ k) e w) ≡ computed to (conversion to v.value) k e w
   converts_kind from to target v k e w well =
@@ -171,7 +171,7 @@ module _ (source : Program) (pages calls : ℕ) where
   never_char t i (Int a) slots o k e w changes whole well is = let (words, p, same, is_it) = in_words t (of_kind i (Int a)) slots o is in is_it
   never_char t i v slots o k e w changes whole well is = well refl
 
-  -- A conversion keeps the words of the value, or makes them more or fewer.
+  -- A conversion keeps the machine words of the value, or changes how many there are.
   converts_by : (same : Bool) (from to : Kind) (target : Option Kind) (v : Kinded) (o : Operand) (q : ℕ) (k : List Entry) (e : Environment) (w : World) (c : Configuration) → keeps_words from to ≡ same → masks from to ≡ false
       → step source (Running (Given v) (Needs (ConvertTo from to target) ∷ k) e w) ≡ computed to (conversion to v.value) k e w → leads_to w target (followed v.value) ≡ true → v.kind ≡ from → IsWell (computed to (conversion to v.value) k e w)
       → Stands v o k e w c
@@ -223,8 +223,8 @@ module _ (source : Program) (pages calls : ℕ) where
   converted_ahead t from kinds.Key i (Key region) words n k e w well quiet whole wide is = (refl, kept_at t i kinds.Key (Key region) words n wide refl is)
   converted_ahead t from to i v words n k e w well quiet whole wide is = absurd (well refl)
 
-  -- In a conversion in the slots of a local, the value has the kind from which it is converted, and
-  -- the conversion keeps its number of words.
+  -- If a conversion happens in the slots of a local, then the value has the kind from which it is
+  -- converted. The conversion keeps the value's number of words.
   pub converts_ahead : (t : Tables) (from to : Kind) (target : Option Kind) (v : Kinded) (n : ℕ) (k : List Entry) (e : Environment) (w : World) (c : Configuration)
       → IsWell (step source (Running (Given v) (Needs (ConvertTo from to target) ∷ k) e w)) → converts_there from to ≡ true → masks from to ≡ false → Is t v.kind v.value c.active.slots n
       → (step source (Running (Given v) (Needs (ConvertTo from to target) ∷ k) e w) ≡ Running (Given (of_kind to v.value)) k e w) × Is t to v.value c.active.slots n

@@ -1,4 +1,5 @@
--- This file proves the steps that begin an expression, for every destination of its value, also beside a left operand and in a condition.
+-- This file proves the steps that begin an expression, for every destination of its value. The expression may also be the right operand
+-- of an operator, or a condition.
 use Rattle.std.proofs.Common.{◌≡◌, ℕ, ◌+◌, Bool, true, false, List, [], ◌∷◌, map, Option, None, Some, refl, sym, ap, subst, ◌∙◌, arith, inl, inr}
 use Rattle.std.specs.Prelude.{option_map, is_some}
 use Rattle.std.proofs.lemmas.List.{length-map}
@@ -47,20 +48,20 @@ use Rattle.cyc_lower_proof.proofs.value_steps.Landings.{IsStep, reads}
 use Rattle.cyc_lower_proof.proofs.value_steps.Beginnings.{At_step, IsBegun, low_here, chain_begins, comes, only_computed, operand, for_its_effect}
 
 module _ (source : Program) (pages calls : ℕ) where
-  -- An expression that needs no code is simple.
+  -- An expression that needs no code is simple, that is, its evaluation has no effect.
   pub known_simple : (starts : Starts) (a : Expression) → is_some (operand_of starts a) ≡ true → is_simple starts a ≡ true
   known_simple starts (Binary a os t) some = absurd (let f : false ≡ true = some in cc)
   known_simple starts (Unary unary.Widen a) some = some
   known_simple starts (Unary u a) some = absurd (let f : false ≡ true = some in cc)
   known_simple starts a some = some
 
-  -- A known operand needs no code, and it is the operand of the expression.
+  -- If an expression needs no code, then its operand is the one that was found without code.
   pub known_operand_is : (code : List Instruction) (b : Numbering) (types : Types) (known : Option Operand) (computed : Type 0) (slot : ℕ) (o : Operand) (p q : ℕ) → is_some known ≡ true
       → OperandBy code b types known computed slot o p q → (known ≡ Some o) × (p ≡ q)
   known_operand_is code b types (Some x) computed slot o p q some (is, end) = (ap Some (sym is), end)
   known_operand_is code b types None computed slot o p q some at = absurd (let f : false ≡ true = some in cc)
 
-  -- The counters of arrays stay in their slots while a left operand stays in its operand.
+  -- The loop counters of arrays stay in their slots while a left operand stays in its operand.
   counters_beside : (t : Tables) (e : Environment) (g : ℕ) (o : Operand) (p : ℕ) (slots : Words) (frames : List Frame) (k : List Entry) → AreCounted e.counters k → BesideAt source t e.locals g o p slots frames k
       → CountersHold e.counters slots (floor source g k) k
   counters_beside t e g o p slots frames (Needs (Apply u left) ∷ k) counted (l, is, low, inl (holds, applied)) = counters_hold t e.counters slots (floor source g k) k counted holds
@@ -72,7 +73,7 @@ module _ (source : Program) (pages calls : ℕ) where
   counters_beside t e g o p slots frames (Needs (Operate u) ∷ k) counted (at, beside) = counters_beside t e g (operands.Slot (top source g k)) (p + 1) slots frames k counted beside
   counters_beside t e g o p slots frames k counted beside = absurd beside
 
-  -- If an operator chain is a simple right operand, then the first operand of the chain is simple too.
+  -- If an operator chain is a right operand without effects, then the first operand of the chain has no effects either.
   simple_begins : (u : Operator) (a b : Expression) (os : Operations) (ty : Ty) (k : List Entry) (e : Environment) (w : World) (c : Configuration) (r : Operand) (q : ℕ) (shared : SharedAt source pages calls k e w c) → DataIn source shared.tables c.active.slots k e w c
       → is_simple (starts_on source c.active.function k) (Binary a (ThenCompute u b os) ty) ≡ true
       → ValueAt (code_of source c.active.function) (bounds_at source c.active.function) (types_on source c.active.function k) (Binary a (ThenCompute u b os) ty) (top source c.active.function k) r c.active.next q
@@ -110,13 +111,13 @@ module _ (source : Program) (pages calls : ℕ) where
       (shared, facts, as_right (o, m, known_simple (starts_on source c.active.function k) a some, at_a, beside))
       (omega arith)
 
-  -- The result of a unary operator without code is the right operand beside a left operand.
+  -- The result of a unary operator that needs no code is the right operand of an operator whose left operand is available.
   unary_beside : (t : Tables) (locals : ℕ → Option ℕ) (g : ℕ) (r : Operand) (m q : ℕ) (slots : Words) (frames : List Frame) (k : List Entry) → r ≡ operands.Slot (top source g k) → m + 1 ≡ q → BesideAt source t locals g r q slots frames k
       → BesideAt source t locals g (operands.Slot (top source g k)) (m + 1) slots frames k
   unary_beside t locals g r m q slots frames k is end beside =
       subst (λ p. BesideAt source t locals g (operands.Slot (top source g k)) p slots frames k) (sym end) (subst (λ x. BesideAt source t locals g x q slots frames k) is beside)
 
-  -- A simple right operand is evaluated, while the left operand stays in its operand.
+  -- A right operand whose evaluation has no effect is evaluated, while the left operand stays in its operand.
   beside_left : (a : Expression) (k : List Entry) (e : Environment) (w : World) (c : Configuration) → IsWell (step source (Running (Evaluating a) k e w)) → (shared : SharedAt source pages calls k e w c) → DataIn source shared.tables c.active.slots k e w c
       → RightAt source shared.tables a e.locals c.active.function c.active.next c.active.slots c.frames k → IsBegun source pages calls a k e w c
   beside_left (Unary unary.Widen a) k e w c well shared facts (r, q, simple, there, beside) =
@@ -206,7 +207,7 @@ module _ (source : Program) (pages calls : ℕ) where
       chain_begins source pages calls (is_simple (starts_on source c.active.function k) b) a (ThenPointerPeek n o b NoOperations) t k e w c l m known at_a (λ low. (low, to_jump (inl (failing, r, q, inr (is, at_b), stack))))
   compares_peek None None n o a b t k e w c l r q is none known at stack = not_zero (Binary a (ThenPointerPeek n o b NoOperations) t) k e w c l r q known at stack
 
-  -- A negated condition jumps to the two targets of the original condition, exchanged.
+  -- A negated condition jumps to the two targets of the original condition, with the targets exchanged.
   turned : (g : ℕ) (failing : Comparison) (l r : Operand) (p : ℕ) (frames : List Frame) (k : List Entry) → ConditionStack source g (opposite failing) l r p frames k
       → (f : ℕ) × (h : ℕ) × ForkAt (code_of source g) (bounds_at source g) (types_on source g k) failing l r p f h × DecidedStack source g false f frames k × DecidedStack source g true h frames k
   turned g failing l r p frames k (f, h, inl (jump, following), first, second) = (h, f, inr (jump, following), second, first)
@@ -283,7 +284,7 @@ module _ (source : Program) (pages calls : ℕ) where
       Begun : Type 0
       Begun = EvaluatingAt source t a e.locals g c.active.next c.active.slots c.frames (Needs (Index peek target i) ∷ k)
 
-      -- The fat pointer is in temporaries.
+      -- The fat pointer whose index is evaluated next is in temporaries.
       brought_there : n ≡ top source g k → Computed → Begun
       brought_there there computed =
           into_slot (top source g k) m computed holds (in_temporary (omega arith) (inl (

@@ -28,7 +28,7 @@ use Rattle.cyc_lower_proof.proofs.relation.simulation.Paths.{Link, is_quiet, IsQ
 
 -- ---- words
 
--- The words `to` after words of `from` have been copied over them, one by one.
+-- The map `to` from slots to words, after words of the map `from` have been copied into it one by one.
 abbrev pub each_put : (from to : Words) → (words source d : ℕ) → Words
 each_put from to zero source d = to
 each_put from to (suc words) source d = each_put from (put to d (from source)) words (suc source) (suc d)
@@ -127,7 +127,7 @@ module _ (source : Program) where
       let (path, end) = save_path (with_global c first (c.active.slots n)) words (suc first) (suc n) q rest in
       ((here, (λ choice. refl), omega arith, global_quiet c first (c.active.slots n), path), omega (arith, end))
 
-  -- A value is stored in a global by at least one instruction, and execution then continues after the last of these instructions.
+  -- A value is stored in a global by at least one instruction, and execution continues after the last of the instructions that store it.
   pub record IsStoredBy (c : Configuration) (words first : ℕ) (o : Operand) (q : ℕ) : Type 0 where
     pub last : ℕ
     pub some : 0 < length (global_links c words first o)

@@ -47,7 +47,7 @@ object_of_same (Local p n) e = refl
 object_of_same (Global n) e = refl
 
 module _ (source : Program) (pages calls : ℕ) where
-  -- Says that the source step from this focus is matched.
+  -- Says that the plain machine matches the source step that begins with this focus.
   abbrev pub IsStep : Focus → List Entry → Environment → World → Configuration → Type 0
   IsStep focus k e w c = IsWell (step source (Running focus k e w)) → Related source pages calls focus k e w c → IsMatched source pages calls (Running focus k e w) (plain.Running c)
 
@@ -123,7 +123,7 @@ module _ (source : Program) (pages calls : ℕ) where
   landed_moved v o d k e w c q choice shared is facts holds end lands =
       made_moved v o d k e w c q choice shared is facts holds end (lands_made c.active.function e.locals v.kind d q c.frames k lands)
 
-  -- If two code positions are equal, then the code after a slot is the same at both.
+  -- If two code positions are equal, then the requirements on the code that uses a slot are the same at both positions.
   pub lands_at : (g : ℕ) (locals : ℕ → Option ℕ) (kind : Kind) (d p q : ℕ) (frames : List Frame) (k : List Entry) → p ≡ q → LandsStack source g locals kind d q frames k
       → LandsStack source g locals kind d p frames k
   lands_at g locals kind d p q frames k same lands = subst (λ r. LandsStack source g locals kind d r frames k) (sym same) lands

@@ -68,7 +68,7 @@ use Rattle.cyc_lower_proof.proofs.value_steps.Conversions.{not_taken, guard_fail
 module _ (source : Program) (pages calls : ℕ) where
   -- ---- operators
 
-  -- Says that a word has been moved to a slot, where it represents a value of a kind.
+  -- Says that a word has been moved to a slot, and that the slot now represents a value of a kind.
   abbrev IsLanded : Tables → Kind → (d : ℕ) → List Entry → Environment → World → Configuration → Type 0
   IsLanded t kind d k e w c =
       (v : Value) (x : ℕ) → Is t kind v (put c.active.slots d x) d → Related source pages calls (Given (of_kind kind v)) k e w (advanced (with_slots c (put c.active.slots d x)))
@@ -129,12 +129,12 @@ module _ (source : Program) (pages calls : ℕ) where
 
   -- ---- divisions
 
-  -- Says that the result of an operator is in its slot, and that the code continues after it.
+  -- Says that the result of an operator is in its slot, and that execution continues after the code of the operator.
   abbrev IsComputed : Operator → (a b d q : ℕ) → List Entry → Environment → World → Configuration → Type 0
   IsComputed u a b d q k e w c =
       (m x : ℕ) → m + 1 ≡ q → x ≡ binary_word u a b → Related source pages calls (Given (int_of (binary_word u a b))) k e w (advanced (with_slots (at c m) (put c.active.slots d x)))
 
-  -- The division instruction, applied to operands with these words.
+  -- The step of the division instruction, applied to operands with these words.
   quotient : (u : Operator) (a b : ℕ) (l r : Operand) (d : ℕ) (k : List Entry) (e : Environment) (w : World) (c : Configuration) (q : ℕ)
       → ((x : ℕ) → plain_operators.has_no_result (binary_operator u) x ≡ (x == 0)) → ((x y : ℕ) → plain_operators.binary_result (binary_operator u) x y ≡ binary_word u x y)
       → (b == 0) ≡ false → operand_word c.active.slots l ≡ a → operand_word c.active.slots r ≡ b → c.active.next + 1 ≡ q → IsComputed u a b d q k e w c
@@ -146,7 +146,7 @@ module _ (source : Program) (pages calls : ℕ) where
       subst (λ (z : Bool). Matches source pages calls (Running (Given (int_of (binary_word u a b))) k e w) (if z then plain.Stuck c.output c.input else gives c d result)) (sym (plain_test y ∙ ap (λ z. z == 0) is ∙ nonzero))
       (goes c.active.next result end (same x y ∙ ap (λ z. binary_word u z y) is_left ∙ ap (binary_word u a) is))
 
-  -- The division after the test of its divisor.
+  -- The step of a division after the test that its divisor is not 0.
   tested_divides : (u : Operator) (i j : Kind) (a b : ℕ) (f : Bool) (l r : Operand) (d : ℕ) (k : List Entry) (e : Environment) (w : World) (c : Configuration) (m q : ℕ)
       → ((x : ℕ) → plain_operators.has_no_result (binary_operator u) x ≡ (x == 0)) → ((x : ℕ) → has_no_result u x ≡ (x == 0))
       → ((x y : ℕ) → plain_operators.binary_result (binary_operator u) x y ≡ binary_word u x y) → (b == 0) ≡ f
@@ -302,7 +302,7 @@ module _ (source : Program) (pages calls : ℕ) where
 
   -- ---- chains
 
-  -- The value of the first part of an operator chain is passed to the rest of the chain.
+  -- The value of the operators before the rest of an operator chain becomes the left operand of this rest.
   chain_lands : (os : Operations) (kind : Kind) (g : ℕ) (locals : ℕ → Option ℕ) (d p q : ℕ) (frames : List Frame) (k : List Entry)
       → OperationsAt (code_of source g) (bounds_at source g) (types_on source g k) os (operands.Slot (next_slot os d (top source g k))) d (top source g k) p q
       → LandsStack source g locals (chain_kind kind os) d q frames k → LandsStack source g locals kind (next_slot os d (top source g k)) p frames (Needs (Chain os) ∷ k)
@@ -364,7 +364,7 @@ module _ (source : Program) (pages calls : ℕ) where
       (λ same. let f : jump_if_nonzero _ m ≡ instructions.Binary plain_binary.NotEqual _ _ _ = same in cc) reported shared facts holds truths
       (chain_lands os kinds.Int c.active.function e.locals d r q c.frames k ops lands)
 
-  -- If the step that awaits the right operand is not a fault, then the left operand fits the operator.
+  -- If the step that evaluates the right operand of an operator next is not a fault, then the left operand fits the operator.
   pub awaited : (fits : Bool) (waiting : Awaiting) (b : Expression) (os : Operations) (k : List Entry) (e : Environment) (w : World) → IsWell (awaits_right fits waiting b os k e w)
       → awaits_right fits waiting b os k e w ≡ Running (Evaluating b) (Needs waiting ∷ Needs (Chain os) ∷ k) e w
   awaited true waiting b os k e w well = refl
@@ -374,7 +374,7 @@ module _ (source : Program) (pages calls : ℕ) where
   awaited_fits true waiting b os k e w well = refl
   awaited_fits false waiting b os k e w well = absurd (well refl)
 
-  -- An expression that is not simple needs code.
+  -- An expression whose evaluation may have an effect needs code.
   unknown : (starts : Starts) (b : Expression) → is_simple starts b ≡ false → operand_of starts b ≡ None
   unknown starts b other = by (operand_of starts b) refl
     where
@@ -387,7 +387,7 @@ module _ (source : Program) (pages calls : ℕ) where
   left_there code b types (Some x) left computed slot o p q none at = absurd (none-some x (sym none))
   left_there code b types None left computed slot o p q none (is, (there, at)) = there
 
-  -- The left operand of an operator stays in its operand if the right operand is simple, and the right operand is evaluated after it.
+  -- The left operand of an operator stays in its operand if the right operand has no effects, and the right operand is evaluated after it.
   chain_goes_on : (simple : Bool) (u : Operator) (b : Expression) (os : Operations) (v : Kinded) (l : Operand) (k : List Entry) (e : Environment) (w : World) (c : Configuration) (r : Operand) (m : ℕ)
       → IsWell (step source (Running (Given v) (Needs (Chain (ThenCompute u b os)) ∷ k) e w)) → is_simple (starts_on source c.active.function k) b ≡ simple → IsLow l (top source c.active.function k) → Stands source pages calls v l k e w c
       → OperandBy (code_of source c.active.function) (bounds_at source c.active.function) (types_on source c.active.function k) (operand_of (starts_on source c.active.function k) b)
@@ -462,7 +462,7 @@ module _ (source : Program) (pages calls : ℕ) where
       (omega arith)
   peek_goes_on n u b v o r failing q k e w c well stands low fails same end stack = absurd (none-some failing fails)
 
-  -- When two pointers are compared, the left pointer stays in its operand if the right one is simple.
+  -- When two pointers are compared, the left pointer stays in its operand if the evaluation of the right one has no effects.
   pointer_beside : (simple : Bool) (peek : Option ℕ) (u : PointerOperator) (b : Expression) (v : Kinded) (l r : Operand) (failing : Comparison) (m : ℕ) (k : List Entry) (e : Environment) (w : World) (c : Configuration)
       → pointers_failing u ≡ Some failing → takes_kind u v.kind ≡ true → is_simple (starts_on source c.active.function k) b ≡ simple → IsLow l (top source c.active.function k)
       → (t : Tables) → IsIn t v c.active.slots l → Holds t c.active.slots (floor source c.active.function k) (held k)

@@ -1,4 +1,4 @@
--- This file proves the steps that pass a value to the newest stack entry.
+-- This file proves the steps that pass a value to the newest continuation frame.
 use Rattle.std.proofs.Common.{◌≡◌, ℕ, suc, ◌+◌, Bool, true, false, List, [], ◌∷◌, Option, Some, slice_get, refl, sym, ap, subst, ◌∙◌, arith, inl, inr, length}
 use Rattle.std.specs.Prelude.{◌==◌, ◌&&◌, if◌then◌else◌, ◌%◌, ◌^◌, option_map, is_some}
 use Rattle.std.proofs.lemmas.Option.{same_Some}
@@ -268,7 +268,7 @@ module _ (source : Program) (pages calls : ℕ) where
   follows_member pointer fields field i (Handle region) o k e w c well stands stack = absurd (goes_wrong (is_kind i pointer) w well)
   follows_member pointer fields field i (Key region) o k e w c well stands stack = absurd (goes_wrong (is_kind i pointer) w well)
 
-  -- The region handle is evaluated before an object is allocated in its region.
+  -- The region handle of `rnew` is evaluated before an object is allocated in the region of this handle.
   places : (initial : Initial) (v : Kinded) (o : Operand) (k : List Entry) (e : Environment) (w : World) (c : Configuration) → IsWell (step source (Running (Given v) (Needs (PlaceBy initial) ∷ k) e w)) → Stands source pages calls v o k e w c
       → ValueStack source c.active.function e.locals v.kind o c.active.next c.frames (Needs (PlaceBy initial) ∷ k) → GoesAfter source pages calls v (Needs (PlaceBy initial) ∷ k) e w c
   places initial v o k e w c well (shared, facts, is, holds) (d, q, there, at, lands) = by v.kind v.value well (subst (IsIn shared.tables v c.active.slots) there is)
@@ -286,12 +286,12 @@ module _ (source : Program) (pages calls : ℕ) where
       by i (Handle region) well is = absurd is
       by i u well is = absurd (well refl)
 
-  -- States the facts that are known about a value that is passed on.
+  -- States the facts of the simulation relation that hold when a value in an operand is passed to the newest continuation frame.
   abbrev IsGiven : Kinded → Operand → List Entry → Environment → World → Configuration → Type 0
   IsGiven v o k e w c = (shared : SharedAt source pages calls k e w c) × DataIn source shared.tables c.active.slots k e w c × IsIn shared.tables v c.active.slots o
       × Holds shared.tables c.active.slots (floor source c.active.function k) (kept k)
 
-  -- A value in an operand is passed on.
+  -- A value in an operand is passed to the newest continuation frame.
   stands_given : (v : Kinded) (o : Operand) (k : List Entry) (e : Environment) (w : World) (c : Configuration) → HasWords (lower_program source) → plain.HoldsWords (plain.Running c) → AreNamed source e.locals (callers k) w c.active.function c.active.base c.frames c.store → IsWell (step source (Running (Given v) k e w)) → IsGiven v o k e w c
       → ValueStack source c.active.function e.locals v.kind o c.active.next c.frames k → GoesAfter source pages calls v k e w c
   stands_given v o [] e w c of_words words names well stands stack = absurd stack
@@ -388,7 +388,7 @@ module _ (source : Program) (pages calls : ℕ) where
       room of_type (subst (Is shared.tables v.kind v.value c.active.slots) (sym there) is) (q, items, stack)
   ahead_given v n old k e w c well shared same facts is holds stack = absurd stack
 
-  -- An operator chain is a simple right operand, and its next operator has a right operand without code.
+  -- An operator chain is a right operand whose evaluation has no effect, and its next operator has a right operand that needs no code.
   simple_goes_on : (u : Operator) (b : Expression) (os : Operations) (v : Kinded) (o : Operand) (q : ℕ) (k : List Entry) (e : Environment) (w : World) (c : Configuration) → IsWell (step source (Running (Given v) (Needs (Chain (ThenCompute u b os)) ∷ k) e w))
       → (shared : SharedAt source pages calls k e w c) → DataIn source shared.tables c.active.slots k e w c → IsIn shared.tables v c.active.slots o → IsLow o (top source c.active.function k)
       → are_simple (starts_on source c.active.function k) (ThenCompute u b os) ≡ true
@@ -466,7 +466,7 @@ module _ (source : Program) (pages calls : ℕ) where
       (λ value x x_is. stays_beside source pages calls (of_kind (unary_kind u) value) x k e w c (c.active.next + 1) (c.active.next + 1) shared facts refl x_is beside)
   left_given v k e w c names well shared facts (o, is, beside) = absurd beside
 
-  -- A fat pointer whose index has changed is passed on.
+  -- A fat pointer whose index has changed is passed to the newest continuation frame.
   parts_given : (v : Kinded) (k : List Entry) (e : Environment) (w : World) (c : Configuration) → IsWell (step source (Running (Given v) k e w)) → (shared : SharedAt source pages calls k e w c) → DataIn source shared.tables c.active.slots k e w c
       → PartsAt source shared.tables v e.locals c.active.function c.active.next c.active.slots c.frames k → GoesAfter source pages calls v k e w c
   parts_given v (Needs (Follow pointer target) ∷ k) e w c well shared facts (n, m, q, fat, is, low, holds, here, place) =

@@ -1,4 +1,4 @@
--- This file defines the bounds on which the code relies: the number of words of frames, and the greatest target of jumps.
+-- This file defines the bounds on which the code relies: the number of machine words of frames, and the greatest target of jumps.
 use Rattle.std.specs.Prelude.{◌≡◌, ℕ, ◌+◌, ◌≤◌, Option, Some, List, slice_get}
 use Rattle.cyc_types.specs.TypedTrees.{StructType, Function}
 use Rattle.cyc_meaning.specs.FrameCount.{frame_count}

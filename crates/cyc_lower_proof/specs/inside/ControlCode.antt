@@ -90,14 +90,15 @@ compared_of a = with_zero a
 abbrev pub negated_condition : Condition → Condition
 negated_condition c = record { failing = opposite c.failing; left = c.left; right = c.right }
 
--- The jump that is taken if a condition fails; below it, the jump that is taken if the condition holds.
+-- The jump that is taken if a condition fails. The next definition is the jump that is taken if the condition holds.
 abbrev pub failing_jump : Condition → (target : ℕ) → Instruction
 failing_jump c target = instructions.Branch c.failing c.left c.right target
 
 abbrev pub holding_jump : Condition → (target : ℕ) → Instruction
 holding_jump c target = instructions.Branch (opposite c.failing) c.left c.right target
 
--- The condition that fails exactly if the left operand decides `&&` or `||`; below it, the jump that is taken then.
+-- The condition that fails exactly if the left operand decides `&&` or `||`. The next definition is the jump that
+-- is taken if the left operand decides.
 abbrev pub deciding_condition : LogicalOperator → Condition → Condition
 deciding_condition logical.AndThen c = c
 deciding_condition logical.OrElse c = negated_condition c
@@ -105,7 +106,8 @@ deciding_condition logical.OrElse c = negated_condition c
 abbrev pub deciding_jump : LogicalOperator → Condition → (target : ℕ) → Instruction
 deciding_jump u c target = failing_jump (deciding_condition u c) target
 
--- Tells if two logical operators are equal; below it, if all tests of a chain use one operator and there is at least one test.
+-- Tells if two logical operators are equal. The next definition tells if all tests of a chain use one operator and there is at
+-- least one test.
 abbrev pub is_same : (u o : LogicalOperator) → Bool
 is_same logical.AndThen logical.AndThen = true
 is_same logical.OrElse logical.OrElse = true
@@ -139,8 +141,8 @@ over_length true = 0
 over_length false = 1
 
 -- The code of a branch at position p: the condition, the jump over the first statement, the first statement, the jump to the end, and
--- the other statement. The condition may also jump to the other statement from inside. The length of the condition's code does not
--- depend on its jump target, so it is measured with an arbitrary target.
+-- the statement after `else`. The condition may also jump to the statement after `else` from inside. The length of the condition's
+-- code does not depend on its jump target, so it is measured with an arbitrary target.
 abbrev pub other_place : (last : Bool) → (condition first : List Instruction) → (p : ℕ) → ℕ
 other_place last condition first p = p + length condition + 1 + length first + over_length last
 
@@ -220,7 +222,7 @@ abbrev mutual
 
 -- ---- regions
 
--- Declares a local with a value of this many words, which an operand provides.
+-- Declares a local with a value of this many machine words, which an operand provides.
 abbrev pub named_code : Starts → (words number : ℕ) → Operand → List Instruction
 named_code starts words n o = move_of words (slot_of starts n) o ∷ []
 
@@ -246,8 +248,9 @@ closing_code o = instructions.Ask (requests.CloseDynamic o) ∷ []
 
 -- ---- exits from statements
 
--- The handlers and regions that a statement's context has opened since the start of a loop or of the function. They are given by the
--- first slot of the outermost handler's record and the slot with the region count from before the outermost lexical region.
+-- The exception handlers and lexical regions that are open at a statement, but were not open at the start of the loop or function.
+-- The open handlers and regions are given by the first slot of the outermost handler's record and the slot with the region count
+-- from before the outermost lexical region.
 abbrev pub nothing_opened : Opened
 nothing_opened = record { handler = None; mark = None }
 
@@ -261,12 +264,12 @@ with_handler opened slot = record { handler = outermost opened.handler slot; mar
 abbrev pub with_mark : Opened → (slot : ℕ) → Opened
 with_mark opened slot = record { handler = opened.handler; mark = outermost opened.mark slot }
 
--- Closes all handlers of a context, from the outermost one on.
+-- Closes all exception handlers that are open inside a loop or function, from the outermost one on.
 abbrev pub handlers_code : Option ℕ → List Instruction
 handlers_code None = []
 handlers_code (Some first) = instructions.Leave first ∷ []
 
--- Closes all lexical regions of a context, until as many are open as before the outermost one.
+-- Closes all lexical regions that are open inside a loop or function, until as many are open as before the outermost one.
 abbrev pub marks_code : Option ℕ → List Instruction
 marks_code None = []
 marks_code (Some m) = closed_code m
@@ -300,7 +303,7 @@ restored_code_in (Some place) t = closed_code (t + RECORD_WORDS)
 abbrev pub restored_code : Starts → (t : ℕ) → List Instruction
 restored_code starts t = restored_code_in starts.scopes t
 
--- The number of an exception as a word; in every text it is less than 2 ^ 32.
+-- The index of an exception as a machine word; in every program text it is less than 2 ^ 32.
 abbrev pub tag_operand : (tag : ℕ) → Operand
 tag_operand tag = operands.Word (tag % 2 ^ 32)
 
@@ -322,7 +325,7 @@ handled_code starts body clauses p t =
     ++ clauses (p + 1 + length (body (p + 1) ++ instructions.Leave t ∷ []) + 1 + length (restored_code starts t)) (p + 1 + length (body (p + 1) ++ instructions.Leave t ∷ [])))
     p
 
--- The jump over a `catch` clause, which is taken if the exception in slot t has a number other than `tag`.
+-- The jump over a `catch` clause, which is taken if the exception in slot t has an index other than `tag`.
 abbrev pub other_jump : (tag t target : ℕ) → Instruction
 other_jump tag t target = instructions.Branch comparisons.NotEqual (operands.Slot t) (tag_operand tag) target
 
@@ -330,27 +333,28 @@ other_jump tag t target = instructions.Branch comparisons.NotEqual (operands.Slo
 abbrev pub clause_code : (tag t : ℕ) → (items : List Instruction) → (p out : ℕ) → List Instruction
 clause_code tag t items p out = other_jump tag t (p + 1 + length items + 1) ∷ items ++ instructions.Jump out ∷ []
 
--- Throws an exception again that no clause catches.
+-- The instruction that throws an exception again if no `catch` clause of the `try` catches it.
 abbrev pub goes_on : (t : ℕ) → Instruction
 goes_on t = instructions.Throw (operands.Slot t) (operands.Slot (t + 1))
 
--- The exits from a statement, for statements that leave a loop or the function. This definition gives the exits outside any loop.
+-- The exits from a statement: the code positions to which `continue` and `break` go, and what leaving a loop or the function
+-- closes. This definition gives the exits outside any loop.
 abbrev pub outside_loops : Exits
 outside_loops = record { head = 0; leaving = 0; in_loop = nothing_opened; in_function = nothing_opened }
 
--- The exits inside a loop that begins at position `head` and whose jump to the end is at position `leaving`.
+-- The targets of `continue` and `break` inside a loop that begins at position `head` and whose jump to the end is at position `leaving`.
 abbrev pub inside_loop : (head leaving : ℕ) → Exits → Exits
 inside_loop head leaving exits = record { head = head; leaving = leaving; in_loop = nothing_opened; in_function = exits.in_function }
 
--- The exits inside the body of a `try` whose handler record begins with this slot; below it, the exits after a region whose saved
--- region count is in this slot.
+-- The exits inside the body of a `try` whose handler record begins with this slot. The next definition gives the exits after a
+-- region whose saved region count is in this slot.
 abbrev pub inside_try : Exits → (slot : ℕ) → Exits
 inside_try exits slot = record { head = exits.head; leaving = exits.leaving; in_loop = with_handler exits.in_loop slot; in_function = with_handler exits.in_function slot }
 
 abbrev pub inside_region : Exits → (slot : ℕ) → Exits
 inside_region exits slot = record { head = exits.head; leaving = exits.leaving; in_loop = with_mark exits.in_loop slot; in_function = with_mark exits.in_function slot }
 
--- The slot of an array counter, as an operand.
+-- The slot of the loop counter that fills an array, as an operand.
 abbrev pub counter_operand : Option ℕ → Option Operand
 counter_operand (Some slot) = Some (operands.Slot slot)
 counter_operand None = None

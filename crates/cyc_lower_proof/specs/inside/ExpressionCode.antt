@@ -18,12 +18,12 @@ use Rattle.cyc_lower_proof.specs.inside.ValueCode.{keeps_words, converts_there, 
 use Rattle.cyc_lower_proof.specs.inside.ObjectCode.{stored_by, object_code, array_code, free_code}
 use Rattle.cyc_lower_proof.specs.inside.ControlCode.{closing_code, counter_operand}
 
--- The definitions depend on the first slots of the locals and on the structs of the program.
+-- The definitions of the code of expressions depend on the first slots of the locals and on the structs of the program.
 module _ (starts : Starts) where
   -- ---- operands for values
 
-  -- The operand of an expression that needs no code: a number, null, the heap's handle, a local, or an array counter. The conversion of a
-  -- char to an int keeps the operand.
+  -- The operand of an expression that needs no code: a number, null, the heap's handle, a local, or the loop counter of an array. The
+  -- conversion of a char to an int keeps the operand.
   abbrev pub operand_of : Expression → Option Operand
   operand_of (Number n) = Some (operands.Word n)
   operand_of NullPointer = Some (operands.Word 0)
@@ -51,13 +51,14 @@ module _ (starts : Starts) where
   left_of a (ThenCompute o b os) = left_with (is_simple b) (operand_of a)
   left_of a os = None
 
-  -- The slot that receives the value of an operand expression; the value of an assignment to a local is already in the local's slot.
+  -- The slot that receives the value of an expression that is used as an operand; the value of an assignment to a local is already
+  -- in the local's slot.
   abbrev pub value_slot : Expression → (t : ℕ) → ℕ
   value_slot (Assign (Local w n) c ty) t = slot_of starts n
   value_slot (Unary unary.Widen a) t = value_slot a t
   value_slot a t = t
 
-  -- The slot that receives the value of a left operand; `simple` tells if the right operand is simple.
+  -- The slot that receives the value of a left operand; `simple` tells if the evaluation of the right operand has no effect.
   abbrev pub slot_with : (simple : Bool) → Expression → (t : ℕ) → ℕ
   slot_with true a t = value_slot a t
   slot_with false a t = t
@@ -87,8 +88,8 @@ module _ (starts : Starts) where
   printed_operand NoArguments o t = o
   printed_operand (MoreArguments c cs) o t = printed_operand cs (converted_operand c t) t
 
-  -- The operand of a fat pointer while its index is computed. The fat pointer stays in its local if the index is simple, because then no
-  -- code assigns the local before the pointer is used.
+  -- The operand of a fat pointer while its index is computed. The fat pointer stays in its local if the index has no effect, because
+  -- then no code assigns the local before the pointer is used.
   abbrev pub pointer_of : (a i : Expression) → Option Operand
   pointer_of a i = left_with (is_simple i) (operand_of a)
 
@@ -107,7 +108,7 @@ module _ (starts : Starts) where
 
   -- ---- expressions
 
-  -- loads the value of a variable with this many words
+  -- loads the value of a variable that occupies this many machine words
   abbrev pub load_code : (words : ℕ) → Lvalue → (d : ℕ) → List Instruction
   load_code words (Local p n) d = move_of words d (operands.Slot (slot_of starts n)) ∷ []
   load_code words (Global n) d = word_by_word load_word words (global_of starts n) d
@@ -173,7 +174,7 @@ abbrev mutual
       (code_unless (operand_of starts i) (expression_code starts i (p + length (code_unless_slot (pointer_of starts a i) (expression_code starts a p t t))) (value_slot starts i (t + 3)) (t + 3)))
       (span_in ty) (pointer_slot starts a i t) (value_operand starts i (t + 3)) t p
 
-  -- Allocates a new object in the region of a handle. The elements of an array have a counter.
+  -- Allocates a new object in the region of a handle. The elements of an array have a loop counter.
   pub made_code : (starts : Starts) → Initial → (handle : Operand) → (p d t : ℕ) → List Instruction
   made_code starts (Plain kind a) handle p d t = expression_code starts a p t t ++ object_code handle (kind ∷ []) d t
   made_code starts (Fields cs) handle p d t = arguments_code starts cs p t ++ object_code handle (kinds_passed cs) d t
@@ -214,7 +215,7 @@ abbrev mutual
       from to (span_of a) (converted_operand starts (Convert from to a) t) p d
 
   -- The code of the operators of a chain, with the left operand l. The left operand is in slot t if an operator is a
-  -- test, or if the right operand is not simple.
+  -- test, or if the evaluation of the right operand may have an effect.
   pub operations_code : (starts : Starts) → Operations → (p : ℕ) → (l : Operand) → (d t : ℕ) → List Instruction
   operations_code starts NoOperations p l d t = []
   operations_code starts (ThenCompute o b os) p l d t =

@@ -1,5 +1,5 @@
 -- This file defines the typed trees that can be lowered. A tree that can be lowered is well-typed, and its constants and exception
--- numbers are 32-bit words. Each new struct has a field and fits into a block, and pointer arithmetic forms separate chains. The typed
+-- indices are 32-bit words. Each new struct has a field and fits into a block, and pointer arithmetic forms separate chains. The typed
 -- tree of a text satisfies these requirements.
 use Rattle.std.specs.Prelude.{◌≡◌, ◌≤◌, Bool, true, if◌then◌else◌}
 use Rattle.cyc_words.specs.Word.{IsWord}
@@ -16,7 +16,7 @@ use Rattle.cyc_lower_proof.specs.inside.ValueCode.{are_as_wide, all_passed}
 abbrev pub is_pointer : Kind → Bool
 is_pointer kind = if is_thin kind then true else is_kind kind kinds.Fat
 
--- Holds if a conversion keeps the number of words, or converts between thin and fat pointers.
+-- Holds if a conversion keeps the number of machine words of a value, or converts between thin and fat pointers.
 abbrev pub is_converted : (from to : Kind) → Bool
 is_converted from to = if are_as_wide from to then true else is_pointer to
 

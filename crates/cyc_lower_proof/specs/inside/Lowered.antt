@@ -24,8 +24,8 @@ use Rattle.cyc_plain.specs.inside.Memory.{IsBelow, slots_end}
 -- ---- the behavior of the plain program
 
 -- Each run of the plain program follows a run of the source with these limits and this input, if no run of the source fails. The plain run
--- begins with the given store, and the slots of `main` are at address `base`. The plain steps that match one source step visit each code
--- position at most once.
+-- begins with the given heap store, and the slots of `main` are at address `base`. The plain steps that match one source step visit each
+-- code position at most once.
 abbrev pub FollowsSource : Program → PlainProgram → (pages calls base : ℕ) → StoreState → (input : List ℕ) → Type 0
 FollowsSource source lowered pages calls base store input =
     NeverFails (source_machine source pages calls) (start source input)
@@ -56,8 +56,8 @@ pub record IsLowered (source : Program) (lowered : PlainProgram) : Type 0 where
   pub follows : (pages calls base : ℕ) (store : StoreState) (input : List ℕ) → IsNew pages store → 1 ≤ pages → pages ≤ MOST_PAGES → 1 ≤ calls → AllByRecursion (λ b. b < 256) input
       → IsBelow lowered lowered.main base slots_end → FollowsSource source lowered pages calls base store input
 
--- The requirements of lowering on a well-typed tree. The tree of a text satisfies these requirements. Its numbers are 32-bit words, and
--- its globals have at most as many words as the text has tokens.
+-- The requirements of lowering on a well-typed tree. The typed tree of a program text satisfies these requirements. The numbers in the
+-- tree are 32-bit words. The globals of the tree have at most as many machine words as the text has tokens.
 pub record CanBeLowered (source : Program) : Type 0 where
   pub of_words : IsOfWordsProgram source
   pub few_globals : words_of_all (global_types source.globals) ≤ MOST_GLOBALS

@@ -1,6 +1,6 @@
 -- This file defines the plain program as a function of the typed program. Code has absolute positions, so the code of a construct is
 -- emitted for a position p. The last instruction of an expression's code moves the value to slot d, so d may be the slot of a local that
--- the expression reads. All other writes go to the slots from t on. Numbers and locals are used as operands directly.
+-- the expression reads. All other writes go to the slots from t on. Numbers and locals are used as operands without code that moves them.
 --
 -- A value occupies as many consecutive slots as its kind has words, and a global occupies as many consecutive words.
 use Rattle.std.specs.Prelude.{◌≡◌, ◌<◌, ◌≤◌, ℕ, zero, suc, ◌+◌, Bool, false, List, [], ◌∷◌, ◌++◌, length, map, replicate, ◌-◌, Option, None, Some, true, ◌||◌, ◌&&◌, is_some, if◌then◌else◌, max, take, not}
@@ -36,7 +36,7 @@ use Rattle.cyc_lower_proof.specs.inside.ControlCode.{after_record, kept_code, ta
 use Rattle.cyc_lower_proof.specs.inside.ExpressionCode.{operand_of, value_slot, slot_with, value_operand, source_of, converted_operand, printed_operand, place_operand, place_offset, load_code, expression_code, place_code, converted_operand_code, printed_code, initial_code, brought_code, is_simple}
 
 module _ (starts : Starts) where
-  -- The code of an assignment; below it, the operand that holds the assigned value afterwards.
+  -- The code of an assignment. The next definition is the operand that holds the assigned value afterwards.
   abbrev pub assignment_code : Lvalue → Converted → (p t : ℕ) → List Instruction
   assignment_code (Local w n) c p t = initial_code starts c p (slot_of starts n) t
   assignment_code (Global n) c p t = converted_operand_code starts c p t ++ global_code (passed_words c) (global_of starts n) (converted_operand starts c t)
@@ -45,7 +45,7 @@ module _ (starts : Starts) where
   assigned_operand (Local w n) c t = operands.Slot (slot_of starts n)
   assigned_operand (Global n) c t = converted_operand starts c t
 
-  -- Moves the address of a cell to slot t, where it waits until the right side of the assignment is evaluated.
+  -- Moves the address of a cell to slot t, where it waits until the right operand of the assignment is evaluated.
   abbrev pub store_address_code : Dereference → (p t : ℕ) → List Instruction
   store_address_code x p t = addressed_by (place_code starts x p t) (place_operand starts x t) (place_offset starts x) t
 
@@ -64,7 +64,7 @@ module _ (starts : Starts) where
 
   -- ---- statements
 
-  -- The first of two compared operands. The first operand is used without code only if the second operand is simple.
+  -- The first of two compared operands. The first operand is used without code only if the evaluation of the second operand has no effect.
   abbrev pub first_operand : (a b : Expression) → (t : ℕ) → Operand
   first_operand a b t = operand_or (left_with (is_simple starts b) (operand_of starts a)) (slot_with starts (is_simple starts b) a t)
 
@@ -112,8 +112,8 @@ module _ (starts : Starts) where
 
   -- A condition that is a chain of tests by one operator: only the last operand is left to the final jump. If an earlier operand
   -- decides, then control continues after the final jump. The length of the code does not depend on the position after the final jump,
-  -- so the code is first emitted for an arbitrary position. A negated condition uses tests by the other operator, since an operand that
-  -- decides the tests decides the negated condition too.
+  -- so the code is first emitted for an arbitrary position. A negated condition uses tests by the opposite logical operator, since an
+  -- operand that decides the tests decides the negated condition too.
   abbrev pub after_tests : LogicalOperator → Expression → Operations → (p t : ℕ) → ℕ
   after_tests u a os p t = p + length (tests_code u a os 0 p t) + 1
 
@@ -128,9 +128,9 @@ module _ (starts : Starts) where
   choice_of u (Binary a os ty) t = if are_tests u os then last_condition os (condition_of a t) t else condition_of (Binary a os ty) t
   choice_of u a t = condition_of a t
 
-  -- The condition of a branch. Each deciding test by the operator u jumps to the position `other` of the other statement. The last test
-  -- jumps to `other` by the jump after the code. The deciding tests are failing tests by `&&` or, if the condition is negated, tests by
-  -- `||` that hold.
+  -- The condition of a branch. Each deciding test by the operator u jumps to the position `other` of the statement after `else`. The
+  -- last test jumps to `other` by the jump after the code. The deciding tests are failing tests by `&&` or, if the condition is
+  -- negated, tests by `||` that hold.
   abbrev pub branch_code : LogicalOperator → Expression → (other p t : ℕ) → List Instruction
   branch_code u (Unary unary.Not a) other p t = branch_code (turned_test u) a other p t
   branch_code u (Binary a os ty) other p t =
@@ -143,7 +143,8 @@ module _ (starts : Starts) where
       if are_tests u os then last_condition os (condition_of a t) t else choice_of (turned_test u) (Binary a os ty) t
   branch_of u a t = choice_of (turned_test u) a t
 
-  -- Tells if an expression is light, that is, has little code: it is simple, or it loads through a pointer without code at a simple index.
+  -- Tells if an expression is light, that is, has little code. It has no effects, or it loads through a pointer without code at an index
+  -- without effects.
   abbrev pub is_light_place : Dereference → Bool
   is_light_place (Element a i ty) = is_some (operand_of starts a) && is_simple starts i
   is_light_place x = false
@@ -181,23 +182,23 @@ module _ (starts : Starts) where
       ++ instructions.Finish (slot_or (source_of starts (Convert from to a)) t)
       ∷ []
 
-  -- Moves the address of one side of a swap to slot t, if this side is a cell. A side that is a variable needs no code.
+  -- Moves the address of one operand of a swap to slot t, if this operand is a cell. An operand that is a variable needs no code.
   abbrev pub side_code : Side → (p t : ℕ) → List Instruction
   side_code (VariableSide l ty) p t = []
   side_code (CellSide x) p t = store_address_code x p t
 
-  -- Moves the words of one side of a swap, of this kind, to slot d and the following slots.
+  -- Moves the words of one operand of a swap, of this kind, to slot d and the following slots.
   abbrev pub read_side : Side → Kind → (address d : ℕ) → List Instruction
   read_side (VariableSide l ty) kind s d = load_code starts (words_of_kind kind) l d
   read_side (CellSide x) kind s d = word_by_word (load_at kind s) (words_of_kind kind) 0 d
 
-  -- Moves the words in slot v and the following slots to one side of a swap.
+  -- Moves the words in slot v and the following slots to one operand of a swap.
   abbrev pub write_side : Side → Kind → (address v : ℕ) → List Instruction
   write_side (VariableSide (Local w n) ty) kind s v = move_of (words_of_kind kind) (slot_of starts n) (operands.Slot v) ∷ []
   write_side (VariableSide (Global n) ty) kind s v = global_code (words_of_kind kind) (global_of starts n) (operands.Slot v)
   write_side (CellSide x) kind s v = stores_code kind (words_of_kind kind) s 0 v
 
-  -- Reads both sides of a swap, the left side first, and then writes both.
+  -- Reads both operands of a swap, the left operand first, and then writes both operands.
   abbrev pub exchange_code : Kind → (left right : Side) → (t : ℕ) → List Instruction
   exchange_code kind a b t =
       read_side a kind t (t + 2)
@@ -227,7 +228,7 @@ module _ (starts : Starts) where
   caught_code None t = []
   caught_code (Some n) t = instructions.Move (slot_of starts n) (operands.Slot (t + 1)) ∷ []
 
-  -- The code of a statement at position p, with the exits of the statement and the first slot for temporaries.
+  -- The code of a statement at position p, given the targets of `break` and `continue` and the first slot for temporaries.
   abbrev mutual
     pub statement_code : Statement → (p : ℕ) → Exits → (t : ℕ) → List Instruction
     statement_code (Block r js) p exits t = items_code js p exits t
@@ -265,7 +266,7 @@ module _ (starts : Starts) where
     items_code (MoreItems (DeclareAlias r n ty w s) js) p exits t = named_code starts (words_of ty) n (operands.Slot (slot_of starts s)) ++ items_code js (p + 1) exits t
     items_code (MoreItems (DeclareKey r n) js) p exits t = dynamic_code starts n t ++ items_code js (p + length (dynamic_code starts n t)) exits t
 
-    -- The code of the clauses of a `try`; the number and the int of the exception are in the slots from t on.
+    -- The code of the clauses of a `try`; the index and the int of the exception are in the slots from t on.
     pub clauses_code : Clauses → (p out : ℕ) → Exits → (t : ℕ) → List Instruction
     clauses_code NoClauses p out exits t = goes_on t ∷ []
     clauses_code (Default r js) p out exits t = items_code js p exits t
@@ -277,7 +278,7 @@ module _ (starts : Starts) where
 
 -- ---- programs
 
--- The parameters of the code of a function. The parameters are the structs of the program, the first words of its globals, and the
+-- The parameters of the code of a function. The parameters are the structs, the indices of the first words of the globals, and the
 -- position after which the blocks that raise exceptions begin. If a `try` saves the number of open lexical regions, then the offset of
 -- this number is a parameter too.
 abbrev pub starts_with : (raises : ℕ) → List StructType → (globals : List ℕ) → (scopes : Option ℕ) → Function → Starts
@@ -307,13 +308,14 @@ abbrev pub farthest : List Instruction → ℕ
 farthest [] = 0
 farthest (i ∷ is) = max (target_of i) (farthest is)
 
--- Adjusts an instruction: a jump to a position past `far` becomes a jump equally far past `near`.
+-- Adjusts the target of a jump: a jump to a position past `far` becomes a jump equally far past `near`.
 abbrev pub turned : (far near : ℕ) → Instruction → Instruction
 turned far near (instructions.Jump target) = instructions.Jump (target - far + near)
 turned far near (instructions.Branch comparison left right target) = instructions.Branch comparison left right (target - far + near)
 turned far near i = i
 
--- Says that the instruction j is the adjusted instruction i, or is equal to i if i does not jump past `far`.
+-- Says that the instruction j is the adjusted instruction i: a jump target past `far` is moved equally far
+-- past `near`, and any other instruction is unchanged.
 abbrev pub IsTurned : (far near : ℕ) → (i j : Instruction) → Type 0
 IsTurned far near i j = (far < target_of i → j ≡ turned far near i) × (target_of i ≤ far → j ≡ i)
 
@@ -327,7 +329,8 @@ AreTurned far near (i ∷ old) (j ∷ new) = IsTurned far near i j × AreTurned 
 abbrev pub with_blocks : (body : List Instruction) → (slot count : ℕ) → List Instruction
 with_blocks body slot count = body ++ instructions.Finish slot ∷ take count (blocks slot)
 
--- The number of exception blocks that are kept: up to the last block that is a jump target; the first two blocks form one unit.
+-- The number of instructions of the exception blocks that are kept: up to the last block that is a jump target; the first two
+-- instructions form one unit.
 abbrev pub blocks_kept : (farthest : ℕ) → ℕ
 blocks_kept (suc zero) = 2
 blocks_kept n = n
@@ -339,7 +342,7 @@ abbrev pub function_code : List StructType → (globals : List ℕ) → (scopes 
 function_code structs globals scopes h =
     finished_code (body_code (starts_with (raises_of structs globals scopes h) structs globals scopes h) h) (raises_of structs globals scopes h) (tag_slot h)
 
--- The number of words that a function with this result type returns.
+-- The number of machine words that a function with this result type returns.
 abbrev pub results_of : Option Ty → ℕ
 results_of None = 0
 results_of (Some t) = words_of t
@@ -347,11 +350,12 @@ results_of (Some t) = words_of t
 abbrev pub span_of_place : Place → Span
 span_of_place p = record { line = p.line; column = p.column }
 
--- The number of words of the largest value, which is a fat pointer.
+-- The number of machine words of the largest value, which is a fat pointer.
 abbrev pub spare_slots : ℕ
 spare_slots = 3
 
--- The slots of a function: its locals, the tag slot, the records of its handlers, its temporaries, and the slots of one more value.
+-- The slots of a function: its locals, the slot for an exception's tag, the records of its handlers, its temporaries, and the slots
+-- of one more value.
 abbrev pub lower_function : List StructType → (globals : List ℕ) → (scopes : Option ℕ) → Function → Routine
 lower_function structs globals scopes h = record {
   name = span_of_place h.place;
@@ -367,7 +371,7 @@ abbrev pub initial_word : Constant → ℕ
 initial_word (Word n) = n
 initial_word Null = 0
 
--- The words of a global: its number or null, followed by zeros. The words of all globals are consecutive.
+-- The words of a global: its int or null, followed by zeros. The words of all globals are consecutive.
 abbrev pub lower_global : GlobalVariable → List ℕ
 lower_global g = initial_word g.value ∷ replicate (words_of g.of_type - 1) 0
 
@@ -395,7 +399,7 @@ scopes_if false = None
 abbrev pub scopes_of : Program → Option ℕ
 scopes_of p = scopes_if (list_any may_open p.functions)
 
--- The plain program of a source program; each function keeps its number.
+-- The plain program of a source program; each function keeps its index.
 abbrev pub lower_program : Program → PlainProgram
 lower_program p = record {
   functions = map (lower_function p.structs (globals_of p) (scopes_of p)) p.functions;

@@ -1,4 +1,4 @@
--- This file defines the code that allocates objects and arrays, frees them, and swaps their contents.
+-- This file defines the code that allocates objects and arrays, frees them, and swaps the values stored in them.
 use Rattle.std.specs.Prelude.{ℕ, zero, suc, ◌+◌, max, ◌==◌, if◌then◌else◌, List, [], ◌∷◌, ◌++◌, length, ◌*◌}
 use Rattle.cyc_types.specs.declared.typed.Kind.{Kind}
 use Rattle.cyc_types.specs.declared.typed.Kind.TheVariants as kinds
@@ -69,7 +69,7 @@ measured_code starts kind x y t =
     ∷ instructions.Move y (operands.Word 0)
     ∷ []
 
--- Replaces a number of elements in slot t by the number of words that these elements take. A word of the block contains four chars.
+-- Replaces a number of elements in slot t by the number of machine words that these elements take. A word of the block contains four chars.
 abbrev pub sized_code : Kind → (t : ℕ) → List Instruction
 sized_code kinds.Char t =
     instructions.Binary plain_binary.Add t (operands.Slot t) (operands.Word 3)
@@ -140,7 +140,7 @@ free_code o p = jump_if_zero o (p + 2) ∷ instructions.Ask (requests.Free o) �
 abbrev pub load_at : Kind → (address : ℕ) → (index slot : ℕ) → Instruction
 load_at kind address index slot = load_of kind slot (operands.Slot address) (4 * index)
 
--- The slot for the address of a swap's right side, after the slot for the address of the left side.
+-- The slot for the address of a swap's right operand, after the slot for the address of the left operand.
 abbrev pub right_slot : (left : Side) → (t : ℕ) → ℕ
 right_slot (VariableSide l ty) t = t
 right_slot (CellSide x) t = t + 1

@@ -39,7 +39,7 @@ slot_types h = h.parameters ++ h.locals
 abbrev pub tag_slot : Function → ℕ
 tag_slot h = words_of_all (slot_types h)
 
--- the first slot for temporaries, after the tag slot
+-- the first slot for temporaries, after the slot that holds an exception's tag
 abbrev pub first_temporary : Function → ℕ
 first_temporary h = tag_slot h + 1
 
@@ -110,7 +110,7 @@ failing_comparison o = None
 
 -- ---- operands
 
--- The operand of a value: the known operand, or the slot to which the code moves the value.
+-- The operand of a value: the operand that needs no code, or the slot to which the code moves the value.
 abbrev pub operand_or : Option Operand → (slot : ℕ) → Operand
 operand_or (Some o) slot = o
 operand_or None slot = operands.Slot slot
@@ -119,7 +119,7 @@ abbrev pub code_unless : Option Operand → List Instruction → List Instructio
 code_unless (Some o) code = []
 code_unless None code = code
 
--- The slot of a value: the slot of the known operand, or else the slot `slot`.
+-- The slot of a value: the slot of the operand that needs no code, or else the slot `slot`.
 abbrev pub slot_or : Option Operand → (slot : ℕ) → ℕ
 slot_or (Some (operands.Slot n)) slot = n
 slot_or o slot = slot
@@ -128,12 +128,12 @@ abbrev pub code_unless_slot : Option Operand → List Instruction → List Instr
 code_unless_slot (Some (operands.Slot n)) code = []
 code_unless_slot o code = code
 
--- A left operand is used without code only if the right operand is simple, so that no code can assign the left operand before it is used.
+-- A left operand is used without code only if the right operand has no effect, so that no code assigns the left operand before its use.
 abbrev pub left_with : (simple : Bool) → (left : Option Operand) → Option Operand
 left_with true left = left
 left_with false left = None
 
--- The slot for the result of all operators before the list `os`; it is the destination if the list is empty.
+-- The slot for the result of the operators that come before the list `os` in a chain; it is the destination if the list is empty.
 abbrev pub next_slot : Operations → (d t : ℕ) → ℕ
 next_slot NoOperations d t = d
 next_slot os d t = t
@@ -145,7 +145,7 @@ is_in (operands.Word n) d = false
 
 -- ---- instructions
 
--- The jump that is taken if a word is 0; below it, the jump that is taken if the word is not 0.
+-- The jump that is taken if a word is 0. The next definition is the jump that is taken if the word is not 0.
 abbrev pub jump_if_zero : Operand → (target : ℕ) → Instruction
 jump_if_zero o target = instructions.Branch comparisons.Equal o (operands.Word 0) target
 
@@ -156,13 +156,13 @@ jump_if_nonzero o target = instructions.Branch comparisons.NotEqual o (operands.
 abbrev pub raising : (tag : ℕ) → Instruction
 raising tag = instructions.Throw (operands.Word tag) (operands.Word 0)
 
--- The code that raises the exception of a failed access through a fat pointer. The tag slot contains 0 if the pointer is null, and 1
--- otherwise, which selects the number of the exception.
+-- The code that raises the exception of a failed access through a fat pointer. The slot `slot` contains 0 if the pointer is null,
+-- and 1 otherwise, which selects the index of the exception.
 abbrev pub telling : (slot : ℕ) → List Instruction
 telling slot = instructions.Binary plain_binary.Add slot (operands.Slot slot) (operands.Word null_exception) ∷ instructions.Throw (operands.Slot slot) (operands.Word 0) ∷ []
 
--- The exception blocks after a function's body. First comes the code for a failed access through a fat pointer, and then one raising
--- instruction for each built-in exception, in the order of their numbers.
+-- The exception blocks after a function's body. First comes the code for a failed access through a fat pointer. One raising
+-- instruction for each built-in exception follows, in the order of the exceptions' indices.
 abbrev pub blocks : (slot : ℕ) → List Instruction
 blocks slot = telling slot ++ (raising null_exception ∷ raising array_bounds ∷ raising array_size ∷ raising division_by_zero ∷ [])
 
@@ -174,12 +174,13 @@ guard_code starts tag failing l r = instructions.Branch failing l r (starts.rais
 abbrev pub check_code : Starts → (tag : ℕ) → Operand → List Instruction
 check_code starts tag o = guard_code starts tag comparisons.Equal o (operands.Word 0)
 
--- Moves a value of this many words to a slot and the following slots. A number has one word; a value with more words is always in slots.
+-- Moves a value of this many machine words to a slot and the following slots. A constant has one word; a value with more words is always
+-- in slots.
 abbrev pub move_of : (words d : ℕ) → Operand → Instruction
 move_of words d (operands.Slot n) = if words == 1 then instructions.Move d (operands.Slot n) else instructions.MoveWords d n words
 move_of words d (operands.Word n) = instructions.Move d (operands.Word n)
 
--- Checks that a value is not null if its new kind does not allow null.
+-- Checks that a value is not null if the kind to which it is converted does not allow null.
 abbrev pub tested_code : Starts → (to : Kind) → Operand → List Instruction
 tested_code starts kinds.NonNull o = check_code starts null_exception o
 tested_code starts to o = []
@@ -198,7 +199,7 @@ scale_of bytes d m =
     else instructions.Binary plain_binary.Multiply d (operands.Slot m) (operands.Word 12)
 
 -- Computes into slot t the address of the cell at an index. The address of the first cell is in slot n, the index in slot m, and each cell
--- has `span` bytes. For a struct the index is 0, since the source has no fault.
+-- has `span` bytes. For a struct the index is 0, because no source run has a fault.
 abbrev pub stepped_code : (span : Option ℕ) → (n m t : ℕ) → List Instruction
 stepped_code None n m t = []
 stepped_code (Some bytes) n m t =
@@ -211,7 +212,7 @@ stepped_code (Some bytes) n m t =
 abbrev pub bounded_code : Starts → (span : Option ℕ) → (n m t : ℕ) → List Instruction
 bounded_code starts span n m t = bounds_code starts (operands.Slot m) (operands.Slot (n + 1)) ++ stepped_code span n m t
 
--- Multiplies the index in slot m by the bytes of a cell, into slot x; below it, the sum of slot x and the address of the first cell.
+-- Multiplies the index in slot m by the bytes of a cell, into slot x. The next definition adds slot x to the address of the first cell.
 abbrev pub scaled_code : (span : Option ℕ) → (m x : ℕ) → List Instruction
 scaled_code None m x = []
 scaled_code (Some bytes) m x = scale_of bytes x m ∷ []
@@ -376,7 +377,7 @@ address_code o (suc bytes) d = instructions.Binary plain_binary.Add d o (operand
 abbrev pub addressed_by : (place : List Instruction) → Operand → (bytes d : ℕ) → List Instruction
 addressed_by place o bytes d = place ++ address_code o bytes d
 
--- One instruction for each of `words` words, given the word's index in the globals and its slot.
+-- One instruction for each of `words` words, given the word's index among the words of all globals and its slot.
 abbrev pub word_by_word : (each : (global slot : ℕ) → Instruction) → (words first slot : ℕ) → List Instruction
 word_by_word each zero first slot = []
 word_by_word each (suc words) first slot = each first slot ∷ word_by_word each words (suc first) (suc slot)
@@ -387,7 +388,7 @@ load_word global slot = instructions.LoadGlobal slot global
 abbrev pub store_word : (global slot : ℕ) → Instruction
 store_word global slot = instructions.StoreGlobal global (operands.Slot slot)
 
--- Stores a value of this many words in a global. A number has one word; a value with more words is always in slots.
+-- Stores a value of this many machine words in a global. A constant has one word; a value with more words is always in slots.
 abbrev pub global_code : (words first : ℕ) → Operand → List Instruction
 global_code words first (operands.Slot n) = word_by_word store_word words first n
 global_code words first (operands.Word n) = instructions.StoreGlobal first (operands.Word n) ∷ []
@@ -419,12 +420,12 @@ loaded_code kind o bytes d t =
 abbrev pub kind_after : Ty → Kind
 kind_after t = unwrap_or (target_of_value (Value t)) kinds.Int
 
--- The offset of a variable in its words: a char is the last byte of its word.
+-- The offset of a variable in its machine words, in bytes: a char is the last byte of its word.
 abbrev pub variable_bytes : Kind → ℕ
 variable_bytes kinds.Char = 3
 variable_bytes kind = 0
 
--- The address of the global of this kind whose first word has the number `first`.
+-- The address of the global of this kind whose first word has the index `first` among the words of all globals.
 abbrev pub address_of_global : Kind → (first : ℕ) → ℕ
 address_of_global kind first = add_of (add_of GLOBALS_BASE (mul_of (first % 2 ^ 32) 4)) (variable_bytes kind)
 
@@ -450,7 +451,7 @@ abbrev pub converts_there : (from to : Kind) → Bool
 converts_there from kinds.NonNull = false
 converts_there from to = are_as_wide from to
 
--- the number of words with which an argument is passed
+-- the number of machine words with which an argument is passed
 abbrev pub passed_words : Converted → ℕ
 passed_words (Convert from to a) = words_of_kind to
 

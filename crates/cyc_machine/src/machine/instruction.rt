@@ -163,7 +163,7 @@ impl<S: Store + Drop> Machine<S> {
     }
 
     /// Extends the stored memory to the word that a load accesses, if it is a word of the data range or the stack. Only the first load of
-    /// such a word is left to `step`.
+    /// a word of the data range or the stack is left to `step`.
     fn keep(&mut self, base: Register, offset: u16)
         ensures { self.new ≡ self.old }
     {

@@ -1,4 +1,4 @@
-//! The effects of the services that a `syscall` requests.
+//! The effects of the system calls that a `syscall` instruction requests.
 
 ghost use Rattle.std.specs.Prelude.{◌≡◌};
 ghost use Rattle.cyc_machine.specs.Held.{state_of};
@@ -17,7 +17,7 @@ use cyc_machine_model::{Cause, End, Event, Exchange, Phase};
 use cyc_store::{No, Store};
 
 impl<S: Store + Drop> Machine<S> {
-    /// Executes the service that a `syscall` requests.
+    /// Executes the system call that a `syscall` instruction requests.
     pub(super) fn service(&mut self) -> Event
         ensures { ActsOver S.GROWS (calls (asked self.old.core) (state_of S.held self.old)) (state_of S.held self.old) result (state_of S.held self.new) }
     {
@@ -47,7 +47,7 @@ impl<S: Store + Drop> Machine<S> {
         }
     }
 
-    /// Executes the service that a `syscall` requests, if the service prints or requests a byte.
+    /// Executes the system call that a `syscall` instruction requests, if this call prints or requests a byte.
     #[inline(always)]
     pub(super) fn byte_service(&mut self) -> Exchange
         ensures { ActsAs result (calls (asked self.old.core) (state_of S.held self.old)) (state_of S.held self.old) (state_of S.held self.new) }
@@ -75,7 +75,7 @@ impl<S: Store + Drop> Machine<S> {
         Event::Ran
     }
 
-    /// Writes the word that the heap returned to the result register, and advances to the next instruction.
+    /// Writes to the result register the word that the heap returned, and advances to the next instruction.
     fn give_word(&mut self, word: u32) -> Event
         ensures event { result ≡ Event.Ran }
         ensures state { state_of S.held self.new ≡ answered (state_of S.held self.old) (Allocated word) }
@@ -154,7 +154,7 @@ impl<S: Store + Drop> Machine<S> {
         }
     }
 
-    /// Frees a unique block.
+    /// Frees a block of the unique region.
     fn free(&mut self, address: u32) -> Event
         ensures { ActsOver S.GROWS (Calls (Asks (Free address))) (state_of S.held self.old) result (state_of S.held self.new) }
     {

@@ -1,5 +1,5 @@
--- Definitions for the laws of the step: the visible effects of a step, its changes to the world, and the parts that stay. The division of
--- effects is this project's own choice.
+-- Definitions for the laws of the step: its visible effects, its changes to the heap state, and the properties of regions and objects
+-- that stay. The division of effects is this project's own choice.
 use Rattle.std.specs.Prelude.{◌≡◌, ℕ, suc, ◌+◌, ◌%◌, Bool, true, false, if◌then◌else◌, List, [], ◌∷◌, ◌++◌, drop, Option, Some, slice_get}
 use Rattle.cyc_types.specs.declared.typed.Kind.{Kind}
 use Rattle.cyc_types.specs.declared.typed.Callee.TheVariants as callees
@@ -40,8 +40,8 @@ calls_after focus stack = calls_in stack
 
 -- ---- changes of the world
 
--- The effect of one step on the world: no change, or one of the changes listed. The bytes that the step prints and the number of bytes
--- that it reads are given.
+-- The effect of one step on the heap state: no change, or one of the changes listed. The bytes that the step prints and the number of
+-- bytes that it reads are given.
 pub data Changes (w : World) : (printed : List ℕ) → (count : ℕ) → World → Type 0 where
   Keeps : Changes w [] 0 w
   Opens : (sort : Sort) → Changes w [] 0 (opened_as sort w)
@@ -57,16 +57,16 @@ pub data Changes (w : World) : (printed : List ℕ) → (count : ℕ) → World 
 
 -- ---- demand
 
--- Returns the number of pages in use in total, and `pages_in` that of one region, which is 0 if the region has no pages.
+-- Returns the number of pages in use in total; `pages_in` returns that of one region, which is 0 if the region has no pages.
 abbrev pub pages_of : World → ℕ
 pages_of w = demand_of (counted w.regions) w.classes
 
 abbrev pub pages_in : Region → ℕ
 pages_in r = if has_pages r.sort r.is_open then region_pages r.blocks else 0
 
--- States the effect of a change on the demand for pages. A region that opens needs its first page if it has pages at all, and a region that
--- closes frees its pages. A block may need one more page in its region or in its size class; the pages of a size class never decrease. No
--- other step changes the demand for pages.
+-- States the effect of a change on the number of pages in use. A region that opens needs its first page if it has pages at all, and a
+-- region that closes frees its pages. A block may need one more page in its region or in its size class; the pages of a size class never
+-- decrease. No other step changes the number of pages in use.
 abbrev pub DemandChanges : {w new : World} {printed : List ℕ} {count : ℕ} → Changes w printed count new → Type 0
 DemandChanges {w} {new} (Opens sort) = pages_of new ≡ pages_of w + pages_in (new_region sort)
 DemandChanges {w} {new} (Closes number r found) = pages_of new + pages_in r ≡ pages_of w + pages_in (record r { is_open = false })
@@ -75,7 +75,7 @@ DemandChanges {w} {new} (MakesIn number r cells found) =
 DemandChanges {w} {new} (MakesUnique cells) = pages_of new + total w.classes ≡ pages_of w + total new.classes
 DemandChanges {w} {new} change = pages_of new ≡ pages_of w
 
--- The change of the world that a step makes, if the step does not end the run.
+-- The change of the heap state that a step makes, if the step does not end the run.
 abbrev pub ChangesIn : World → (printed : List ℕ) → (count : ℕ) → State → Type 0
 ChangesIn old printed count (Running focus stack e new) = Changes old printed count new
 ChangesIn old printed count (Ended ending output input) = Unit {0}

@@ -66,8 +66,8 @@ abbrev pub IsNested : List Entry → Environment → World → Type 0
 IsNested stack e w =
     AreOpen w.regions (ends_of stack) × AreBelow (length w.regions) (ends_of stack) × IsHome e.home stack × AreScopes w.regions (lexicals_of stack)
 
--- Returns true if the focus accesses a cell, an object or a region. An access reads or writes a variable or a cell, or compares
--- pointers. Allocating or freeing an object is also an access, and so is opening or closing a region by its key.
+-- Returns true if the next action accesses a cell, an object or a region. An access reads or writes a variable or a cell, or
+-- compares pointers. Allocating or freeing an object is also an access, and so is opening or closing a region by its key.
 abbrev pub is_access_of : Awaiting → Bool
 is_access_of (ApplyPointer peek pointers.EqualThin left) = true
 is_access_of (ApplyPointer peek pointers.NotEqualThin left) = true

@@ -109,7 +109,7 @@ ItemsDeclare items stack locals objects = (m : ℕ) × ItemsRise m items × AreL
 abbrev pub ClausesDeclare : Clauses → List Entry → Locals → List Object → Type 0
 ClausesDeclare clauses stack locals objects = (m : ℕ) × ClausesRise m clauses × AreLow m stack locals objects
 
--- The condition for declaring the local with a given number, after which the rest of its block follows.
+-- The condition under which the local with a given number may be declared, if the rest of its block follows.
 abbrev pub Names : (number : ℕ) → Items → List Entry → Locals → List Object → Type 0
 Names number items stack locals objects = ItemsRise (suc number) items × AreLow number stack locals objects × IsInBlock stack
 
@@ -165,13 +165,15 @@ AreGlobals globals objects = (object : ℕ) → object < globals → LivesIn obj
 abbrev pub LiveInRegions : List Object → List Region → Type 0
 LiveInRegions objects regions = (object region : ℕ) → LivesIn objects object region → region < length regions
 
--- The invariant of variable names, for the newest call with its locals and for the suspended calls.
+-- The invariant that each live variable is a global or a local of an active call, for the newest
+-- call with its locals and for the suspended calls.
 abbrev pub AreNamed : (globals : ℕ) → List Entry → Locals → List Object → List Region → Type 0
 AreNamed globals stack locals objects regions =
     DeclareLater stack locals objects × LiveInBlocks stack locals objects regions × WaitInBlocks stack objects regions
     × HaveNames globals (locals ∷ waiting stack) objects regions × AreDistinct (locals ∷ waiting stack) × AreGlobals globals objects × LiveInRegions objects regions
 
--- The invariant of every state of a run of a program with the given number of globals.
+-- The invariant of every state of a run of a program with the given number of globals: each live
+-- variable is a global or a local of an active call.
 abbrev pub HasNames : (globals : ℕ) → State → Type 0
 HasNames globals (Running focus stack e w) = DeclareNow focus stack e.locals w.objects × (AreNamed globals stack e.locals w.objects w.regions)
 HasNames globals (Ended ending output input) = Unit {0}

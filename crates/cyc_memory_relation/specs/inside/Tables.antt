@@ -1,6 +1,6 @@
 -- This file defines the tables of a run: a row for each object ever created, and an entry for each region ever opened, ordered by their
--- numbers. Existing rows and entries of the tables never change. A row does not state if its object is live. A store reuses addresses and
--- handles, so one address or handle may occur several times.
+-- indices. Existing rows and entries of the tables never change. A row does not state if its object is live. A heap store reuses
+-- addresses and handles, so one address or handle may occur several times.
 use Rattle.std.specs.Prelude.{◌≡◌, ℕ, List, [], ◌∷◌, ◌++◌, map, Option, Some, None, slice_get}
 use Rattle.cyc_types.specs.declared.typed.Kind.{Kind}
 use Rattle.cyc_types.specs.TypedTrees.{GlobalVariable, Program}
@@ -14,7 +14,7 @@ pub data Row : Type 0 where
 
 pub record Tables : Type 0 where
   pub rows : List Row
-  -- The handle of each region in the store; a region of variables has no handle.
+  -- The handle of each region in the heap store; a region of variables has no handle.
   pub handles : List (Option ℕ)
 
 abbrev pub with_row : Tables → Row → Tables
@@ -32,6 +32,6 @@ pub record Grows (t u : Tables) : Type 0 where
 abbrev pub first_tables : (globals : List Row) → Tables
 first_tables globals = record { rows = globals; handles = Some HEAP ∷ None ∷ [] }
 
--- The table rows of the globals if no global's address is taken.
+-- The rows of the globals in the table of objects if no global's address is taken.
 abbrev pub without_addresses : Program → List Row
 without_addresses program = map (λ (g : GlobalVariable). Variable) program.globals

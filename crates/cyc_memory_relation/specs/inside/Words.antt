@@ -1,6 +1,6 @@
--- This file defines the words of a value, and the bytes of a cell. Words are given by a function and a position, so slots, globals and the
--- store are treated alike. A cell of an object is at an address. The relation between words and values does not depend on the liveness of
--- a pointer's target. A pointer keeps its words when its region is closed or its object is freed.
+-- This file defines the machine words of a value, and the bytes of a cell. Words are given by a function and a first index, so slots,
+-- globals and the heap store are treated in the same way. A cell of an object is at an address. The relation between words and values does
+-- not depend on the liveness of a pointer's target. A pointer keeps its words when its region is closed or its object is freed.
 use Rattle.std.specs.Prelude.{◌≡◌, ◌⊎◌, ℕ, zero, suc, ◌+◌, ◌*◌, ◌%◌, ◌^◌, ◌<◌, ◌≤◌, List, [], ◌∷◌, length, Option, Some, None, slice_get}
 use Rattle.cyc_words.specs.Bytes.{byte_in, word_of}
 use Rattle.cyc_types.specs.declared.typed.Kind.{Kind}
@@ -66,9 +66,9 @@ pub record IsPartOf (t : Tables) (object start count word : ℕ) : Type 0 where
 
 -- ---- values
 
--- Says that the words from a position on represent a value of this kind. A fat pointer has three words: the address of its part, the
--- length, and the index; all other values have one word. For a fat null pointer the address and the length are 0, so no index is in
--- bounds, and the index is arbitrary. The word of a char is below 256.
+-- Says that the words from an index on represent a value of this kind. A fat pointer has three words: the address of the first cell
+-- that it can access, the length, and the index; all other values have one word. For a fat null pointer the address and the length
+-- are 0, so no index is in bounds, and the index is arbitrary. The word of a char is below 256.
 abbrev pub Is : Tables → Kind → Value → (words : ℕ → ℕ) → (place : ℕ) → Type 0
 Is t kinds.Int (Int word) words place = words place ≡ word
 Is t kinds.Char (Int word) words place = (words place ≡ word) × (word < 256)
@@ -100,7 +100,8 @@ abbrev pub IsContent : Tables → Kind → Option Value → Memory → (address 
 IsContent t kind None memory address = Unit {0}
 IsContent t kind (Some value) memory address = Holds t kind value memory address
 
--- Says that consecutive cells of an object at an address, laid out after `at` bytes, contain what the source says.
+-- Says that an object's consecutive cells at an address, laid out after `at` bytes, contain the values that the
+-- cells have in the source run.
 abbrev pub AreCells : Tables → List Cell → Memory → (address at : ℕ) → Type 0
 AreCells t [] memory address at = Unit {0}
 AreCells t (c ∷ cells) memory address at =

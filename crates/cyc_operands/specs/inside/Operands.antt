@@ -1,4 +1,4 @@
--- Operands, memory locations and new objects of the code, in the form that the typing rules use.
+-- The specification's form of the operands, memory locations and new objects that the code builds, as the typing rules use them.
 use Rattle.std.specs.Prelude.{◌≡◌, None, Result, Ok, Err}
 use Rattle.std.specs.declared.boxed.Box.{Box}
 use Rattle.std.specs.declared.alloc.Global.{Global}
@@ -43,14 +43,15 @@ found_of f = record { side = view.view_side f.side; region = f.region }
 abbrev pub view_found : Box FoundCode Global → Found
 view_found b = found_of b.value
 
--- Says that the code's new object represents the rule's, and that the rule's requirements are already checked.
+-- Says that a new object that the code builds represents the one that the typing rule builds, and that the
+-- rule's requirements are already checked.
 pub record IsMade (r : Box MadeCode Global) (m : Made) : Type 0 where
   pub asked : r.value.settled.known ≡ settled None m.asked
   pub initial : r.value.settled.known ≡ None → view.view_initial r.value.initial.value ≡ m.initial
   pub target : view_ty r.value.target ≡ m.target
   pub mark : r.value.mark ≡ m.mark
 
--- Says that the code's result represents the rule's result, unless memory ran out.
+-- Says that the code's result represents the typing rule's result, unless memory ran out.
 abbrev pub GivesOne : {X Y : Type 0} → (X → Y → Type 0) → Result X Stop → Checked Y → Type 0
 GivesOne meets (Ok x) (Ok y) = meets x y
 GivesOne meets (Ok x) (Err f) = ⊥

@@ -7,15 +7,15 @@ use Rattle.cyc_rawpages.specs.inside.Pool.{PoolState}
 abbrev pub filled_by : (fills : List ℕ) → (page : ℕ) → ℕ
 filled_by fills page = slice_index fills page - 1024 * page
 
--- Returns the number of live words of a page: its filled words if the page has the serial of its owner, so that its region is still
--- open. If the region of the page is closed, no word is live.
+-- Returns the number of live words of a page: its filled words if the page has the serial of its owner (its region's first page),
+-- so that its region is still open. If the region of the page is closed, no word is live.
 abbrev pub reach_by : (serial owner fill : ℕ → ℕ) → (page : ℕ) → ℕ
 reach_by serial owner fill page = if serial page == serial (owner page) then fill page else 0
 
 abbrev pub reach : PoolState → (page : ℕ) → ℕ
 reach p page = reach_by (λ (q : ℕ). slice_index p.serials q) (λ (q : ℕ). slice_index p.owners q) (λ (q : ℕ). filled_by p.fills q) page
 
--- Says that the pool has the fields of each page, and that each page's owner is a page.
+-- Says that the pool stores a value of each kind of data for each page, and that each page's owner is a page.
 pub record IsWhole (p : PoolState) : Type 0 where
   pub few : p.pages ≤ 65536
   pub fills : length p.fills ≡ p.pages
@@ -26,11 +26,12 @@ pub record IsWhole (p : PoolState) : Type 0 where
 abbrev pub AreNewer : PoolState → (next : ℕ) → Type 0
 AreNewer p next = (page : ℕ) → page < p.pages → slice_index p.serials page < next
 
--- Says that pages with equal serials have equal owners.
+-- Says that pages with equal serial numbers have equal owners (first pages of their regions).
 abbrev pub AreOne : PoolState → Type 0
 AreOne p = (page other : ℕ) → page < p.pages → other < p.pages → slice_index p.serials page ≡ slice_index p.serials other → slice_index p.owners page ≡ slice_index p.owners other
 
--- Says how renumbering changes a pool: the live words become the filled words, and each page's serial becomes its owner's number plus one.
+-- Says how renumbering changes a pool: the live words become the filled words, and each page's serial becomes the number of its owner (its
+-- region's first page) plus one.
 pub record Renumbers (old new : PoolState) : Type 0 where
   pub same : new ≡ record old { fills = new.fills; serials = new.serials }
   pub fills : (page : ℕ) → page < old.pages → filled_by new.fills page ≡ reach old page
@@ -38,8 +39,8 @@ pub record Renumbers (old new : PoolState) : Type 0 where
   pub fill_count : length new.fills ≡ length old.fills
   pub serial_count : length new.serials ≡ length old.serials
 
--- Says that a serial is greater than those of all pages. To get such a serial, all pages may have been
--- renumbered, which keeps the live words.
+-- Says that a serial is greater than those of all pages. To get a serial above those of all pages, all
+-- pages may have been renumbered, which keeps the live words.
 pub record Readies (old new : PoolState) (serial : ℕ) : Type 0 where
   pub same : new ≡ record old { fills = new.fills; serials = new.serials }
   pub fill_count : length new.fills ≡ length old.fills

@@ -1,4 +1,5 @@
--- The invariant of every store on a page table over a pool: a page table in memory with equal reads satisfies the invariant of stores.
+-- The invariant of every store on a page table over a pool: a page table in memory that gives the same results when read satisfies the
+-- invariant of stores.
 use Rattle.std.specs.Prelude.{◌≡◌, ℕ, ◌≤◌, List, length}
 use Rattle.std.specs.Global.{Vec}
 use Rattle.std.specs.Vec.{vec_capacity}
@@ -23,7 +24,8 @@ pub record IsStored (x : TableState) (lexicals : List ℕ) (classes : List Class
   pub whole : length x.rows ≡ x.most
   pub kept : IsKept table lexicals classes b
 
--- The invariant of a page store: its list has capacity for as many lexical regions as there are pages, and the pages in use are counted.
+-- The invariant of a page store: its list of lexical regions has capacity for as many regions as there are pages, and the pages in use
+-- are counted.
 pub record IsPagedStore (x : TableState) (lexicals : Vec ℕ) (classes : List ClassSlots) (b : Blocks) (counts : Counts) : Type 0 where
   pub room : x.most ≤ vec_capacity lexicals
   pub stored : IsStored x lexicals.items classes b

@@ -14,7 +14,7 @@ use Rattle.cyc_pagestore.specs.declared.table.Spot.{Spot}
 use Rattle.cyc_pagestore.specs.inside.Links.{Links, head_or_none, relinked, removed, first_of, added_rows, slots_of}
 use Rattle.cyc_pagestore.specs.inside.Live.{filled_by, reach_by, IsWhole}
 
--- The readable state of a page table: a row for each page, the first free page, and the words and marks of all pages.
+-- The readable state of a page table: a row for each page, the first free page, and all pages' words and marks of live words.
 pub record TableState : Type 0 where
   pub most : ℕ
   pub words : List ℕ
@@ -50,7 +50,7 @@ pub record IsFull (t : TableState) : Type 0 where
 abbrev pub IsIdlePast : TableState → (end : ℕ) → Type 0
 IsIdlePast t end = (page : ℕ) → page < t.most → (((row_of t page).role ≡ Rest) × ((row_of t page).filled ≡ 0)) ⊎ (1024 * page + 1024 ≤ end)
 
--- Says that a role is that of a region's first page.
+-- Says that the role of a page is that of a region's first page.
 abbrev pub IsRoot : Role → Type 0
 IsRoot role = (role ≡ Heap) ⊎ ((role ≡ Lexical) ⊎ (role ≡ Dynamic))
 

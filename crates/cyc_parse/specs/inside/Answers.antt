@@ -1,4 +1,4 @@
--- The parser's result for the tokens of a text: a tree, or a fault with its place.
+-- The parser's result for the tokens of a text: a tree, or a fault with its source position.
 use Rattle.std.specs.Prelude.{◌≡◌, ◌⊎◌, ℕ, List, [], ◌∷◌, map, Result, Ok, Err}
 use Rattle.cyc_words.specs.declared.fault.Fault.{Fault}
 use Rattle.cyc_words.specs.Fault.{memory_fault}
@@ -12,7 +12,7 @@ use Rattle.cyc_parse.specs.Faults.{Refusal, end_of, fault_of}
 use Rattle.cyc_parse.specs.inside.Parsing.{Parser, Unexpected, refuse, ◌>>=◌}
 use Rattle.cyc_parse.specs.inside.Declarations.{program_of}
 
--- Succeeds only if no symbol is left.
+-- Returns the given value if no symbol is left, and otherwise rejects the next symbol as unexpected.
 abbrev pub at_end : {A : Type 0} → A → Parser A
 at_end a [] = Ok (a, [])
 at_end a (t ∷ ts) = refuse Unexpected (t ∷ ts)

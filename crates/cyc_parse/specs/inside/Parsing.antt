@@ -107,7 +107,8 @@ named x p = record { name = x; place = p }
 abbrev pub only_place : {A : Type 0} → A → Place → Place
 only_place a p = p
 
--- Reads a given keyword (`word`) and returns its position; a sign's parser also returns a position, and a name's parser returns the name.
+-- Reads a given keyword (`word`) and returns its source position; the parser of a sign also returns a source position, and the parser of
+-- a name returns the name.
 abbrev pub word : ℕ → Keyword → Parser Place
 word room k = take room (is_word k) only_place
 

@@ -73,7 +73,7 @@ is_else _ = false
 
 -- ---- swaps
 
--- Returns true if the expression is an operand with its prefixes and postfixes; both sides of a swap must be such operands.
+-- Returns true if the expression is an operand with its prefixes and postfixes; both operands of a swap must be such expressions.
 abbrev pub is_unary : Expression → Bool
 is_unary (Binary e os) = false
 is_unary (Assign a b) = false
@@ -126,7 +126,7 @@ abbrev mutual
   is_variable (Binary e os) = false
   is_variable (Assign a b) = false
 
--- Parses the end of a swap after its right side: if `<` may begin region arguments there, the symbol after the `<` is unexpected.
+-- Parses the end of a swap after its right operand: if `<` may begin region arguments there, the symbol after the `<` is unexpected.
 abbrev pub end_of_swap : ℕ → Expression → Parser Place
 end_of_swap room e = if_sees signs.Semicolon (sign room signs.Semicolon)
     (λ ts. (if sees signs.Less ts && ends_in_new e then advance >> refuse Unexpected else refuse Unexpected) ts)
@@ -173,7 +173,8 @@ module _ (room : ℕ) (inner : Nested) where
   abbrev pub caught : Parser (Option Named)
   caught = if_sees signs.LeftParen (sign room signs.LeftParen >> identifier (inside room) >>= (λ v. sign (inside room) signs.RightParen >> pure (Some v))) (pure None)
 
-  -- Parses the clauses of a `catch`; the number argument bounds the clauses, and the number of symbols suffices for it.
+  -- Parses the clauses of a `catch`; the number argument bounds how many clauses are read, and the number of symbols
+  -- left is a sufficient bound.
   unfoldable pub clauses_in : ℕ → Parser Clauses
   clauses_in zero = pure NoClauses
   clauses_in (suc turns) =
@@ -243,7 +244,7 @@ module _ (room : ℕ) (inner : Nested) where
   abbrev pub executed : Parser Item
   executed = statement >>= (λ s. pure (Execute s))
 
-  -- Parses an item that begins with `char`: an expression statement if a parenthesis follows, otherwise a declaration.
+  -- Parses a block item that begins with `char`: an expression statement if a parenthesis follows, otherwise a declaration.
   abbrev pub char_item : Parser Item
   char_item = λ ts. (if opens_low_byte ts then executed else local) ts
 

@@ -1,5 +1,5 @@
--- Parts of the parser that are separate functions in the code. For each list that the code reads in a loop, one step reads the next item
--- if the list continues.
+-- Parts of the parser that are separate functions in the code. For each list that the code reads in a loop, one step reads the next list
+-- element if the list continues.
 use Rattle.std.specs.Prelude.{ℕ, zero, suc, ◌+◌, ◌-◌, Bool, false, not, ◌&&◌, ◌||◌, nat_lt, nat_le, if◌then◌else◌, List, [], ◌∷◌, Option, Some, None, is_some}
 use Rattle.cyc_syntax.specs.declared.tokens.Keyword.TheVariants as words
 use Rattle.cyc_syntax.specs.declared.tokens.Sign.TheVariants as signs
@@ -16,7 +16,7 @@ use Rattle.cyc_parse.specs.inside.Types.{mark_at, optional_region}
 use Rattle.cyc_parse.specs.inside.Declarations.{declaration}
 use Rattle.cyc_parse.specs.inside.Expressions.{Nested, binary_operator, operator_at, chained, binary_of, operations, climb, postfixes, unary}
 
--- Reads a comma and an item, if a comma comes next.
+-- Reads a comma and the list element after it, if a comma comes next.
 abbrev pub after_comma : {A : Type 0} → ℕ → Parser A → Parser (Option A)
 after_comma room item = if_sees signs.Comma (sign room signs.Comma >> item >>= (λ x. pure (Some x))) (pure None)
 
@@ -34,7 +34,7 @@ freed_key room = advance >>= (λ p. sign (suc room) signs.LeftParen >> identifie
 abbrev pub bracketed : ℕ → Nested → Parser Expression
 bracketed room inner = advance >>= (λ p. inner.expression >>= (λ e. sign room signs.RightParen >> pure (Bracketed p e)))
 
--- Parses an operand without inner expressions, except for a call or a variable.
+-- Parses an operand that has no inner expression and is neither a call nor a variable.
 abbrev pub lone_by : ℕ → Option Terminal → Parser Expression
 lone_by room (Some (terminals.Number n)) = advance >>= (λ p. pure (Number p n))
 lone_by room (Some (terminals.Character c)) = advance >>= (λ p. pure (Character p c))

@@ -46,16 +46,16 @@ abbrev pub is_pinned : List Instruction → (slot : ℕ) → Bool
 is_pinned [] slot = false
 is_pinned (i ∷ code) slot = pins i slot || is_pinned code slot
 
--- Returns the number of the word at this address among consecutive words from `base` on, if `is_asked` accepts the number.
+-- Returns the index of the word at this address among consecutive words from `base` on, if the predicate `is_asked` accepts the index.
 abbrev pub numbered : (is_asked : ℕ → Bool) → (base address : ℕ) → Option ℕ
 numbered is_asked base address =
     if base + 4 * ((address - base) / 4) == address && is_asked ((address - base) / 4) then Some ((address - base) / 4) else None
 
--- Returns the number of the global at this address, if there is one.
+-- Returns the index of the global at this address, if there is one.
 abbrev pub global_at : Program → (address : ℕ) → Option ℕ
 global_at program address = numbered (λ (number : ℕ). nat_lt number (length program.globals)) GLOBALS_BASE address
 
--- Returns the number of a call's slot at this address, if there is one.
+-- Returns the index of a call's slot at this address, if there is one.
 abbrev pub slot_at : Program → Activation → (address : ℕ) → Option ℕ
 slot_at program a address = numbered (is_pinned (routine_at program a.function).code) a.base address
 

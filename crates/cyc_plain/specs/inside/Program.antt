@@ -10,8 +10,8 @@ use Rattle.cyc_plain.specs.declared.instruction.BinaryOperator.TheVariants as bi
 use Rattle.cyc_plain.specs.declared.program.Function.{Function}
 use Rattle.cyc_plain.specs.inside.Requests.{request_size}
 
--- A function of a plain program: the position of its name, the numbers of its parameter words, result words, slots and frame
--- words, and its code.
+-- A function of a plain program: the source position of its name, the counts of its parameter words, result words, slots and
+-- frame words, and its code.
 pub record Routine : Type 0 where
   pub name : Span
   pub parameters : ℕ
@@ -20,7 +20,7 @@ pub record Routine : Type 0 where
   pub frame_count : ℕ
   pub code : List Instruction
 
--- A plain program: its functions, the initial words of its globals, and the number of the function that is called first.
+-- A plain program: its functions, the initial words of its globals, and the index of the function that is called first.
 pub record Program : Type 0 where
   pub functions : List Routine
   pub globals : List ℕ
@@ -40,7 +40,7 @@ abbrev pub program_of : (functions : List Function) → (globals : List ℕ) →
 program_of functions globals main =
     record { functions = map routine_of functions; globals = globals; main = main }
 
--- An empty function, which stands for a function number that does not exist.
+-- An empty function, which stands for a function index that does not exist.
 abbrev pub no_routine : Routine
 no_routine = record {
   name = record { line = 0; column = 0 };
@@ -96,7 +96,7 @@ pub record CodePlace : Type 0 where
   pub function : ℕ
   pub index : ℕ
 
--- Returns the code positions of these functions, the first of which has the number `function`.
+-- Returns the code positions of these functions, the first of which has the index `function`.
 abbrev pub places_from : ℕ → List Routine → List CodePlace
 places_from function [] = []
 places_from function (r ∷ routines) =

@@ -1,5 +1,5 @@
--- The state of a running plain program. Every value of a plain program is a word. Slots and globals are total functions from numbers to
--- words; a well-formed program uses only the numbers of existing slots and globals.
+-- The state of a running plain program. Every value of a plain program is a machine word. Slots and globals are total functions from
+-- indices to words; a well-formed program uses only the indices of existing slots and globals.
 use Rattle.std.specs.Prelude.{ℕ, suc, ◌+◌, ◌-◌, ◌==◌, ◌&&◌, nat_le, nat_lt, List, length, if◌then◌else◌}
 use Rattle.std.specs.List.{AllByRecursion}
 use Rattle.cyc_words.specs.Word.{IsWord}
@@ -10,7 +10,7 @@ use Rattle.cyc_store.specs.State as stores
 use Rattle.cyc_store.specs.State.{StoreState}
 use Rattle.cyc_plain.specs.inside.Program.{CodePlace}
 
--- A function from slot numbers, or from numbers of globals, to words.
+-- A function from the indices of slots, or from the indices of globals, to machine words.
 abbrev pub Words : Type 0
 Words = ℕ → ℕ
 
@@ -25,8 +25,8 @@ copied from source count to destination = λ (number : ℕ).
 abbrev pub AreWords : Words → Type 0
 AreWords words = (number : ℕ) → IsWord (words number)
 
--- A handler of a call. An open handler has the index of the instruction that opened it, the first slot of its record, and the record's
--- contents. `Caught` is a handler that an exception has reached.
+-- A handler of a call. An open handler has the index of the instruction that opened it, the first slot of its record, and the words
+-- stored in the record. `Caught` is a handler that an exception has reached.
 pub data Handler : Type 0 where
   Open : (index first : ℕ) → (contents : Words) → Handler
   Caught : Handler
@@ -80,7 +80,7 @@ status_of (Running c) = simulation.Running
 status_of (Ended ending output input) = simulation.Ended ending
 status_of (Stuck output input) = simulation.Failed
 
--- Returns the position of the next instruction, or of the first one in function 0 if the run has ended.
+-- Returns the code position of the next instruction, or of the first one in function 0 if the run has ended.
 abbrev pub place_of : State → CodePlace
 place_of (Running c) = record { function = c.active.function; index = c.active.next }
 place_of (Ended ending output input) = record { function = 0; index = 0 }
@@ -97,7 +97,7 @@ depth (Running c) = suc (length c.frames)
 depth (Ended ending output input) = 0
 depth (Stuck output input) = 0
 
--- `HoldsWords` says that the slots, the globals, the store and the input of a state contain only words.
+-- `HoldsWords` says that all values in the slots, the globals, the store and the input of a state fit in machine words.
 abbrev pub HoldsWords : State → Type 0
 HoldsWords (Running c) =
     AreWords c.active.slots

@@ -1,4 +1,4 @@
--- The facts required at jump targets, as the code stores them, and the two halves of the check.
+-- The facts required at jump targets, as the code stores them, and the two halves of the check: for jumps and for the next instruction.
 use Rattle.std.specs.Prelude.{◌≡◌, ℕ, ◌+◌, ◌<◌, ◌≤◌, Bool, true, false, not, ◌==◌, ◌&&◌, ◌||◌, if◌then◌else◌, List, length, Option, Some, None, slice_get, slice_index_or}
 use Rattle.cyc_plain.specs.declared.instruction.Instruction.{Instruction}
 use Rattle.cyc_plain.specs.declared.instruction.Instruction.TheVariants as instructions
@@ -25,8 +25,8 @@ entry_in entries index = entry_of (slice_get entries index)
 abbrev pub IsLess : (asked less : List Fact) → Type 0
 IsLess asked less = (facts : List Fact) (more : Option Fact) → are_known asked facts more ≡ true → are_known less facts more ≡ true
 
--- `AreNarrowed` says that entries after `index` require at most the facts that they required before, and that earlier entries are
--- unchanged. An entry that no jump had reached may require anything.
+-- `AreNarrowed` says that jump targets after `index` require at most the facts that they required before, and that earlier
+-- positions require the same facts. A position to which no jump was known before may require any facts.
 pub record AreNarrowed (index : ℕ) (old new : ℕ → Option (List Fact)) : Type 0 where
   pub same : (k : ℕ) → k ≤ index → new k ≡ old k
   pub less : (k : ℕ) (facts : List Fact) (more : Option Fact) → may_jump (old k) facts more ≡ true → may_jump (new k) facts more ≡ true
@@ -75,7 +75,8 @@ pub record AreWalked (program : Program) (r : Routine) (pinned : List Bool) (ent
 abbrev pub IsWalked : Program → Routine → List Bool → List Entry → (code : List Instruction) → Type 0
 IsWalked program r pinned entries code = (facts : List Fact) × AreWalked program r pinned entries (length r.code) code facts
 
--- `IsWalkedBySome` says that all instructions of a function are checked and simplified, for some entries at its jump targets.
+-- `IsWalkedBySome` says that all instructions of a function are checked and simplified, for some choice of the facts required
+-- at its jump targets.
 abbrev pub IsWalkedBySome : Program → Routine → List Bool → (code : List Instruction) → Type 0
 IsWalkedBySome program r pinned code = (entries : List Entry) × IsWalked program r pinned entries code
 

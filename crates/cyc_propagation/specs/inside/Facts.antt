@@ -134,7 +134,7 @@ is_unreached facts = is_never (slice_get facts 0)
 
 -- ---- globals
 
--- A global is also a word of memory, at an offset in bytes from the first global, if its number is in range.
+-- A global is also a word of memory, at a byte offset from the first global, if its index is below the maximum for globals.
 abbrev pub first_global : Operand
 first_global = operands.Word GLOBALS_BASE
 

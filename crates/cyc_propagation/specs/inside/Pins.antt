@@ -22,7 +22,7 @@ range_of instruction = None
 abbrev pub AreRanges : List Instruction → List Written → Type 0
 AreRanges code ranges = (slot : ℕ) → is_pinned code slot ≡ true → is_within ranges slot ≡ true
 
--- `AreFirstPins` says that the first `count` entries of `pinned` are true exactly for the slots that lie in a range.
+-- `AreFirstPins` says that the first `count` elements of `pinned` are true exactly for the slots that lie in a range.
 pub record AreFirstPins (ranges : List Written) (count : ℕ) (pinned : List Bool) : Type 0 where
   pub as_many : length pinned ≡ count
   pub each : (slot : ℕ) → slot < count → slice_index_or pinned slot true ≡ is_within ranges slot

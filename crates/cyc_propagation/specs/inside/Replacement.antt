@@ -53,7 +53,8 @@ abbrev pub word_in : List Fact → Operand → Option ℕ
 word_in [] operand = own_word operand
 word_in (fact ∷ facts) operand = or_number (word_by fact operand) (word_in facts operand)
 
--- Returns true if a small word as the second operand of this operator costs no instruction.
+-- Returns true if this operator's machine instruction can contain a small constant as its second
+-- operand, so that the constant needs no extra instruction.
 abbrev pub takes_word : BinaryOperator → Bool
 takes_word binary.And = true
 takes_word binary.Or = true
@@ -104,8 +105,8 @@ abbrev pub simplified_unary : Option ℕ → UnaryOperator → (destination : �
 simplified_unary (Some word) operator destination operand = instructions.Move destination (operands.Word word)
 simplified_unary None operator destination operand = instructions.Unary operator destination operand
 
--- Returns true if folding loses no knowledge of the result: both operands are constants, or a fact replaces an operand. In all other cases
--- the operator is kept, so that a value that a loop recomputes from the same slots is known at the loop header.
+-- Returns true if folding loses no knowledge of the result: the left operand is a constant, or the operator overwrites one of its own
+-- operands. In all other cases the operator is kept, so that a value that a loop recomputes from the same slots is known at its header.
 abbrev pub may_fold : (destination : ℕ) → (left right : Operand) → Bool
 may_fold destination left right = not (is_cheap left) || (is_slot left destination || is_slot right destination)
 

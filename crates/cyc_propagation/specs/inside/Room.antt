@@ -16,8 +16,8 @@ use Rattle.cyc_propagation.specs.inside.Table.{IsReplaced}
 abbrev pub slots_in : Program → ℕ → ℕ
 slots_in program function = (routine_at program function).slots
 
--- Known stack space is a number: 0 if nothing is known, otherwise one more than the slots of a callee. `HasRoom` says that a call with
--- these slots fits above `base` when `depth` of at most `calls` calls are active.
+-- A number represents the stack space known to be available: 0 if nothing is known, otherwise one more than a callee's number of
+-- slots. `HasRoom` says that the slots of one more call fit above the address `base` when `depth` of at most `calls` calls are active.
 abbrev pub HasRoom : (calls : ℕ) → (room base depth : ℕ) → Type 0
 HasRoom calls zero base depth = Unit {0}
 HasRoom calls (suc slots) base depth = (slots_base + 4 * slots ≤ base) × (depth < calls)
@@ -110,7 +110,7 @@ pub record AreSpared (program spared : Program) : Type 0 where
 -- ---- simplified functions
 
 -- `AreMadeFirst` says that the first `count` functions of a program were simplified, and their redundant checks for stack space then
--- dropped. The original program determines the numbers of slots.
+-- dropped. The stack space that a call needs is computed from the callee's number of slots in the original program.
 pub record AreMadeFirst (program : Program) (count : ℕ) (routines : List Routine) : Type 0 where
   pub between : List Routine
   pub replaced : AreFirstReplaced program count between

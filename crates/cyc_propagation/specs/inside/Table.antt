@@ -1,5 +1,5 @@
--- Tables of the facts known at each position of a function's code, and the check of a table, instruction by instruction. The entries are
--- untrusted: if the check succeeds for each instruction, the table is true in each run.
+-- Tables of the facts known at each position of a function's code, and the check of a table, instruction by instruction. The facts
+-- stated for jump targets are untrusted: if the check succeeds for each instruction, the table is true in each run.
 use Rattle.std.specs.Prelude.{◌≡◌, ℕ, zero, suc, ◌+◌, ◌<◌, ◌≤◌, Bool, true, false, ◌&&◌, ◌||◌, nat_lt, if◌then◌else◌, List, [], ◌∷◌, length, Option, Some, None, slice_get}
 use Rattle.cyc_plain.specs.declared.instruction.Instruction.{Instruction}
 use Rattle.cyc_plain.specs.declared.instruction.Instruction.TheVariants as instructions
@@ -19,8 +19,8 @@ pub record ArePins (r : Routine) (pinned : List Bool) : Type 0 where
   pub as_many : length pinned ≡ r.slots
   pub right : (slot : ℕ) → is_free pinned slot ≡ true → is_pinned r.code slot ≡ false
 
--- `IsTable` describes the facts at each position of a function. Nothing is known at the entry, nor at a handler,
--- which exceptions can reach.
+-- `IsTable` describes the facts known at each position of a function's code. No fact is known at a function's
+-- entry, nor at an exception handler, which exceptions can reach.
 pub record IsTable (program : Program) (r : Routine) (pinned : List Bool) (table : ℕ → List Fact) : Type 0 where
   pub first : table 0 ≡ []
   pub tries : (index first handler : ℕ) → At r index (instructions.Try first handler) → table index ≡ []
@@ -66,7 +66,8 @@ goes_on i = true
 abbrev pub after_put : Program → List Bool → List Fact → Instruction → (index : ℕ) → List Fact
 after_put program pinned facts i index = if goes_on i then facts_after program pinned facts i index (index + 1) else never ∷ []
 
--- Returns the facts at a position: those of its entry if it is a jump target, otherwise those known after the previous instruction.
+-- Returns the facts known at a code position: those required there if it is a jump target, otherwise those known after the previous
+-- instruction.
 abbrev pub entered_or : Option (List Fact) → List Fact → List Fact
 entered_or (Some facts) others = facts
 entered_or None others = others
@@ -83,7 +84,7 @@ facts_at program pinned entry code (suc index) =
 
 -- ---- the check
 
--- Returns true if a fact equals the extra fact, if there is one.
+-- Returns true if there is an additional fact, such as one that a branch establishes, and it equals the given fact.
 abbrev pub is_more : Option Fact → Fact → Bool
 is_more (Some other) fact = is_same_fact other fact
 is_more None fact = false
@@ -115,12 +116,12 @@ abbrev pub are_known : (asked facts : List Fact) → Option Fact → Bool
 are_known [] facts more = true
 are_known (fact ∷ asked) facts more = follows facts more fact && are_known asked facts more
 
--- Returns true if each fact that a jump target requires is known or is the extra fact.
+-- Returns true if each fact that a jump target requires is known at the jump, or is the fact that the jump itself establishes.
 abbrev pub may_jump : Option (List Fact) → (facts : List Fact) → Option Fact → Bool
 may_jump (Some asked) facts more = are_known asked facts more
 may_jump None facts more = false
 
--- Returns true if the facts that the next position requires, if it is a jump target, are known.
+-- Returns true if the next position is no jump target, or if all facts that it requires are known.
 abbrev pub may_go_on : Option (List Fact) → (facts : List Fact) → Option Fact → Bool
 may_go_on (Some asked) facts more = are_known asked facts more
 may_go_on None facts more = true

@@ -19,7 +19,7 @@ abbrev pub greater_if_any : (one : ℕ) → Option ℕ → ℕ
 greater_if_any one (Some other) = greater one other
 greater_if_any one None = one
 
--- Returns the last position reached by the instructions visited so far, including this one.
+-- Returns the last position to which one of the instructions visited so far, including this one, jumps or falls through.
 abbrev pub last_after : (last : ℕ) → Instruction → (index : ℕ) → ℕ
 last_after last i index = greater_if_any (if goes_on i then greater last (index + 1) else last) (target_of i)
 

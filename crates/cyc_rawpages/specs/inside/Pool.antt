@@ -1,4 +1,4 @@
--- The contents of a page pool, and their representation in a block of words.
+-- The values stored in a page pool, and their representation in a block of words.
 use Rattle.std.specs.Prelude.{◌≡◌, ℕ, zero, suc, replicate, ◌+◌, ◌*◌, ◌/◌, ◌%◌, ◌^◌, ◌<◌, ◌≤◌, ◌==◌, ◌&&◌, ◌⊎◌, nat_le, nat_lt, Bool, true, false, if◌then◌else◌, List, [], ◌∷◌, length, slice_index, slice_index_or}
 use Rattle.std.specs.List.{AllByRecursion}
 use Rattle.std.specs.Int.{bit_at}
@@ -6,8 +6,8 @@ use Rattle.cyc_rawpages.specs.inside.Lists.{Lists, chain_at, numbers_from, is_am
 use Rattle.cyc_rawpages.specs.inside.Words.{Parts}
 use Rattle.cyc_rawpages.specs.declared.header.TheConstants.{PAGE_WORDS, HEADER_WORDS, HEAD_WORDS, MOST_PAGES, FILL, OWNER, LOW, HIGH, NEXT, TAIL, NONE}
 
--- The lists `words` and `bits` have 1,024 items for each page, and the other lists have one item for each page. All lists are in
--- the order of the page numbers.
+-- The lists `words` and `bits` have 1,024 elements for each page, and the other lists have one element for each page. All lists
+-- are in the order of the page numbers.
 pub record PoolState : Type 0 where
   pub pages : ℕ
   pub words : List ℕ
@@ -50,7 +50,7 @@ abbrev pub tabulate : {A : Type 0} → (count : ℕ) → (ℕ → A) → List A
 tabulate zero f = []
 tabulate (suc count) f = f 0 ∷ tabulate count (λ k. f (suc k))
 
--- The index, among all head words of the pool, of a field of a page's header.
+-- The index of a field of a page's header, among the pool's first words with all pages' headers and bits.
 abbrev pub header_at : (page field : ℕ) → ℕ
 header_at page field = HEAD_WORDS * page + field
 

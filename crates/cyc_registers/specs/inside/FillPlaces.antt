@@ -29,7 +29,8 @@ may_fill holders live hs index (Some (instructions.Binary operator destination l
     is_free holders live hs index destination
 may_fill holders live hs index other = false
 
--- Returns the filling positions left after the branch at `index` has excluded its target, unless the target may fill its delay slot.
+-- Returns the positions that may still fill delay slots after the branch at `index`. A branch excludes its target, unless the target
+-- may fill the branch's delay slot.
 abbrev pub barring : (holders live : List ℕ) → List Home → List Instruction → (index : ℕ) → Instruction
     → (fills : List Bool) → List Bool
 barring holders live hs code index (instructions.Branch comparison left right target) fills =
@@ -38,7 +39,8 @@ barring holders live hs code index (instructions.Branch comparison left right ta
     else fills
 barring holders live hs code index i fills = fills
 
--- Says that `fills` lists the positions left after the first `count` instructions have excluded their targets.
+-- Says that `fills` marks the positions that may fill delay slots after the branches among the first `count`
+-- instructions have excluded their targets.
 pub record AreLeft (holders live : List ℕ) (hs : List Home) (code : List Instruction) (count : ℕ) (fills : List Bool) : Type 0 where
   pub as_many : length fills ≡ length code
   pub each : (index target : ℕ) (comparison : Comparison) (left right : Operand) (i : Instruction) → index < count

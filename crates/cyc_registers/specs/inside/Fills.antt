@@ -11,12 +11,12 @@ use Rattle.cyc_registers.specs.declared.home.Home.{Home}
 use Rattle.cyc_registers.specs.inside.Interference.{HasRegister}
 use Rattle.cyc_registers.specs.inside.Liveness.{IsLiveAt}
 
--- Returns true if the instruction at `target` fills delay slots. A position without an entry in the list does not fill any.
+-- Returns true if the instruction at `target` fills delay slots. A position without an entry in the list does not fill any delay slot.
 abbrev pub fills_at : List Bool → (target : ℕ) → Bool
 fills_at fills target = slice_index_or fills target false
 
--- Says that at each branch to a filling position, the register written at that position holds no word that is live if the branch is not
--- taken. Positions that are not listed may qualify too.
+-- Says that at each branch to a position that fills delay slots, the register written there holds no word needed if the branch is not
+-- taken. Positions that are not listed may be able to fill delay slots too.
 abbrev pub AreFillable : Program → Routine → List Home → (fills : List Bool) → Type 0
 AreFillable program r hs fills =
     (index target d a k : ℕ) (comparison : Comparison) (left right : Operand) (i : Instruction)

@@ -31,26 +31,27 @@ NeverHolds comparison left right = ⊥
 abbrev pub IsUnused : Program → Routine → List Home → (index slot : ℕ) → Type 0
 IsUnused program r hs index slot = (is_kept (home_of hs slot) ≡ false) × (IsLiveAt program r slot (suc index) → ⊥)
 
--- Says that the moved word is already in the slot's register, which is its only home.
+-- Says that the word that a move copies is already in the destination slot's register, which is the only home of this slot.
 abbrev pub IsThere : List Home → (slot : ℕ) → Operand → Type 0
 IsThere hs slot (operands.Slot number) =
     (register : ℕ) × (home_of hs slot ≡ homes.Register register) × HasRegister hs number register
 IsThere hs slot (operands.Word word) = ⊥
 
--- Returns true if the list marks the instruction at `index` as idle. An instruction without an entry is not idle.
+-- Returns true if the list marks the instruction at `index` as one that needs no machine code. An instruction
+-- without an entry in the list is not marked as needing no machine code.
 abbrev pub idle_at : List Bool → (index : ℕ) → Bool
 idle_at idle index = slice_index_or idle index false
 
--- Says that the instructions from `first` up to `end`, exclusive, are idle.
+-- Says that the instructions from `first` up to `end`, exclusive, are marked as needing no machine code.
 abbrev pub AreIdleFrom : (idle : List Bool) → (first end : ℕ) → Type 0
 AreIdleFrom idle first end = (k : ℕ) → first ≤ k → k < end → idle_at idle k ≡ true
 
--- Says that an instruction falls through, or jumps forward over idle instructions only.
+-- Says that an instruction jumps forward, to the next instruction or over instructions that need no machine code.
 abbrev pub LeadsOver : (idle : List Bool) → (index : ℕ) → Instruction → Type 0
 LeadsOver idle index (instructions.Jump target) = (suc index ≤ target) × AreIdleFrom idle (suc index) target
 LeadsOver idle index i = ⊥
 
--- Says that an instruction is idle; a jump is idle if it jumps to the next instruction or skips only idle ones.
+-- Says that an instruction needs no machine code (is idle). A jump is idle if it jumps to the next instruction or skips only idle ones.
 abbrev pub IsIdle : Program → Routine → List Home → (idle : List Bool) → (index : ℕ) → Instruction → Type 0
 IsIdle program r hs idle index (instructions.Move destination source) =
     (source ≡ operands.Slot destination) ⊎ (IsUnused program r hs index destination ⊎ IsThere hs destination source)
@@ -64,7 +65,7 @@ IsIdle program r hs idle index (instructions.Branch comparison left right target
     (target ≡ suc index) ⊎ NeverHolds comparison left right
 IsIdle program r hs idle index i = ⊥
 
--- Says that each instruction listed as idle is idle. Unlisted instructions may be idle too.
+-- Says that each instruction listed as needing no machine code needs none. Unlisted instructions may need no machine code either.
 abbrev pub AreIdle : Program → Routine → List Home → (idle : List Bool) → Type 0
 AreIdle program r hs idle =
     (index : ℕ) (i : Instruction) → At r index i → idle_at idle index ≡ true → IsIdle program r hs idle index i

@@ -1,4 +1,4 @@
--- The instructions listed as idle, computed from the homes and a table of the live candidate slots.
+-- The instructions listed as needing no machine code, computed from the homes and a table of the live candidate slots.
 use Rattle.std.specs.Prelude.{ℕ, zero, suc, ◌+◌, Bool, true, false, ◌==◌, ◌&&◌, ◌||◌, not, nat_lt, List, bit_and}
 use Rattle.cyc_plain.specs.declared.instruction.Comparison.{Comparison}
 use Rattle.cyc_plain.specs.declared.instruction.Comparison.TheVariants as comparisons
@@ -30,13 +30,13 @@ is_unused masks live hs index slot =
     nat_lt 0 (mask_at masks slot)
     && (bit_and (mask_at live (index + 1)) (mask_at masks slot) == 0 && not (is_kept (home_of hs slot)))
 
--- Returns true if the `count` slots from `first` on are unused.
+-- Returns true if the `count` slots from `first` on are in registers only and not live after the instruction at `index`.
 abbrev pub are_unused : (masks live : List ℕ) → List Home → (index first count : ℕ) → Bool
 are_unused masks live hs index first zero = true
 are_unused masks live hs index first (suc count) =
     are_unused masks live hs index first count && is_unused masks live hs index (first + count)
 
--- Returns true if the moved word is already in the slot's register, which is its only home.
+-- Returns true if the word that a move copies is already in the destination slot's register, which is the only home of this slot.
 abbrev pub is_there : List Home → (slot : ℕ) → Operand → Bool
 is_there hs slot (operands.Slot number) = shares_register (home_of hs slot) (home_of hs number)
 is_there hs slot (operands.Word word) = false

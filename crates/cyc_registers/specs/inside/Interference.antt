@@ -65,7 +65,7 @@ pub record AreHomes (program : Program) (r : Routine) (saved : ℕ) (hs : List H
   pub arrivals : sum_by saved_count (take r.parameters hs) ≤ saved
   pub arriving : (a c k : ℕ) → HasRegister hs a k → HasRegister hs c k → FIRST_PRESERVED ≤ k → a < r.parameters → c < r.parameters → a ≡ c
   pub few : sum_by both_count hs ≤ MOST_BOTH
-  -- If two different slots are both live later, they never share a register.
+  -- Two different slots that are live at a code position or in a handler of the function share no register.
   pub apart : (index a c k : ℕ) → HasRegister hs a k → HasRegister hs c k
       → IsLiveLater program r a index → IsLiveLater program r c index → a ≡ c
   -- A written slot shares no register with another slot that is live after the write.
@@ -74,7 +74,7 @@ pub record AreHomes (program : Program) (r : Routine) (saved : ℕ) (hs : List H
   -- In a move of several words, no destination slot shares a register with a different source slot.
   pub moved : (index destination source count a d k : ℕ) → At r index (instructions.MoveWords destination source count)
       → is_among source count a ≡ true → is_among destination count d ≡ true → HasRegister hs a k → HasRegister hs d k → a ≡ d
-  -- A slot with both a register and memory shares its register with no other slot, since the register may be reloaded at any time.
+  -- A slot both in a register and in memory shares its register with no other slot, since the register may be reloaded at any time.
   pub alone : (a c k : ℕ) → home_of hs a ≡ homes.Both k → HasRegister hs c k → a ≡ c
   -- At the function's entry only parameters are live, and two parameters share no register if either is live.
   pub entry : (a k : ℕ) → HasRegister hs a k → IsLiveAt program r a 0 → a < r.parameters

@@ -10,7 +10,7 @@ use Rattle.cyc_registers.specs.declared.liveness.TheConstants.{ALL_NUMBERS}
 use Rattle.cyc_registers.specs.declared.uses.Uses.{Uses}
 use Rattle.cyc_registers.specs.inside.Masks.{mask_at, uses_of}
 
--- Returns the liveness table's entry for the successors of an instruction.
+-- Returns the slots that the liveness table lists as live at the successors of an instruction.
 abbrev pub after_mask : Instruction → (index : ℕ) → List ℕ → ℕ
 after_mask (instructions.Jump target) index live = mask_at live target
 after_mask (instructions.Branch comparison left right target) index live =

@@ -105,12 +105,12 @@ bar_mask masks (instructions.Try first handler) = range_mask masks first RECORD_
 bar_mask masks (instructions.Leave first) = range_mask masks first RECORD_WORDS
 bar_mask masks instruction = 0
 
--- Returns the effect of an instruction on the candidates: the slots that it reads, writes and excludes from registers.
+-- Returns the candidate slots that an instruction reads, those that it writes, and those that it excludes from registers.
 abbrev pub uses_of : Program → (results : ℕ) → (masks : List ℕ) → Instruction → Uses
 uses_of program results masks i =
     record { reads = read_mask masks results i; writes = write_mask masks program i; bars = bar_mask masks i }
 
--- Says that a table lists the effects of all instructions of a function on the candidates.
+-- Says that a table lists the candidate slots that each instruction of a function reads, writes and excludes from registers.
 abbrev pub AreUses : Program → Routine → (masks : List ℕ) → List Uses → Type 0
 AreUses program r masks table =
     (index : ℕ) (i : Instruction) → At r index i → slice_get table index ≡ Some (uses_of program r.results masks i)

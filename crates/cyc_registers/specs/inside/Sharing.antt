@@ -24,8 +24,9 @@ is_single slots = bit_and slots (slots - 1) == 0
 abbrev pub is_given : (saved register : ℕ) → Bool
 is_given saved register = nat_le FIRST_REGISTER register && nat_lt register (FIRST_PRESERVED + saved)
 
--- Returns true if the home of a slot is correct in isolation, and `holders` lists the slot. A slot with a register and memory shares its
--- register with no slot. A slot live in a handler is in memory. A slot live after a call is in memory or in a callee-saved register.
+-- Returns true if the home of a slot is correct in isolation, and `holders` lists the slot. A slot that is both in a register and in
+-- memory shares its register with no slot. A slot live in a handler is in memory. A slot live after a call is in memory or in a
+-- callee-saved register.
 abbrev pub suits : (masks live holders : List ℕ) → (calls clauses barred parameters saved slot : ℕ) → Home → Bool
 suits masks live holders calls clauses barred parameters saved slot homes.Memory = true
 suits masks live holders calls clauses barred parameters saved slot (homes.Both register) =
@@ -41,11 +42,11 @@ abbrev pub AllSuit : (masks live holders : List ℕ) → (calls clauses barred p
 AllSuit masks live holders calls clauses barred parameters saved hs =
     (slot : ℕ) → slot < length hs → suits masks live holders calls clauses barred parameters saved slot (home_of hs slot) ≡ true
 
--- Returns the list of groups, with a set of slots appended if the set has more than one slot.
+-- Returns the groups of slots that share a register, with a set of slots appended if the set has more than one slot.
 abbrev pub with_group : (groups : List ℕ) → (slots : ℕ) → List ℕ
 with_group groups slots = if is_single slots then groups else groups ++ slots ∷ []
 
--- Says that each of the first `count` registers is held by at most one slot, or its set of slots is a listed group.
+-- Says that each of the first `count` registers is held by at most one slot, or its holders form a listed group of slots.
 abbrev pub AreGroups : (holders : List ℕ) → (count : ℕ) → (groups : List ℕ) → Type 0
 AreGroups holders count groups =
     (register : ℕ) → register < count
@@ -57,16 +58,16 @@ abbrev pub standing_mask : Uses → Instruction → (index : ℕ) → List ℕ �
 standing_mask uses (instructions.MoveWords destination source count) index live = bit_or (mask_at live index) uses.writes
 standing_mask uses i index live = mask_at live index
 
--- Says that the set contains at most one slot of each group.
+-- Says that the set contains at most one slot of each group of slots that share a register.
 abbrev pub AreSingle : (groups : List ℕ) → (set : ℕ) → Type 0
 AreSingle groups set = (number slots : ℕ) → slice_get groups number ≡ Some slots → is_single (bit_and set slots) ≡ true
 
--- Says, bit by bit, that the set contains at most one slot of each group.
+-- Says, bit by bit, that the set contains at most one slot of each group of slots that share a register.
 abbrev pub AreAlone : (groups : List ℕ) → (set : ℕ) → Type 0
 AreAlone groups set =
     (number slots j l : ℕ) → slice_get groups number ≡ Some slots → bit_at (bit_and set slots) j ≡ 1 → bit_at (bit_and set slots) l ≡ 1 → j ≡ l
 
--- Returns true if no slot of the group is written, or at most one slot of the group is written or live after the instruction.
+-- Returns true if the instruction writes no slot of the group, or at most one slot of the group is written or live after it.
 abbrev pub is_apart : (written following slots : ℕ) → Bool
 is_apart written following slots = bit_and written slots == 0 || is_single (bit_and (bit_or written following) slots)
 
@@ -74,12 +75,13 @@ abbrev pub AreApart : (groups : List ℕ) → (written following : ℕ) → Type
 AreApart groups written following =
     (number slots : ℕ) → slice_get groups number ≡ Some slots → is_apart written following slots ≡ true
 
--- Says that no two slots of a group interfere at an instruction: no two are live there, and none is written while another is live after.
+-- Says that no two slots of a group (slots that share a register) interfere at an instruction: no two are live there, and none is
+-- written while another is live after.
 abbrev pub AreApartAt : Uses → (live groups : List ℕ) → Instruction → (index : ℕ) → Type 0
 AreApartAt uses live groups i index =
     AreAlone groups (standing_mask uses i index live) × AreApart groups uses.writes (after_mask i index live)
 
--- Says that no two slots of a group interfere at any of the first `count` instructions.
+-- Says that no two slots of a group that shares a register interfere at any of the first `count` instructions.
 abbrev pub NeverMeet : Program → Routine → (masks live groups : List ℕ) → (count : ℕ) → Type 0
 NeverMeet program r masks live groups count =
     (index : ℕ) (i : Instruction) → At r index i → index < count → AreApartAt (uses_of program r.results masks i) live groups i index

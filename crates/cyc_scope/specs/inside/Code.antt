@@ -6,17 +6,17 @@ use Rattle.cyc_types.specs.Rules.{Checked}
 use Rattle.cyc_scope.specs.declared.stop.Stop.{Stop}
 use Rattle.cyc_scope.specs.declared.stop.Stop.TheVariants as stops
 
--- the fault that the checker returns for a stop
+-- the fault that the checker returns when it stops: the rejection, or lack of memory
 abbrev pub fault_of : Stop → Fault
 fault_of stops.Memory = memory_fault
 fault_of (stops.Refused f) = f
 
--- Says that a rejection by the code is the fault that the rule reports. If memory runs out, the relation claims nothing.
+-- Says that a rejection by the code is the fault that the typing rule reports. If memory runs out, the relation claims nothing.
 abbrev pub Stops : {Y : Type 0} → Stop → Checked Y → Type 0
 Stops stops.Memory checked = Unit {0}
 Stops (stops.Refused f) checked = checked ≡ Err f
 
--- Says that the code's result, under the view `view`, is the result of the rule, unless memory ran out.
+-- Says that the code's result, under the view `view`, is the result of the typing rule, unless memory ran out.
 abbrev pub Gives : {X Y : Type 0} → (X → Y) → Result X Stop → Checked Y → Type 0
 Gives view (Ok x) checked = checked ≡ Ok (view x)
 Gives view (Err e) checked = Stops e checked

@@ -66,7 +66,7 @@ abbrev pub Finds : List (Option ℕ) → List Binding → Type 0
 Finds table bs = ((x : ℕ) → get_or table x None ≡ newest_place (local_names (locals_of bs)) x)
     × (map (λ (b : Binding). b.hidden) (reverse bs) ≡ hidden_by (local_names (locals_of bs)))
 
--- the meaning found among the locals, or else the default meaning
+-- the meaning of a name found among the locals, or else the default meaning
 abbrev pub meaning_or : Meaning → Option Meaning → Meaning
 meaning_or m None = m
 meaning_or m (Some found) = found

@@ -1,12 +1,12 @@
 -- A mark records the size of a scope at the entry of a construct. At the end of the construct, the names that came into scope
--- since then are removed.
+-- since its entry are removed.
 use Rattle.std.specs.Prelude.{ℕ, suc, ◌-◌, ◌<◌, ◌≤◌, List, [], ◌∷◌, length, drop}
 use Rattle.cyc_types.specs.declared.region.Region.TheVariants as regions
 use Rattle.cyc_types.specs.declared.scope.Kind.{Kind}
 use Rattle.cyc_types.specs.typing.Scopes.{LocalVariable, Scope, with_scope}
 use Rattle.cyc_scope.specs.declared.scope.Mark.{Mark}
 
--- says that the region numbers of locals never increase from the newest local to the oldest, and that the newest has at most `region`
+-- says that the numbers of the locals' regions never increase from the newest local to the oldest, and that the newest has at most `region`
 abbrev pub Descends : ℕ → List LocalVariable → Type 0
 Descends region [] = Unit {0}
 Descends region (v ∷ vs) = (v.region ≤ region) × Descends v.region vs
@@ -26,7 +26,8 @@ mark_of g = record {
   counters = g.counters;
 }
 
--- The scope without the names added since the mark was taken. Numbers that were used and region names that were taken stay so.
+-- The scope without the names added since its mark (a record of the scope's size) was taken. Numbers of locals and regions,
+-- and names of regions, that were used stay used after the names leave the scope.
 abbrev pub left_to : Mark → Scope → Scope
 left_to m g = record g {
   names = drop (length g.names - m.names) g.names;

@@ -1,4 +1,4 @@
--- Plain signatures, whose calls have the fewest demands: a call accepts every region of its arguments.
+-- Plain signatures, whose calls have the fewest requirements: a call accepts every region of its arguments.
 use Rattle.std.specs.Prelude.{◌≡◌, ◌≤◌, ℕ, suc, List, [], ◌∷◌, ◌++◌, option_map}
 use Rattle.cyc_types.specs.declared.region.Region.{Region}
 use Rattle.cyc_types.specs.declared.region.Region.TheVariants.{Heap, Unique, Variable}
@@ -40,7 +40,7 @@ pub record IsPlain (s : Signature) : Type 0 where
   pub constraints : s.constraints ≡ []
   pub result : (m : List Region) → option_map (substituted_ty m) s.result ≡ s.result
 
--- says that a name denotes a function with a plain signature
+-- says that a name denotes a function with a plain signature (each region of its parameters occurs only once)
 abbrev pub IsPlainRoutine : Meaning → Type 0
 IsPlainRoutine (Routine f s) = IsPlain s
 IsPlainRoutine m = ⊥

@@ -1,13 +1,13 @@
--- The code finds a name in a table that stores the index of the name's first entry, or of its newest entry.
+-- The code finds a name in a table that stores the index of the first, or of the newest, declaration with the name.
 use Rattle.std.specs.Prelude.{ℕ, suc, nat_eq, if◌then◌else◌, List, [], ◌∷◌, map, length, Option, Some, None, option_map}
 use Rattle.cyc_types.specs.typing.Scopes.{Exception, Meaning, Unknown, Declared}
 
--- the index of the first entry with the name x
+-- the index of the first element of the list that is the name x
 abbrev pub first_place : List ℕ → ℕ → Option ℕ
 first_place [] x = None
 first_place (y ∷ ys) x = if nat_eq y x then Some 0 else option_map suc (first_place ys x)
 
--- the first entry with the name x
+-- the first element of the list that has the name x
 abbrev pub first_by : {A : Type 0} → (A → ℕ) → List A → ℕ → Option A
 first_by name [] x = None
 first_by name (a ∷ as') x = if nat_eq (name a) x then Some a else first_by name as' x
@@ -25,12 +25,12 @@ abbrev pub meaning_by : Option Declared → Meaning
 meaning_by None = Unknown
 meaning_by (Some d) = d.meaning
 
--- the index of the newest entry with the name x; the names are listed newest first, but indices count from the oldest
+-- the index of the newest declaration with the name x; the names are listed newest first, but indices count from the oldest
 abbrev pub newest_place : List ℕ → ℕ → Option ℕ
 newest_place [] x = None
 newest_place (y ∷ ys) x = if nat_eq y x then Some (length ys) else newest_place ys x
 
--- for each name, the index of the older entry that it hides, if any
+-- for each name of a list, the index of the older declaration with the same name that it hides, if any
 abbrev pub hidden_by : List ℕ → List (Option ℕ)
 hidden_by [] = []
 hidden_by (y ∷ ys) = newest_place ys y ∷ hidden_by ys

@@ -36,7 +36,7 @@ use Rattle.cyc_select.specs.inside.Machine as labelled
 use Rattle.cyc_select.proofs.relation.Cells.{IsCell, IsLive, cell, place_of-data, place_of-stack}
 use Rattle.cyc_select.proofs.effects.Views.{Contents, saved_in, View, Width, OneWord, OneByte, load_op, store_op, word_place, loaded_part, stored_word, answered_registers, does_r, does_w, IsSafe, IsWritable, moved, live_place, view_put, view_product, view_store, view_saved}
 
--- If the machine performs an instruction without an event, the next state is running, at the next line.
+-- If the machine performs an instruction that causes no event, the machine is then in a running state, at the next line.
 performs_to : (c : Configuration) (i : Instr) (left : machines.State) (next : State) → executes (machine_of c) i ≡ Does Ran left → left.phase ≡ phases.Running
     → Performs c i next → next ≡ Running (from_world (record { machine = left; output = c.output; input = c.input }) (c.line + 1))
 performs_to c i left next does running (event, s, acts, is) =
@@ -263,13 +263,13 @@ module _ (globals stack : ℕ) (c : Configuration) (r : Words) (w : Contents) (v
 
 -- ---- services
 
--- If the registers request a service, a `syscall` calls this service.
+-- If the registers request a system call, a `syscall` instruction performs this system call.
 called : (c : Configuration) (code : TrapCode) (service : Service) → asked (core_of c) ≡ Some service → executes (machine_of c) (Exception Syscall code) ≡ Calls service
 called c code service asks =
     let fine : cause_of (machine_of c) (Exception Syscall code) ≡ None = ap (λ (o : Option Service). if is_none o then Some causes.BadService else None) asks in
     executes-performs (machine_of c) (Exception Syscall code) fine ∙ ap (λ (o : Option Service). calls o (machine_of c)) asks
 
--- `Served` says that serving a request in a configuration causes an event and leads to the state `next`.
+-- `Served` says that performing the requested system call in a configuration causes an event and leads to the state `next`.
 abbrev Served : Configuration → Service → State → Type 0
 Served c service next =
     (event : Event) × (s : machines.State) × Serves service (machine_of c) event s
@@ -279,7 +279,7 @@ service_serves : (c : Configuration) (code : TrapCode) (service : Service) (numb
 service_serves c code service number next is_number asks (event, s, acts, is) =
     (event, s, subst (λ (a : Action). Acts a (machine_of c) event s) (called c code service (ap (service_of (core_of c)) is_number ∙ asks)) acts, is)
 
--- If a service reports an event and leaves a machine state, these two determine the next observed state.
+-- If a system call reports an event and leaves a machine state, this event and this machine state determine the next observed state.
 seen : (c : Configuration) (next : State) (event reported_event : Event) (s left : machines.State) → event ≡ reported_event → s ≡ left
     → next ≡ settled (reported (world_of c) event s) (c.line + 1) (reported (world_of c) event s).machine.phase
     → next ≡ settled (reported (world_of c) reported_event left) (c.line + 1) (reported (world_of c) reported_event left).machine.phase
@@ -334,7 +334,7 @@ ends_full c code next number goes =
 
 -- ---- requests to the store
 
--- Returns the call of the store (the heap of regions) that a requested service and its argument registers describe.
+-- Returns the call of the store (the heap of regions) that a requested system call and its argument registers describe.
 abbrev pub call_by : Request → (first second : ℕ) → Call
 call_by (requests.OpenLexical destination) first second = services.OpenLexical
 call_by (requests.CloseTo mark) first second = services.CloseTo first
@@ -354,11 +354,11 @@ service_is c (requests.CloseDynamic handle) = refl
 service_is c (requests.Allocate destination handle words) = refl
 service_is c (requests.Free address) = refl
 
--- Returns the configuration after the store's result is written to the result registers.
+-- Returns the configuration after the store (the heap of regions) has answered a call and its result was written to the result registers.
 abbrev pub given_answer : Configuration → Answer → StoreState → Configuration
 given_answer c a store = record c { registers = answered_registers c a; store = store; line = c.line + 1 }
 
--- Returns the observed state after the store has answered a call.
+-- Returns the observed state after the store (the heap of regions) has answered a call.
 abbrev after_answer : Configuration → Answer → StoreState → State
 after_answer c a store =
     settled (reported (world_of c) (reported_by a) (answered (with_store (machine_of c) store) a)) (c.line + 1)

@@ -70,7 +70,7 @@ pub stands_back : (code : Labelled) (k : ℕ) (xs ys : List Line) → Stands cod
 stands_back code k [] ys stands = stands_to code k (k + 0) ys (omega arith) stands
 stands_back code k (x ∷ xs) ys (first, rest) = stands_to code (k + 1 + length xs) (k + suc (length xs)) ys (omega arith) (stands_back code (k + 1) xs ys rest)
 
--- If code followed by further lines stands at a line, then the code up to any of its lines stands there too.
+-- If a sequence of lines stands at a line number, then each nonempty prefix of the sequence stands at this number too.
 pub stands_until : (code : Labelled) (k : ℕ) (xs : List Line) (y : Line) (ys : List Line) → Stands code k (xs ++ y ∷ ys) → Stands code k (xs ++ y ∷ [])
 stands_until code k [] y ys (first, rest) = (first, tt)
 stands_until code k (x ∷ xs) y ys (first, rest) = (first, stands_until code (k + 1) xs y ys rest)
@@ -106,7 +106,8 @@ pub after_w-append : (is js : List Instr) (r : Words) (w : Contents) → after_w
 after_w-append [] js r w = refl
 after_w-append (i ∷ is) js r w = after_w-append is js (does_r i r w) (does_w i r w)
 
--- The byte or word loaded from a word is itself a word, and a word stays a word after a store of a byte or a word into it.
+-- The byte or word loaded from a machine word is itself a machine word. A machine word into which a byte or a word is
+-- stored is still a machine word.
 pub part_word : (width : Width) (address word : ℕ) → IsWord word → IsWord (loaded_part width address word)
 part_word OneWord address word is = is
 part_word OneByte address word is = let small = byte-small word (address % 4) in omega (arith, small)

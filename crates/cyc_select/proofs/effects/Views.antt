@@ -1,4 +1,4 @@
--- The effect of an ordinary instruction on registers and memory, where both are viewed as functions from numbers to words.
+-- The effect of an ordinary instruction on registers and memory, viewed as functions from register numbers and from addresses to words.
 use Rattle.std.proofs.Common.{◌≡◌, ◌≢◌, ℕ, ◌+◌, ◌-◌, ◌%◌, ◌^◌, ◌<◌, ◌≤◌, false, List, [], length, refl, sym, ap, subst, ◌∙◌, arith, inl, inr}
 use Rattle.std.specs.Prelude.{◌==◌, if◌then◌else◌, slice_set, slice_index}
 use Rattle.std.proofs.lemmas.Bool.{cases_eq, cond-false}
@@ -104,7 +104,7 @@ does_w i r w = w
 abbrev pub IsWritable : ℕ → Type 0
 IsWritable number = (number == 0) ≡ false
 
--- `IsSafe` holds if an instruction, executed with these registers, does not trap and has its usual effect.
+-- `IsSafe` holds if an instruction, executed with these registers, does not trap and has the effect that its definition gives.
 abbrev pub IsSafe : (globals stack : ℕ) → Instr → Words → Type 0
 IsSafe globals stack (Immediate op target source half) r = IsWritable target.number
 IsSafe globals stack (LoadUpper target half) r = IsWritable target.number
@@ -161,7 +161,7 @@ set_register core n v m wide below writable =
     ]
 
 module _ (globals stack : ℕ) (c : Configuration) (r : Words) (w : Contents) (view : View globals stack c r w) where
-  -- After a register is written, the configuration has the registers in which this one is replaced, and the same memory.
+  -- After a register is written, the configuration's registers are the old ones with this register replaced, and its memory is the same.
   pub view_put : (n v word line : ℕ) → n < 32 → IsWritable n → v ≡ word
       → View globals stack (record c { registers = (with_register (core_of c) n v).registers; line = line }) (put r n word) w
   view_put n v word line below writable same = record {
@@ -182,7 +182,7 @@ module _ (globals stack : ℕ) (c : Configuration) (r : Words) (w : Contents) (v
     store = view.store;
   }
 
-  -- The relation `View` does not depend on the next line, the output and the input.
+  -- The relation `View` (a configuration has these registers and this memory) does not depend on the next line, the output and the input.
   pub view_seen : (line : ℕ) (output input : List ℕ) → View globals stack (record c { line = line; output = output; input = input }) r w
   view_seen line output input = record {
     wide = view.wide;
@@ -200,7 +200,7 @@ module _ (globals stack : ℕ) (c : Configuration) (r : Words) (w : Contents) (v
   pub view_at : (line : ℕ) → View globals stack (record c { line = line }) r w
   view_at line = view_seen line c.output c.input
 
-  -- After HI and LO are written, the configuration has the registers in which these two are replaced, and the same memory.
+  -- After HI and LO are written, the configuration's registers are the old ones with HI and LO replaced, and its memory is the same.
   pub view_product : (h l high low line : ℕ) → h ≡ high → l ≡ low → View globals stack (record c { high = h; low = l; line = line }) (put (put r 32 high) 33 low) w
   view_product h l high low line same_high same_low = record {
     wide = view.wide;
@@ -273,7 +273,8 @@ module _ (globals stack : ℕ) (c : Configuration) (r : Words) (w : Contents) (v
         | inr other ↦ put-other (cell (memory_of c)) a b word other ∙ (view.mem b b_at ∙ sym (put-other w.words a b word other))
       ]
 
-  -- If the store (the heap of regions) changes, the configuration has the same registers, and the memory with the new store.
+  -- If the store (the heap of regions) changes, the configuration's registers are the same, and its memory is the old one
+  -- with the new store.
   pub view_stored : (line : ℕ) (store other : StoreState) → other ≡ store → View globals stack (record c { store = other; line = line }) r (record w { store = store })
   view_stored line store other same = record {
     wide = view.wide;
@@ -291,7 +292,7 @@ module _ (globals stack : ℕ) (c : Configuration) (r : Words) (w : Contents) (v
     store = same;
   }
 
-  -- After a word of a live block is written, the configuration has the same registers, and the memory in which this word is replaced.
+  -- After a word of a live block is written, the configuration's registers are the same, and only this word of its memory is replaced.
   pub view_saved : (a old address v word line : ℕ) → IsLive w.store a old → address ≡ a → v ≡ word
       → View globals stack (record c {
         globals = (stored (memory_of c) (place_of (memory_of c) address) v).globals;
@@ -323,8 +324,8 @@ module _ (globals stack : ℕ) (c : Configuration) (r : Words) (w : Contents) (v
           ∙ (ap (λ (p : Place). stored (memory_of c) p v) (live_place a old live)
           ∙ ap (λ (x : ℕ). let m : machines.Memory = record (memory_of c) { store = saved c.store a x } in m) same)
 
--- After the store (the heap of regions) has written its result, the configuration has the registers
--- with this result, and the memory with the new store.
+-- After the store (the heap of regions) has answered a call, its result is in the configuration's
+-- registers, and the memory contains the new store.
 pub view_answered : (globals stack : ℕ) (c : Configuration) (r : Words) (w : Contents) → View globals stack c r w → (a : Answer) (line : ℕ) (store other : StoreState) → other ≡ store
     → View globals stack (record c { registers = answered_registers c a; store = other; line = line }) (answered_r a r) (record w { store = store })
 view_answered globals stack c r w view (Refused why) line store other same = view_stored globals stack c r w view line store other same

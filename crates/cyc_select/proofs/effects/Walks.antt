@@ -39,7 +39,7 @@ module _ (code : Labelled) (formed : IsFormed code) (addresses : ℕ → ℕ) (g
   Quiet out rest Late t = ((status_of t ≡ simulation.Running) × (output_of t ≡ out) × (input_of t ≡ rest)) ⊎ Late t
 
   -- `Walk` says that each run from `t` visits at least `least` lines, in ascending order between `lo` and `hi`, and reaches the goal. No
-  -- input is read before the state satisfies `Late`.
+  -- input is read before the state satisfies `Late`: the effect of the source step is visible.
   pub record Walk (least lo hi : ℕ) (out : List ℕ) (Late Goal : State → Type 0) (t : State) : Type 0 where
     pub places : List ℕ
     pub enough : least ≤ length places
@@ -99,7 +99,7 @@ module _ (code : Labelled) (formed : IsFormed code) (addresses : ℕ → ℕ) (g
   pub walk_from : {Late : State → Type 0} (n lo from hi : ℕ) (out : List ℕ) (Goal : State → Type 0) (t : State) → lo ≤ from → Walk n from hi out Late Goal t → Walk n lo hi out Late Goal t
   walk_from n lo from hi out Goal t below walk = record { places = walk.places; enough = walk.enough; rises = rises_from lo from hi walk.places below walk.rises; comes = walk.comes }
 
-  -- `Now` says that the run is at this line with these registers and this memory.
+  -- `Now` says that a configuration of a run is at the line `line`, with the registers `r` and the memory `w`.
   pub record Now (line : ℕ) (out rest : List ℕ) (r : Words) (w : Contents) (c : Configuration) : Type 0 where
     pub view : View globals stack c r w
     pub r_words : AreWords r
@@ -145,7 +145,7 @@ module _ (code : Labelled) (formed : IsFormed code) (addresses : ℕ → ℕ) (g
       (goes (moved_now k out input r w c i now fits (moved_view globals stack c r w now.view i safe))))
 
   -- A sequence of safe instructions followed by a walk (stretch of a run) is a walk. The relation `View` for the
-  -- final state of a walk does not depend on the next line.
+  -- final state of a walk (it has these registers and this memory) does not depend on the next line.
   pub walk_block : {Late : State → Type 0} (is : List Instr) (n k lo hi : ℕ) (out input : List ℕ) (Goal : State → Type 0) (r : Words) (w : Contents) (c : Configuration)
       → Now k out input r w c → Stands code k (ordinary is) → AreSafe globals stack is r w → lo ≤ k
       → ((d : Configuration) → Now (k + length is) out input (after_r is r w) (after_w is r w) d → Walk n (k + length is) hi out Late Goal (Running d))
@@ -414,8 +414,8 @@ module _ (code : Labelled) (formed : IsFormed code) (addresses : ℕ → ℕ) (g
     numbered : word_in c 2 ≡ service_number request
     numbered = now.view.reg 2 (omega arith) ∙ number
 
-    -- A `syscall` whose call the store (the heap of regions) serves, followed by a walk (stretch of a run),
-    -- is a walk. The lines visited after the call do not depend on the store's choice.
+    -- A `syscall` whose call the store (the heap of regions) serves, followed by a walk (stretch of a run), is a walk. The MIPS lines
+    -- visited after the call do not depend on the handle or address that the store chooses.
     pub walk_served : {Late : State → Type 0} (n : ℕ) (places : List ℕ) → refusal store call ≡ None
         → ((choice : services.Choice) → services.IsAllowed store call choice → HasAnswerWords (services.answer store call choice)) → n ≤ length places → Rises (suc k) hi places
         → ((choice : services.Choice) → services.IsAllowed store call choice → (d : Configuration)

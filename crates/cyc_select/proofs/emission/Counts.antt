@@ -1,4 +1,5 @@
--- The numbers of lines emitted for operands, plans and tests equal the counted ones, and are small.
+-- The numbers of lines emitted for operands, plans (how MIPS performs an operation) and tests equal
+-- the numbers counted for them, and are small.
 use Rattle.std.proofs.Common.{◌≡◌, ℕ, zero, suc, ◌+◌, ◌-◌, ◌*◌, ◌%◌, ◌^◌, ◌<◌, ◌≤◌, Bool, true, false, List, [], ◌∷◌, length, Option, None, Some, refl, sym, ap, ◌∙◌, arith, length-append}
 use Rattle.std.specs.Prelude.{◌==◌, nat_lt, if◌then◌else◌}
 use Rattle.std.proofs.lemmas.Bool.{false≢true}
@@ -40,7 +41,7 @@ use Rattle.cyc_isa.specs.declared.instr.MemoryOp.{MemoryOp}
 
 -- ---- upper bounds
 
--- Loading a constant word takes one line in three cases and two lines in all others.
+-- Loading a constant word takes at most two lines: one line if any of three tests on the word holds, otherwise two.
 word_either : (a b c : Bool) → (if a then 1 else (if b then 1 else (if c then 1 else 2))) ≤ 2
 word_either true b c = omega arith
 word_either false true c = omega arith
@@ -59,7 +60,7 @@ word_some word = go (fits_signed word) (nat_lt word (2 ^ 16)) (word % 2 ^ 16 == 
     go false false true = omega arith
     go false false false = omega arith
 
--- Loading an operand takes at least one line, and so does performing an operation.
+-- Loading an operand takes at least one MIPS line, and so does performing an operation.
 pub load_some : (o : Operand) → 0 < load_count o
 load_some (operands.Slot number) = omega arith
 load_some (operands.Word word) = word_some word
@@ -148,7 +149,7 @@ module _ (frame : Frame) where
   pub plan_small : (plan : Plan) (destination : ℕ) → plan_count frame plan destination ≤ 8
   plan_small plan destination = omega (arith, computed_small plan, outcome_small plan.outcome, keep_few destination)
 
-  -- A plan without a multiplication or division has at most seven lines.
+  -- A plan (how MIPS performs an operation) without a multiplication or division has at most seven lines.
 
   arithmetic_small : (destination : ℕ) (op : ArithmeticOp) (left right : Operand) (o : Outcome) → plan_count frame (arithmetic_plan op left right o) destination ≤ 7
   arithmetic_small destination op left right o = omega (arith, operand_small left, operand_small right, outcome_small o, keep_few destination)
@@ -201,7 +202,7 @@ pub argument_small : (o : Option Operand) → argument_count o ≤ operand_size 
 argument_small None = omega arith
 argument_small (Some operand) = omega (arith, load_small operand)
 
--- The lines that count open regions, with the lines that load the first operand, do not exceed the size reserved for a request.
+-- The lines that update the number of open regions, with those that load the first operand, do not exceed the size reserved for a request.
 pub regions_small : (request : Request) → argument_count (first_operand request) + regions_count request ≤ operand_size (first_operand request) + answer_count request
 regions_small (requests.OpenLexical destination) = omega arith
 regions_small (requests.CloseTo mark) = omega (arith, load_small mark)
@@ -356,7 +357,7 @@ length_brought : (again : Bool) (f : Frame) (source slot : ℕ) → length (brin
 length_brought false f source slot = length_give f source slot
 length_brought true f source slot = go (is_kept f slot) refl
   where
-    -- A word given to a slot whose home is a register alone takes one line.
+    -- Writing a word to a slot whose home is a register alone takes one line.
     given : (o : Option ℕ) → value_register f slot ≡ o → is_kept f slot ≡ false → length (give_to o f source slot) ≡ 1
     given None none unkept = absurd (false≢true (sym unkept ∙ memory_kept f slot none))
     given (Some register) has unkept = ap (λ (b : Bool). suc (length (if b then store_slot f (made_in f slot) slot ∷ [] else []))) unkept
@@ -365,7 +366,7 @@ length_brought true f source slot = go (is_kept f slot) refl
     go true kept = refl
     go false unkept = given (value_register f slot) refl unkept
 
--- If registers are reloaded afterwards, writing each result word to its slot takes one line.
+-- If registers are reloaded afterwards, writing each result word to its slot takes one MIPS line.
 pub length_results : (f : Frame) (slot : ℕ) (sources : List ℕ) → length (bring_all true f slot sources) ≡ length sources
 length_results f slot [] = refl
 length_results f slot (source ∷ sources) =
@@ -397,7 +398,7 @@ pub moves_some : (f : Frame) (destination source count : ℕ) → 0 < count → 
 moves_some f destination source zero some = absurd (omega (arith, some))
 moves_some f destination source (suc count) some = omega (arith, move_some f destination (operands.Slot source))
 
--- The lines of a move from one word on are the lines for this word plus those from the next word on.
+-- In a move of several words, the lines from one word on are those for this word plus those from the next word on.
 pub moves_next : (f : Frame) (destination source count word : ℕ) → word < count
     → moves_count f (destination + word) (source + word) (count - word)
     ≡ move_count f (destination + word) (operands.Slot (source + word)) + moves_count f (destination + (word + 1)) (source + (word + 1)) (count - (word + 1))
@@ -434,7 +435,7 @@ spills_few caller callee source slot (suc count) = omega (arith, one (passed_fro
     one None = unkept (is_kept caller source)
     one (Some register) = omega arith
 
--- The lines of the spills from one slot on are the lines for this slot plus those from the next slot on.
+-- When several slots are spilled, the number of lines from one slot on is that for this slot plus that from the next slot on.
 pub spills_next : (caller callee : Frame) (source count word : ℕ) → word < count
     → spills_count caller callee (source + word) word (count - word)
     ≡ spill_count caller callee (source + word) word + spills_count caller callee (source + (word + 1)) (word + 1) (count - (word + 1))
@@ -471,7 +472,7 @@ copies_few caller callee source slot (suc count) = omega (arith, one (passed_fro
         handed true = omega (arith, keep_few callee slot)
         handed false = give_small callee slot
 
--- The lines of the arguments from one on are the lines for this argument plus those from the next argument on.
+-- When arguments are passed, the number of MIPS lines from one argument on is that for this argument plus that from the next argument on.
 pub copies_next : (caller callee : Frame) (source count word : ℕ) → word < count
     → copies_count caller callee (source + word) word (count - word)
     ≡ pass_count caller callee (source + word) word + copies_count caller callee (source + (word + 1)) (word + 1) (count - (word + 1))

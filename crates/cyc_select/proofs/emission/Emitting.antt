@@ -1,4 +1,4 @@
--- The lines of a function are emitted piece by piece: appending the next piece keeps the invariant of the emitting loop.
+-- The MIPS lines of a function are emitted piece by piece: appending the next piece keeps the invariant of the emitting loop.
 use Rattle.std.proofs.Common.{◌≡◌, ℕ, suc, ◌+◌, ◌-◌, ◌*◌, ◌<◌, List, [], ◌∷◌, ◌++◌, drop, refl, ap, ◌∙◌, arith}
 use Rattle.cyc_words.proofs.Lists.{append_goes_on}
 use Rattle.cyc_isa.specs.declared.instr.Instr.{Instr}

@@ -1,4 +1,4 @@
--- The number of each line is the sum of the numbers of lines of the code before it.
+-- The line number at which a piece of code begins is the total number of MIPS lines of the code before it.
 use Rattle.std.proofs.Common.{◌≡◌, ℕ, zero, suc, ◌+◌, ◌<◌, ◌≤◌, Bool, true, false, List, [], ◌∷◌, ◌++◌, length, drop, take, Some, slice_get, refl, sym, ap, subst, ◌∙◌, inl, inr, arith}
 use Rattle.std.specs.Prelude.{sum_by, slice_index_or, if◌then◌else◌, ◌||◌}
 use Rattle.std.proofs.lemmas.Bool.{cases_lt}
@@ -61,7 +61,7 @@ losing_next i code = go (loses i)
     go true = omega arith
     go false = omega arith
 
--- Returns the number of words that the size of the code includes to save registers and to load parameters into them.
+-- Returns the number of words reserved in the size of a function's code to save registers and to load parameters into them.
 abbrev pub returning : List Instruction → ℕ
 returning code = if returns_any code then 14 else 0
 
@@ -89,7 +89,7 @@ is_saving program r frame is right = (is.saved, go frame.saved refl)
         let room : returning r.code ≡ 14 = ap (λ (b : Bool). if b then 14 else 0) (is.returning (omega (arith, some))) in
         omega (arith, room, is.most_saved, arrivals_few program r frame is right)
 
--- From this index on, each function saves no more registers than the size of its code reserves lines for.
+-- `AreSaved` says that each function from the index `first` on saves no more registers than the size of its code reserves lines for.
 abbrev pub AreSaved : List Frame → (first : ℕ) → List Routine → Type 0
 AreSaved frames first routines = (k : ℕ) → k < length routines → IsSaving (frame_at frames (first + k)) (slice_index_or routines k no_routine).code
 
@@ -108,7 +108,7 @@ are_saved program frames fit k below =
     let same : k ≡ 0 + k = omega arith in
     subst (λ (n : ℕ). IsSaving (frame_at frames n) (routine_at program k).code) same (is_saving program (routine_at program k) (frame_at frames k) (fit.each k below) (fit.homes k below))
 
--- An operator's code has at most as many lines as its size.
+-- The code of a binary operator has at most as many lines as the size reserved for this operator.
 operator_fits : (operator : BinaryOperator) → 11 ≤ operator_size operator
 operator_fits binary.Divide = omega arith
 operator_fits binary.Remainder = omega arith
@@ -152,7 +152,7 @@ function_count_small program frames function fit few index i = omega (arith, bod
     go true = omega arith
     go false = omega arith
 
--- For every function number, in range or not, few registers are reloaded after a call, and few are saved.
+-- For every function index, in range or not, at most 6 registers are reloaded after a call, and at most 7 are saved.
 pub function_reads_few : (program : Program) (frames : List Frame) → AreFrames program frames → (k : ℕ) → ReadsFew frames k
 function_reads_few program frames fit k = elim (cases_lt k (length program.functions)) [
   | inl below ↦ ((fit.homes k below).few, (fit.each k below).most_saved)
@@ -168,7 +168,7 @@ code_small program frames function fit few index [] = omega arith
 code_small program frames function fit few index (i ∷ code) =
     omega (arith, sum_by-cons instruction_size i code, function_count_small program frames function fit few index i, code_small program frames function fit few (suc index) code, losing_next i code, returning_next i code)
 
--- A function's lines, with those that save its registers, are at most as many as its size.
+-- A function's lines, with those that save its registers, are at most as many as the size computed for its plain code.
 pub routine_small : (program : Program) (frames : List Frame) (function : ℕ) → ReadsFew frames function → AreFew program → (code : List Instruction) → IsSaving (frame_at frames function) code
     → saving_count (frame_at frames function) + code_count program frames function 0 code ≤ sum_by instruction_size code
 routine_small program frames function fit few code saved =
@@ -209,7 +209,7 @@ line_fits program frames are fit few k below index =
 
 -- ---- properties of all functions of a well-formed program
 
--- For every function number, in range or not, the number of result words is at most that of one value.
+-- For every function index, in range or not, the function has at most as many result words as one value can have.
 routines_few : (routines : List Routine) → ((k : ℕ) → k < length routines → (slice_index_or routines k no_routine).results ≤ GREATEST_VALUE)
     → (k : ℕ) → (slice_index_or routines k no_routine).results ≤ GREATEST_VALUE
 routines_few [] few zero = omega arith

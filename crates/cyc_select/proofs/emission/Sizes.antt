@@ -51,7 +51,7 @@ words_ordinary : (is : List Instr) → all_words (ordinary is) ≡ length is
 words_ordinary [] = refl
 words_ordinary (i ∷ is) = omega (arith, sum_by-cons words_of (lines.Ordinary i) (ordinary is), words_ordinary is)
 
--- If lines stand at a place of the code, the words of this range of lines are the words of these lines.
+-- If a sequence of lines stands at a line number, this range of the code has as many machine words as the sequence.
 pub words_range : (code : Labelled) (a : ℕ) (ls : List Line) → Stands code a ls → sum_by (words_at code) (range_with_len a (length ls)) ≡ all_words ls
 words_range code a [] stands = refl
 words_range code a (l ∷ ls) (first, rest) =
@@ -208,7 +208,7 @@ module _ (program : Program) (frames : List Frame) (reads_few : (function : ℕ)
       go true = omega arith
       go false = omega arith
 
-  -- A function's code, with the words that save registers, takes at most as many words as its size.
+  -- A function's code, with the words that save registers, takes at most as many machine words as the size computed for its plain code.
   pub code_words : (function index here : ℕ) (code : List Instruction) → all_words (code_lines program frames function index here code) + losing code + returning code ≤ sum_by instruction_size code
   code_words function index here [] = omega arith
   code_words function index here (i ∷ code) =

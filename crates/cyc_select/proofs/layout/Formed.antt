@@ -1,4 +1,4 @@
--- Each line of the selected code is well-formed, and each part of it has few words.
+-- Each MIPS line of the selected code is well-formed, and each piece of this code takes few machine words.
 use Rattle.std.proofs.Common.{◌≡◌, ℕ, zero, suc, ◌+◌, ◌-◌, ◌*◌, ◌/◌, ◌%◌, ◌^◌, ◌<◌, ◌≤◌, Bool, true, false, List, [], ◌∷◌, ◌++◌, length, take, Option, None, Some, slice_get, refl, ap, subst, ◌∙◌, arith}
 use Rattle.std.specs.Prelude.{◌==◌, if◌then◌else◌, slice_index_or}
 use Rattle.std.specs.List.{AllByRecursion}
@@ -87,7 +87,7 @@ module _ (program : Program) (well : IsWellFormed program) (words : HasWords pro
   abbrev Formed : List Line → Type 0
   Formed ls = AllByRecursion (IsFormedLine line_count) ls
 
-  -- The lines of each instruction that is not idle lie within the code.
+  -- The MIPS lines of each instruction that needs machine code lie within the emitted code.
   line_known : (function index : ℕ) (i : Instruction) → instruction_at program (record { function = function; index = index }) ≡ Some i → is_idle (frame_at frames function) index i ≡ false
       → instruction_line program frames function index + body_count program frames function i ≤ line_count
   line_known function index i at busy =
@@ -131,7 +131,7 @@ module _ (program : Program) (well : IsWellFormed program) (words : HasWords pro
         let four : ending_count program function ≡ 4 = ap (λ (b : Bool). if b then 4 else 0) is in
         ((omega (arith, long, four)), ((loaded_formed line_count frame routine within (value_register frame value) ARGUMENT value (omega (arith, fits, one))).0, ((refl, (omega arith)), ((refl, tt), tt))))
 
-    -- The lines that save and restore callee-saved registers are well-formed.
+    -- The MIPS lines that save and restore callee-saved registers are well-formed.
     saved_fits : (j : ℕ) → j < 7 → 4 * (frame.first_saved + j) < 2 ^ 16
     saved_fits j below = (let f = fit.each function known in let inside = f.saved_inside j below in omega (arith, inside, f.small))
 
@@ -143,7 +143,7 @@ module _ (program : Program) (well : IsWellFormed program) (words : HasWords pro
     restores_formed j zero few = tt
     restores_formed j (suc count) few = ((refl, saved_fits j (omega (arith, few))), restores_formed (suc j) count (omega (arith, few)))
 
-    -- The line that saves the return address is well-formed.
+    -- The MIPS line that saves the return address is well-formed.
     way_formed : Formed (ordinary (way_code frame))
     way_formed = go frame.saves
       where
@@ -231,7 +231,7 @@ module _ (program : Program) (well : IsWellFormed program) (words : HasWords pro
     stays (plain.StoreGlobal global source) x is = refl
     stays i x is = absurd (none-some x is)
 
-    -- A line hoisted before a branch is well-formed, and so is the label to which the branch then jumps.
+    -- A MIPS line hoisted before a branch is well-formed, and so is the label to which the branch then jumps.
     module _ (target : ℕ) (condition : Condition) (x : Instr) (its : Hoists program frames function target condition x) where
       hoisted_formed : IsFormedLine line_count (lines.Ordinary x)
       hoisted_formed =
@@ -245,8 +245,8 @@ module _ (program : Program) (well : IsWellFormed program) (words : HasWords pro
           let counted = ap (λ (b : Bool). (if b then 0 else body_count program frames function its.i) + after_count program frames function its.i) its.busy in
           omega (arith, target_known function (target + 1) further, line_next program frames function target its.i its.at, counted, some)
 
-    -- `IsFormedBy` says nothing of the lines of `Enter`, because its branch jumps to the first line of the next instruction. The lemma
-    -- `place_formed` proves that this line exists.
+    -- `IsFormedBy` says nothing of the lines of an `Enter` instruction (a check for stack space), because its branch jumps to the next
+    -- instruction's first line. The lemma `place_formed` proves that the line to which the branch of `Enter` jumps exists.
     abbrev IsFormedBy : Instruction → List Line → Type 0
     IsFormedBy (plain.Enter callee) ls = Unit {0}
     IsFormedBy i ls = Formed ls

@@ -1,4 +1,4 @@
--- The lines that read slots, compute and write slots are well-formed. The lines of moves, loads and stores are well-formed too.
+-- The MIPS lines that read slots, compute and write slots are well-formed. The MIPS lines of moves, loads and stores are well-formed too.
 use Rattle.std.proofs.Common.{◌≡◌, ℕ, zero, suc, ◌+◌, ◌-◌, ◌/◌, ◌%◌, ◌^◌, ◌<◌, ◌≤◌, Bool, true, false, List, [], ◌∷◌, ◌++◌, length, Option, None, Some, refl, arith}
 use Rattle.std.specs.Prelude.{◌==◌, ◌&&◌, nat_lt, if◌then◌else◌}
 use Rattle.std.specs.List.{AllByRecursion}
@@ -194,7 +194,7 @@ module _ (line_count : ℕ) where
 
     -- ---- operands, plans and tests
 
-    -- `IsThere` says that an operand is an existing slot or a constant that is a word.
+    -- `IsThere` says that an operand is an existing slot or a constant that fits a machine word.
     abbrev pub IsThere : Operand → Type 0
     IsThere o = IsOperand routine o × IsOfWord o
 
@@ -218,7 +218,7 @@ module _ (line_count : ℕ) where
     operands_formed left right l r =
         formed_append (operand_code frame FIRST left) (operand_code frame SECOND right) (operand_formed FIRST left l) (operand_formed SECOND right r)
 
-    -- `IsPlanThere` says that the operands of a plan exist and its immediate fits 16 bits.
+    -- `IsPlanThere` says that the operands of a plan (how MIPS performs an operation) exist and its immediate fits 16 bits.
     abbrev IsPlanThere : Plan → Type 0
     IsPlanThere plan = IsThere plan.left × IsThere plan.right × HalfFits plan.operation
 

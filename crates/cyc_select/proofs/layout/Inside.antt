@@ -80,7 +80,7 @@ module _ (program : Program) (well : IsWellFormed program) (frames : List Frame)
     (stand : (function index : ℕ) (i : Instruction) → instruction_at program (record { function = function; index = index }) ≡ Some i
     → Stands code (instruction_line program frames function index) (place_lines program frames function index (instruction_line program frames function index) i ++ following program frames function i))
     (long : (function line : ℕ) (i : Instruction) → length (body program frames function line i) ≡ body_count program frames function i) where
-  -- The lines of an instruction that is not idle stand at the line counted for this instruction.
+  -- The MIPS lines of an instruction that needs machine code stand at the line number counted for this instruction.
   pub body_stands : (function index : ℕ) (i : Instruction) → instruction_at program (record { function = function; index = index }) ≡ Some i → is_idle (frame_at frames function) index i ≡ false
       → Stands code (instruction_line program frames function index) (body program frames function (instruction_line program frames function index) i ++ following program frames function i)
   body_stands function index i at busy =
@@ -122,7 +122,7 @@ module _ (program : Program) (well : IsWellFormed program) (frames : List Frame)
           omega (arith, further, below)
       go j there is = absurd (let e : false ≡ true = is in cc)
 
-  -- The line counted for each code position exists in the code: it belongs to this position or to a later one.
+  -- The MIPS line counted for each code position exists in the code: it belongs to this position or to a later one.
   pub place_inside : (function index : ℕ) → index < length (routine_at program function).code → instruction_line program frames function index < length code.lines
   place_inside function index below = go (length (routine_at program function).code - suc index) index (omega (arith, below))
     where

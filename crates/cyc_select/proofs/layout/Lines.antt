@@ -8,7 +8,7 @@ use Rattle.cyc_frame.specs.inside.Layout.{frame_at}
 use Rattle.cyc_select.specs.inside.Slots.{saving_count}
 use Rattle.cyc_select.specs.inside.Counts.{count_of, code_count, function_line, instruction_line}
 
--- The lines up to and including an instruction are those before it plus the instruction's own lines.
+-- The number of MIPS lines up to and including an instruction is the number before it plus the number of the instruction's own lines.
 lines_count_next : (program : Program) (frames : List Frame) (function first : ℕ) (code : List Instruction) (k : ℕ) (i : Instruction) → slice_get code k ≡ Some i
     → code_count program frames function first (take (suc k) code) ≡ code_count program frames function first (take k code) + count_of program frames function (first + k) i
 lines_count_next program frames function first [] k i at = absurd (let e : None ≡ Some i = at in cc)
@@ -20,7 +20,7 @@ lines_count_next program frames function first (x ∷ code) (suc k) i at =
     let here : suc first + k ≡ first + suc k = omega arith in
     omega (arith, lines_count_next program frames function (suc first) code k i at, ap (λ (n : ℕ). count_of program frames function n i) here)
 
--- The lines of the next instruction begin where those of the current instruction end.
+-- The MIPS lines of the next instruction begin where those of the current instruction end.
 pub line_next : (program : Program) (frames : List Frame) (function index : ℕ) (i : Instruction) → instruction_at program (record { function = function; index = index }) ≡ Some i
     → instruction_line program frames function (index + 1) ≡ instruction_line program frames function index + count_of program frames function index i
 line_next program frames function index i at =
@@ -34,6 +34,6 @@ line_next program frames function index i at =
       ap (λ (n : ℕ). count_of program frames function n i) here,
     )
 
--- The lines of a function's first instruction begin after the function's saves, or at its first line if it saves nothing.
+-- The MIPS lines of a function's first instruction begin after the function's saves, or at its first line if it saves nothing.
 pub line_first : (program : Program) (frames : List Frame) (function : ℕ) → instruction_line program frames function 0 ≡ function_line program frames function + saving_count (frame_at frames function)
 line_first program frames function = omega arith

@@ -9,7 +9,7 @@ use Rattle.cyc_select.specs.inside.Slots.{saving_count}
 use Rattle.cyc_select.specs.inside.Counts.{after_count, place_count, instruction_line}
 use Rattle.cyc_select.proofs.layout.Lines.{line_next, line_first}
 
--- Returns the number of lines that follow a call, which belong to the next code position.
+-- Returns the number of MIPS lines that follow a call, which belong to the next code position.
 abbrev pub after_of : Program → List Frame → (function : ℕ) → Option Instruction → ℕ
 after_of program frames function (Some i) = after_count program frames function i
 after_of program frames function None = 0
@@ -29,7 +29,7 @@ own_of program frames place =
     (instruction_line program frames place.function place.index - previous_count program frames place.function code place.index)
     (previous_count program frames place.function code place.index + body_of program frames place.function place.index (slice_get code place.index))
 
--- If lines that belong to a code position stand before its counted line, these lines exist.
+-- If lines that belong to a code position stand before the line counted for this position, these lines exist in the emitted code.
 pub previous_fits : (program : Program) (frames : List Frame) (function index : ℕ) → previous_count program frames function (routine_at program function).code index ≤ instruction_line program frames function index
 previous_fits program frames function zero = omega (arith, line_first program frames function)
 previous_fits program frames function (suc index) = go (slice_get (routine_at program function).code index) refl

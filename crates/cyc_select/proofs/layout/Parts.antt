@@ -1,4 +1,4 @@
--- Each line of the emitted code belongs to the start code or to exactly one position of the plain program.
+-- Each MIPS line of the emitted code belongs to the start code or to exactly one position of the plain program.
 use Rattle.std.proofs.Common.{◌≡◌, ℕ, zero, suc, ◌+◌, ◌-◌, ◌<◌, ◌≤◌, true, false, List, [], ◌∷◌, ◌++◌, length, map, take, Option, Some, slice_get, refl, sym, ap, subst, ◌∙◌, arith, length-append}
 use Rattle.std.specs.Prelude.{slice_index_or, flat_map, IsSomeAnd}
 use Rattle.std.specs.List.{range_with_len}
@@ -117,7 +117,7 @@ module _ (program : Program) (well : IsWellFormed program) (frames : List Frame)
           let previous : previous_count program frames function (routine_at program function).code (k + 1) ≡ after_count program frames function i = ap (previous_count program frames function (routine_at program function).code) one ∙ ap (after_of program frames function) at in
           omega (arith, next, previous, first_before function known (k + 1) n (omega (arith, long)))
 
-  -- The lines of a function are those that belong to the positions of its plain code.
+  -- The MIPS lines of a function are those that belong to the positions of its plain code.
   pub own_function : (function : ℕ) → function < length program.functions
       → flat_map (own_of program frames) (map (place_in function) (range_with_len 0 (length (routine_at program function).code))) ≡ range_with_len (function_line program frames function) (function_count program frames function (routine_at program function))
   own_function function known =

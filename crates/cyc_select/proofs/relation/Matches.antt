@@ -81,8 +81,8 @@ module _ (program : Program) (well : IsWellFormed program) (frames : List Frame)
     pub standing : Standing program frames addresses pages calls c r w base back (stage_of frames c) c.active.slots
     pub caches : Caches program frames c.active.function c.active.next r c.active.slots
 
-  -- `Entered` relates states after a call: the lines that save registers come before those of the function's first instruction. The
-  -- arguments are where callers put them.
+  -- `Entered` relates states after a call: the lines that save registers come before those of the function's first instruction.
+  -- After the call the arguments are where callers put them.
   pub record Entered (c : Configuration) (t : State) : Type 0 where
     pub run : labelled.Configuration
     pub r : Words
@@ -139,7 +139,7 @@ module _ (program : Program) (well : IsWellFormed program) (frames : List Frame)
     pub slots : c.active.slots ≡ put (put waiting first (r 4)) (suc first) (r 5)
 
   -- `Begun` relates states in which the first line of this instruction was already executed, as a copy hoisted before the branch to it.
-  -- `before` is the configuration before that line.
+  -- `before` is the configuration before the execution of this first line.
   pub record Begun (c : Configuration) (t : State) : Type 0 where
     pub run : labelled.Configuration
     pub before : labelled.Configuration
@@ -177,7 +177,8 @@ module _ (program : Program) (well : IsWellFormed program) (frames : List Frame)
   pub within : (d : Configuration) → demand d.store ≤ pages → suc (length d.frames) ≤ calls → is_within pages calls (states.Running d) ≡ true
   within d paged deep = and_from _ _ (le-leb (demand d.store) pages paged) (le-leb (suc (length d.frames)) calls deep)
 
-  -- If an allowed choice of an instruction's effect stays within the limits, the plain machine performs this step.
+  -- If a choice of an instruction's unspecified results is allowed, and the effect stays within the limits, the
+  -- plain machine performs this step.
   pub steps_to : (c : Configuration) (choice : Choice) (i : Instruction) (next : states.State) → IsAllowed program (states.Running c) choice
       → instruction_at program (states.place_of (states.Running c)) ≡ Some i → performed program choice c i ≡ next → is_within pages (limit_of (Some i) calls) next ≡ true → Step program pages calls (states.Running c) next
   steps_to c choice i next allowed at does keeps =
@@ -192,7 +193,7 @@ module _ (program : Program) (well : IsWellFormed program) (frames : List Frame)
 
   module _ (c : Configuration) (i : Instruction) (at : instruction_at program (states.place_of (states.Running c)) ≡ Some i) (free : calls_nothing i ≡ true) (r : Words) (w : Contents) (base back : ℕ)
       (s : Standing program frames addresses pages calls c r w base back (stage_of frames c) c.active.slots) (caches : Caches program frames c.active.function c.active.next r c.active.slots) where
-    -- A write to a slot, in memory only if the slot's home includes memory, keeps the relation between the two machines.
+    -- A write to a slot, in memory only if the slot's home includes memory, keeps the relation between the labelled and the plain machine.
     put_slot : (b : Bool) (slot word : ℕ) → slot < (routine_at program c.active.function).slots → is_kept (frame_at frames c.active.function) slot ≡ b
         → Standing program frames addresses pages calls c r (if b then written w (base + slot_offset (frame_at frames c.active.function) slot) word else w) base back (stage_of frames c) (put c.active.slots slot word)
     put_slot true slot word below kept = standing_slot program well frames fit addresses pages calls few c r w base back (stage_of frames c) c.active.slots s slot word below
@@ -234,7 +235,8 @@ module _ (program : Program) (well : IsWellFormed program) (frames : List Frame)
           caches = made_caches program frames c.active.function (fit.homes c.active.function s.known) c.active.next destination word r r' c.active.slots i at unwritten gets led result others caches;
         }))
 
-    -- A step that stays in the function's code and may print leads to a state related by `Ready`.
+    -- A step that stays in the function's code and may print leads to a state in which the next
+    -- instruction's first line comes next (`Ready`).
     pub ready_by : (d : Configuration) (line : ℕ) (run : labelled.Configuration) (r' : Words) (w' : Contents)
         → d.active.function ≡ c.active.function → d.active.base ≡ c.active.base → d.active.handlers ≡ c.active.handlers → d.active.slots ≡ c.active.slots → d.frames ≡ c.frames → d.globals ≡ c.globals → d.store ≡ c.store → d.input ≡ c.input
         → line ≡ instruction_line program frames d.active.function d.active.next

@@ -146,7 +146,7 @@ module _ (program : Program) (a word : ℕ) where
       go (Some number) others = (here, based)
       go None others = (here, others)
 
-  -- The handler records of the calls are unchanged if the chain of records that they continue is.
+  -- The handler records of a call stay correct if the condition on the older record, to which its oldest record is linked, is weakened.
   records_map : (frames : List Frame) (addresses : ℕ → ℕ) (base function : ℕ) (rest rest' : ℕ → Type 0) → ((n : ℕ) → rest n → rest' n) → (newest : ℕ) (handlers : List states.Handler)
       → AreRecords program frames addresses base function rest newest handlers → AreRecords program frames addresses base function rest' newest handlers
   records_map frames addresses base function rest rest' goes newest [] records = goes newest records
@@ -295,7 +295,7 @@ module _ (program : Program) (well : IsWellFormed program) (frames : List Frame)
     pub at : IsWordAt sort globals_length (words_per_call * calls) w a word
     pub standing : (new : ℕ) → IsWord new
         → Standing program frames addresses pages calls (with_memory program c a new) r (placed sort w a new) base back stage (with_memory program c a new).active.slots
-    -- A write through the address does not change a slot that has a register.
+    -- A write through an address of the plain program does not change a slot that has a register.
     pub values : (new slot k : ℕ) → value_register (frame_at frames c.active.function) slot ≡ Some k → (with_memory program c a new).active.slots slot ≡ c.active.slots slot
 
   abbrev Stands : Configuration → Contents → Type 0

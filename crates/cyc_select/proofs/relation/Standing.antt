@@ -36,7 +36,7 @@ abbrev pub in_frame_at : Stage → Bool
 in_frame_at entering = false
 in_frame_at (under_way in_frame) = in_frame
 
--- Returns the number of registers that a call has saved at a stage.
+-- Returns the number of registers that a call has saved at a stage: none if it was just entered, otherwise all that it saves.
 abbrev pub saved_at : Stage → Frame → ℕ
 saved_at entering frame = 0
 saved_at (under_way in_frame) frame = frame.saved
@@ -45,7 +45,8 @@ saved_at (under_way in_frame) frame = frame.saved
 abbrev pub stage_of : List Frame → Configuration → Stage
 stage_of frames c = under_way (frame_at frames c.active.function).saves
 
--- `Standing` says that the active call, with these slots, and the waiting calls are in the machine's registers and memory.
+-- `Standing` says that the registers and the memory of the labelled machine represent the active call, with the given slot
+-- values, and the waiting calls.
 pub record Standing (program : Program) (frames : List Frame) (addresses : ℕ → ℕ) (pages calls : ℕ) (c : Configuration) (r : Words) (w : Contents) (base back : ℕ) (stage : Stage) (slots : Words) : Type 0 where
   pub known : c.active.function < length program.functions
   pub base_is : r FRAME ≡ base
@@ -139,8 +140,8 @@ module _ (program : Program) (well : IsWellFormed program) (frames : List Frame)
 
     -- ---- changes that keep the relation
 
-    -- `Standing` is kept if registers change that do not hold the frame, the lowest frame, the
-    -- return address or an unsaved callee-saved word.
+    -- `Standing` is kept if registers change that hold neither the current or the lowest frame's
+    -- address, nor the return address, nor an unsaved callee-saved word.
     pub standing_registers : (r' : Words) → r' 0 ≡ r 0 → r' FRAME ≡ r FRAME → r' LOWEST ≡ r LOWEST → (in_frame_at stage ≡ false → r' RETURN_ADDRESS ≡ r RETURN_ADDRESS) → lasting r' ≡ lasting r
         → ((j : ℕ) → saved_at stage (frame_at frames c.active.function) ≤ j → j < 7 → preserved_of r' j ≡ preserved_of r j) → Standing program frames addresses pages calls c r' w base back stage slots
     standing_registers r' zero_same base_same lowest_same back_same lasts_same preserved_same = record {
@@ -164,7 +165,7 @@ module _ (program : Program) (well : IsWellFormed program) (frames : List Frame)
       middle = middle_lasts r' r lasts_same ∙ s.middle;
     }
 
-    -- `Standing` is kept if the active call moves to another position of its code.
+    -- `Standing` (registers and memory represent the calls) is kept if the active call moves to another position of its code.
     pub standing_at : (d : Configuration) → d.active.function ≡ c.active.function → d.active.base ≡ c.active.base → d.active.handlers ≡ c.active.handlers → d.frames ≡ c.frames → d.globals ≡ c.globals → d.store ≡ c.store → AllByRecursion IsWord d.input
         → Standing program frames addresses pages calls d r w base back stage slots
     standing_at d function_same place_same handlers_same frames_same globals_same store_same input = record {
@@ -196,7 +197,8 @@ module _ (program : Program) (well : IsWellFormed program) (frames : List Frame)
       middle = s.middle;
     }
 
-    -- `Standing` is kept if the active call's handlers and registers that it does not concern change.
+    -- `Standing` (registers and memory represent the calls) is kept if the active call's handlers
+    -- change, and registers that this relation does not mention.
     pub standing_handlers : (handlers : List states.Handler) (r' : Words) → r' 0 ≡ r 0 → r' FRAME ≡ r FRAME → r' LOWEST ≡ r LOWEST → r' RETURN_ADDRESS ≡ r RETURN_ADDRESS → r' REGIONS ≡ r REGIONS → r' GLOBALS ≡ r GLOBALS
         → ((j : ℕ) → saved_at stage (frame_at frames c.active.function) ≤ j → j < 7 → preserved_of r' j ≡ preserved_of r j)
         → IsNewest program frames addresses (r' HANDLERS) base c.active.function handlers c.frames
@@ -241,7 +243,7 @@ module _ (program : Program) (well : IsWellFormed program) (frames : List Frame)
     abbrev global_at : ℕ → ℕ
     global_at global = data_base + 4 * global
 
-    -- `Standing` is kept if a slot's word is written to its place in the frame.
+    -- `Standing` (registers and memory represent the calls) is kept if a slot's word is written to its word of the frame.
     pub standing_slot : (slot word : ℕ) → slot < (routine_at program c.active.function).slots
         → Standing program frames addresses pages calls c r (written w (base + slot_offset (frame_at frames c.active.function) slot) word) base back stage (put slots slot word)
     standing_slot slot word below = record {
@@ -277,7 +279,7 @@ module _ (program : Program) (well : IsWellFormed program) (frames : List Frame)
       middle = s.middle;
     }
 
-    -- `Standing` is kept if only slots change whose home is a register alone.
+    -- `Standing` (registers and memory represent the calls) is kept if only slots change whose home is a register alone.
     pub standing_unkept_words : (slots' : Words) → ((slot : ℕ) → is_kept (frame_at frames c.active.function) slot ≡ true → slots' slot ≡ slots slot)
         → Standing program frames addresses pages calls c r w base back stage slots'
     standing_unkept_words slots' same = record {
@@ -301,7 +303,7 @@ module _ (program : Program) (well : IsWellFormed program) (frames : List Frame)
       middle = s.middle;
     }
 
-    -- `Standing` is kept if one slot changes whose home is a register alone.
+    -- `Standing` (registers and memory represent the calls) is kept if one slot changes whose home is a register alone.
     pub standing_unkept : (slot word : ℕ) → is_kept (frame_at frames c.active.function) slot ≡ false
         → Standing program frames addresses pages calls c r w base back stage (put slots slot word)
     standing_unkept slot word unkept = standing_unkept_words (put slots slot word) (λ other other_kept. elim (cases_eq other slot) [
@@ -309,7 +311,7 @@ module _ (program : Program) (well : IsWellFormed program) (frames : List Frame)
       | inr apart ↦ put-other slots slot other word apart
     ])
 
-    -- `Standing` holds for a function after the saves at its entry.
+    -- `Standing` (registers and memory represent the calls) holds for a function after the saves at its entry.
     pub standing_begun : (w' : Contents) (in_frame : Bool)
         → ((a : ℕ) → a ≢ return_at → ((j : ℕ) → j < 7 → a ≢ base + 4 * ((frame_at frames c.active.function).first_saved + j)) → w'.words a ≡ w.words a) → w'.store ≡ w.store
         → IsBack in_frame (frame_at frames c.active.function) r w' base back
@@ -346,7 +348,8 @@ module _ (program : Program) (well : IsWellFormed program) (frames : List Frame)
       middle = s.middle;
     }
 
-    -- `Standing` is kept if the store (the heap of regions) changes and the register with the number of open lexical regions is updated.
+    -- `Standing` (registers and memory represent the calls) is kept if the store changes and the register with the number of open
+    -- lexical regions is updated.
     pub standing_store : (store : StoreState) (r' : Words) → r' 0 ≡ r 0 → r' FRAME ≡ r FRAME → r' LOWEST ≡ r LOWEST → r' RETURN_ADDRESS ≡ r RETURN_ADDRESS → r' HANDLERS ≡ r HANDLERS
         → r' REGIONS ≡ lexical_count store.regions % 2 ^ 32 → r' GLOBALS ≡ r GLOBALS → IsLaid pages store
         → ((j : ℕ) → saved_at stage (frame_at frames c.active.function) ≤ j → j < 7 → preserved_of r' j ≡ preserved_of r j)
@@ -372,7 +375,7 @@ module _ (program : Program) (well : IsWellFormed program) (frames : List Frame)
       middle = middle_same ∙ s.middle;
     }
 
-    -- `Standing` is kept by a write to a word of a live block.
+    -- `Standing` (registers and memory represent the calls) is kept by a write to a word of a live block.
     pub standing_saved : (address word : ℕ) → IsWord word
         → Standing program frames addresses pages calls (record c { store = saved c.store address word }) r (saved_in w address word) base back stage slots
     standing_saved address word is_word = record {
@@ -396,7 +399,7 @@ module _ (program : Program) (well : IsWellFormed program) (frames : List Frame)
       middle = s.middle;
     }
 
-    -- `Standing` is kept by a write to a global.
+    -- `Standing` (registers and memory represent the calls) is kept by a write to a global.
     pub standing_global : (global word : ℕ) → global < length program.globals
         → Standing program frames addresses pages calls (record c { globals = put c.globals global word }) r (written w (data_base + 4 * global) word) base back stage slots
     standing_global global word below = record {

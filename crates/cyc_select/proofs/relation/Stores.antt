@@ -195,8 +195,8 @@ marks_few s mark free = leb-true mark (lexical_count s.regions) (then-none (nat_
 
 -- ---- the store
 
--- `IsLaid` says that a store of `pages` pages is sound: its blocks lie in the pages, its contents are words, and it uses at most `pages`
--- pages.
+-- `IsLaid` says that a store of `pages` pages is sound: its blocks lie in the pages, its stored values are machine words, and it uses at
+-- most `pages` pages.
 pub record IsLaid (pages : ℕ) (store : StoreState) : Type 0 where
   pub has : store.pages ≡ pages
   pub few : pages ≤ MOST_PAGES
@@ -204,7 +204,7 @@ pub record IsLaid (pages : ℕ) (store : StoreState) : Type 0 where
   pub paged : demand store ≤ pages
   pub sound : IsSound store
 
--- A new store (the heap of regions) satisfies `IsLaid`.
+-- A new store (the heap of regions) satisfies `IsLaid`, the soundness condition of stores.
 pub new_laid : (pages : ℕ) (store : StoreState) → IsNew pages store → 1 ≤ pages → pages ≤ MOST_PAGES → IsLaid pages store
 new_laid pages store (memory, words, is) some few =
     subst (IsLaid pages) (sym is) (record { has = refl; few = few; placed = (tt, (tt, tt)); paged = some; sound = start-sound pages memory words some })
@@ -228,7 +228,7 @@ saved_laid pages store address word is_word laid = go (word_at store address) (s
     go None sound = laid
     go (Some old) sound = record { has = laid.has; few = laid.few; placed = laid.placed; paged = laid.paged; sound = sound }
 
--- If the store (the heap of regions) satisfies `IsLaid`, it still does after it has served a call.
+-- If the store (the heap of regions) satisfies `IsLaid`, the soundness condition of stores, it still does after it has served a call.
 pub served_laid : (pages : ℕ) (store : StoreState) (call : Call) (choice : services.Choice) → refusal store call ≡ None → services.IsAllowed store call choice → IsLaid pages store
     → IsLaid pages (served store call choice)
 served_laid pages store call choice free allowed laid =

@@ -121,7 +121,7 @@ module _ (program : Program) (frames : List Frame) (function : ℕ) (right : Are
       → Caches program frames function index r slots → Caches program frames function (index + 1) r' (copied slots source count slots destination)
   moved_caches index destination source count r r' slots at given others caches slot k has wanted = go (is_among destination count slot) refl
     where
-      -- No other slot that the move writes has the register of this slot.
+      -- If a move writes several slots and one of them has a register, no other slot that the move writes has the same register.
       only : (j : ℕ) → j < count → value_register (frame_at frames function) (destination + j) ≡ Some k → slot ≡ destination + j
       only j below there =
           right.made index (index + 1) slot (destination + j) k (plain.MoveWords destination source count) at
@@ -145,7 +145,7 @@ module _ (program : Program) (frames : List Frame) (function : ℕ) (right : Are
             | inr above ↦ copied-above slots slots source count destination slot above
           ]))
 
-  -- An instruction bars no slot that has a register from having one.
+  -- If a slot has a register, no instruction of its function forbids that this slot has one.
   pub unbarred : (index slot k : ℕ) (i : Instruction) → IsAt index i → value_register (frame_at frames function) slot ≡ Some k → bars i slot ≡ false
   unbarred index slot k i at has = go (bars i slot) refl
     where
@@ -180,7 +180,7 @@ module _ (globals stack : ℕ) (frame : Frame) (base : ℕ) (w : Contents) where
   abbrev word_there : ℕ → ℕ
   word_there slot = w.words (memory_address base (slot_offset frame slot))
 
-  -- `AreReloaded` describes the effect of the lines that reload registers from memory.
+  -- `AreReloaded` describes the effect of the MIPS lines that reload registers from memory.
   pub record AreReloaded (slot : ℕ) (hs : List Home) (q : Words) : Type 0 where
     pub safe : AreSafe globals stack (reloads_from frame slot hs) q w
     pub memory : after_w (reloads_from frame slot hs) q w ≡ w
@@ -263,13 +263,13 @@ module _ (globals stack : ℕ) (frame : Frame) (base : ℕ) (w : Contents) where
           ∙ ap (λ (n : ℕ). w.words (memory_address base (slot_offset frame n))) (let e : slot ≡ slot + 0 = omega arith in e))))
       in_rest rest (suc j) k both = rest.result j k both ∙ there_after slot j
 
--- `Reloaded` says that after the reloads, registers hold all live slots, if each live slot was in memory or in a register only. No
--- other register is written.
+-- `Reloaded` says that after the reloads, registers hold all live slots, if each live slot was in memory or in a register only.
+-- The reloads write no other register.
 pub record Reloaded (globals stack : ℕ) (program : Program) (frames : List Frame) (function index : ℕ) (q : Words) (w : Contents) (slots : Words) : Type 0 where
   pub safe : AreSafe globals stack (reloads (frame_at frames function)) q w
   pub memory : after_w (reloads (frame_at frames function)) q w ≡ w
   pub others : (n : ℕ) → n < 6 ⊎ 24 ≤ n → after_r (reloads (frame_at frames function)) q w n ≡ q n
-  -- The reloads leave a register unchanged that no slot has.
+  -- The MIPS lines that reload registers from the frame leave unchanged each register that is assigned to no slot.
   pub aside : (n : ℕ) → ((slot : ℕ) → value_register (frame_at frames function) slot ≡ Some n → ⊥) → after_r (reloads (frame_at frames function)) q w n ≡ q n
   pub caches : Caches program frames function index (after_r (reloads (frame_at frames function)) q w) slots
 

@@ -25,7 +25,7 @@ use Rattle.cyc_select.proofs.effects.Views.{Contents}
 abbrev pub frame_size : ℕ
 frame_size = 4 * MOST_FRAME_WORDS
 
--- `Holds` says that the frame at this address, of a call of this function, contains the words of all slots whose home includes memory.
+-- `Holds` says that the frame at the address `base`, of a call of `function`, contains the words of all slots whose home includes memory.
 abbrev pub Holds : Program → List Frame → (function base : ℕ) → (w : Contents) (slots : Words) → Type 0
 Holds program frames function base w slots =
     (slot : ℕ) → slot < (routine_at program function).slots → is_kept (frame_at frames function) slot ≡ true
@@ -121,7 +121,7 @@ module _ (program : Program) (frames : List Frame) (fit : AreFrames program fram
             (left_same its.first_saved its.saved above left left' w w' (λ j past high. alike j high) (λ j below high. same (above + 4 * (its.first_saved + j)) (omega arith))) chain),
       )
 
-  -- `Lies` says that `base` is the address of the frame of a call at this depth.
+  -- `Lies` says that `base` is the address of the stack frame of a call with this depth of nesting.
   pub record Lies (base depth : ℕ) : Type 0 where
     pub below_end : base + frame_size ≤ stack_end
     pub above_low : base + frame_size * depth ≡ stack_end

@@ -85,7 +85,7 @@ module _ (program : Program) (well : IsWellFormed program) (words : HasWords pro
     → Stands code (instruction_line program frames function index) (place_lines program frames function index (instruction_line program frames function index) i ++ following program frames function i))
     (stand_saving : (function : ℕ) → function < length program.functions → Stands code (function_line program frames function) (ordinary (saving_code (frame_at frames function))))
     (long : (function line : ℕ) (i : Instruction) → length (body program frames function line i) ≡ body_count program frames function i) where
-  -- The lines that follow a call stand at the line at which the call returns.
+  -- The MIPS lines that follow a call stand at the line at which the call returns.
   following_stands : (function index callee arguments count result : ℕ) → instruction_at program (record { function = function; index = index }) ≡ Some (plain.Call callee arguments count result)
       → Stands code (after_line program frames function index callee arguments count result) (following program frames function (plain.Call callee arguments count result))
   following_stands function index callee arguments count result at =
@@ -94,7 +94,7 @@ module _ (program : Program) (well : IsWellFormed program) (words : HasWords pro
       subst (λ (n : ℕ). Stands code (instruction_line program frames function index + n) (following program frames function (plain.Call callee arguments count result))) (long function line i)
       (stands_back code line (body program frames function line i) (following program frames function i) (stand function index i at))
 
-  -- The line after a call exists: it belongs to the call's following lines or to the next instruction.
+  -- The MIPS line after a call exists: it belongs to the call's following lines or to the next instruction.
   after_inside : (function index callee arguments count result : ℕ) → instruction_at program (record { function = function; index = index }) ≡ Some (plain.Call callee arguments count result)
       → after_line program frames function index callee arguments count result < length code.lines
   after_inside function index callee arguments count result at =
@@ -135,7 +135,7 @@ module _ (program : Program) (well : IsWellFormed program) (words : HasWords pro
   range_of : (function index first handler : ℕ) → instruction_at program (record { function = function; index = index }) ≡ Some (plain.Try first handler) → IsTryInRange (routine_at program function) first handler
   range_of function index first handler at = in_range_of function index (plain.Try first handler) at
 
-  -- The lines at which an exception arrives stand 3 lines after the first line of the `Try` that opened its handler.
+  -- The MIPS lines at which an exception arrives stand 3 lines after the first line of the `Try` that opened its handler.
   caught_stands : (function index first handler : ℕ) → instruction_at program (record { function = function; index = index }) ≡ Some (plain.Try first handler)
       → Stands code (instruction_line program frames function index + 3) (ordinary (caught_code (frame_at frames function) first) ++ lines.Jump (instruction_line program frames function handler) ∷ [])
   caught_stands function index first handler at =
@@ -372,7 +372,7 @@ module _ (program : Program) (well : IsWellFormed program) (words : HasWords pro
   abbrev end_of : Configuration → Instruction → ℕ
   end_of c i = instruction_line program frames c.active.function c.active.next + place_count program frames c.active.function c.active.next i
 
-  -- Returns the least number of lines executed for an instruction: 0 if it is idle, otherwise 1.
+  -- Returns the least number of MIPS lines executed for an instruction: 0 if the instruction needs no machine code, otherwise 1.
   abbrev least_of : (idle : Bool) → ℕ
   least_of true = 0
   least_of false = 1
@@ -434,7 +434,7 @@ module _ (program : Program) (well : IsWellFormed program) (words : HasWords pro
       (in_range_of c.active.function c.active.next i at) (word_of_it c.active.function c.active.next i at)
       (stands_front code line (body program frames c.active.function line i) (following program frames c.active.function i) (body_stands program well frames fit code stand long c.active.function c.active.next i at busy)))
 
-  -- The lines of an instruction begin no later than those that follow the previous call.
+  -- The MIPS lines of an instruction begin no later than those that follow the previous call.
   before_it : (function index callee arguments count result next : ℕ) → next ≡ index + 1 → instruction_at program (record { function = function; index = index }) ≡ Some (plain.Call callee arguments count result)
       → instruction_line program frames function next - previous_count program frames function (routine_at program function).code next ≤ after_line program frames function index callee arguments count result
   before_it function index callee arguments count result next is at =
@@ -443,7 +443,7 @@ module _ (program : Program) (well : IsWellFormed program) (words : HasWords pro
       let previous : previous_count program frames function (routine_at program function).code next ≡ (routine_at program callee).results + reload_count (frame_at frames function) = ap (previous_count program frames function (routine_at program function).code) one ∙ ap (after_of program frames function) at in
       omega (arith, previous, e, ap (instruction_line program frames function) is)
 
-  -- The lines of a function's first instruction begin no later than the lines that save registers.
+  -- The MIPS lines of a function's first instruction begin no later than the lines that save registers.
   entry_before : (function next : ℕ) → next ≡ 0
       → instruction_line program frames function next - previous_count program frames function (routine_at program function).code next ≤ function_line program frames function
   entry_before function next is =
@@ -482,7 +482,7 @@ module _ (program : Program) (well : IsWellFormed program) (words : HasWords pro
       performed_lighter (plain.StoreGlobal global source) is_one = omega (arith, some)
       performed_lighter j is_one = absurd (false≢true is_one)
 
-  -- The labelled machine matches a step whose first line was already executed before a branch.
+  -- The labelled machine matches a step of an instruction whose first line was already executed before the branch to it.
   begun_goes : (c : Configuration) (t : State) → Begun program well frames fit code formed addresses pages calls few c t → Never c → IsStepped above below_machine matching (states.Running c) t
   begun_goes c t begun never = go begun.i begun.at begun.busy begun.more
     where

@@ -61,7 +61,7 @@ use Rattle.cyc_select.proofs.effects.Walks.{Walk, now_at, now_is, walk_end, walk
 module _ (globals stack : ℕ) (frame : Frame) (r : Words) (w : Contents) (slots : Words) (source number : ℕ)
     (cell : (slot : ℕ) → slot < number → IsCell globals stack (memory_address (r FRAME) (slot_offset frame slot)))
     (kept : ℕ → Type 0) (word_is : (slot : ℕ) → slot < number → kept slot → w.words (memory_address (r FRAME) (slot_offset frame slot)) ≡ slots slot) where
-  -- `AreTaken` says that after the loads, the result registers hold the words of the slots.
+  -- `AreTaken` says that after the lines that load slots into the result registers, these registers hold the words of the slots.
   record AreTaken (count : ℕ) : Type 0 where
     pub keeps : Keeps globals stack (load_words frame source (result_registers count)) r w FIRST
     pub taken : (k : ℕ) → k < count → after_r (load_words frame source (result_registers count)) r w (result_register k) ≡ slots (source + k)
@@ -231,7 +231,7 @@ module _ (program : Program) (well : IsWellFormed program) (frames : List Frame)
         ],
       )
 
-  -- `IsCounted` says that the number of lines emitted for an instruction is the length of its full code.
+  -- `IsCounted` says that the number of MIPS lines emitted for an instruction is the length of its full code.
   abbrev pub IsCounted : Instruction → Type 0
   IsCounted i = count_of program frames c.active.function c.active.next i ≡ body_count program frames c.active.function i
 

@@ -1,4 +1,4 @@
--- Registers that hold the results of a store's service or of a function call are written to consecutive slots.
+-- Registers that hold the results of a call of the store (the heap of regions) or of a function are written to consecutive slots.
 use Rattle.std.proofs.Common.{◌≡◌, ◌≢◌, ℕ, zero, suc, ◌+◌, ◌*◌, ◌%◌, ◌<◌, ◌≤◌, Bool, true, false, List, [], ◌∷◌, ◌++◌, length, Option, Some, None, refl, sym, ap, subst, ◌∙◌, arith, inl, inr}
 use Rattle.std.specs.Prelude.{◌⊎◌, ◌&&◌, if◌then◌else◌}
 use Rattle.std.proofs.lemmas.Bool.{cases_eq, cases_lt, ne_eqb, false≢true}
@@ -24,7 +24,7 @@ use Rattle.cyc_select.proofs.relation.Values.{made_in_is}
 use Rattle.cyc_machine_model.specs.declared.constants.TheConstants.{RETURN_ADDRESS}
 use Rattle.cyc_registers.specs.inside.Liveness.{IsLiveAt}
 
--- Returns the slots after the words of these registers are written to the consecutive slots from `slot` on.
+-- Returns the slots after the words of the given registers are written to the consecutive slots from `slot` on.
 abbrev pub put_all : (slot : ℕ) → List ℕ → (q slots : Words) → Words
 put_all slot [] q slots = slots
 put_all slot (source ∷ sources) q slots = put_all (suc slot) sources q (put slots slot (q (source % 32)))
@@ -42,7 +42,7 @@ results_low (suc (suc (suc zero))) few = ((omega arith), ((omega arith), ((omega
 results_low (suc (suc (suc (suc count)))) few = absurd (omega (arith, few))
 
 -- The module assumes registers that hold the words to be written to the slots `from` to `past`. No slot that is live at the next
--- instruction shares a register with one of these slots.
+-- instruction shares a register with one of the slots to be written.
 module _ (program : Program) (well : IsWellFormed program) (frames : List Frame) (fit : AreFrames program frames) (addresses : ℕ → ℕ) (pages calls : ℕ) (few : calls ≤ 4096)
     (again : Bool) (c : Configuration) (base back : ℕ) (in_frame : Bool) (next from past : ℕ) (p : Words) (words : (n : ℕ) → n < 6 → IsWord (p n)) (inside : past ≤ (routine_at program c.active.function).slots)
     (shares : (d slot k : ℕ) → from ≤ d → d < past → value_register (frame_at frames c.active.function) d ≡ Some k → value_register (frame_at frames c.active.function) slot ≡ Some k
@@ -53,7 +53,7 @@ module _ (program : Program) (well : IsWellFormed program) (frames : List Frame)
   abbrev StandsWith : (q : Words) (m : Contents) (slots : Words) → Type 0
   StandsWith q m slots = Standing program frames addresses pages calls c q m base back (under_way in_frame) slots
 
-  -- `IsLast` says that no register of this slot is reloaded after its word is written.
+  -- `IsLast` says that the register of a slot is not reloaded from memory after the slot's word is written.
   abbrev IsLast : (slot : ℕ) → Type 0
   IsLast slot = (again && is_kept (frame_at frames c.active.function) slot) ≡ false
 
@@ -69,7 +69,7 @@ module _ (program : Program) (well : IsWellFormed program) (frames : List Frame)
     pub result : (k : ℕ) → value_register (frame_at frames c.active.function) slot ≡ Some k → IsLast slot → after_r is q m k ≡ word
     pub others : (n : ℕ) → 6 ≤ n → n < 24 → (value_register (frame_at frames c.active.function) slot ≡ Some n → ⊥) → after_r is q m n ≡ q n
 
-  -- Storing a register's word in the frame writes the slot and keeps the relation between the two machines.
+  -- Storing a register's word in the frame writes the slot and keeps the relation between the labelled and the plain machine.
   stored_there : (q : Words) (m : Contents) (slots : Words) (register slot word : ℕ) → StandsWith q m slots → slot < (routine_at program c.active.function).slots → q (register % 32) ≡ word
       → StandsWith q (written m (memory_address (q FRAME) (slot_offset (frame_at frames c.active.function) slot)) (q (register % 32))) (put slots slot word)
   stored_there q m slots register slot word s below is =

@@ -89,11 +89,12 @@ module _ (program : Program) (well : IsWellFormed program) (frames : List Frame)
   abbrev IsFree : Instruction → Type 0
   IsFree i = calls_nothing i ≡ true
 
-  -- `IsCounted` says that the number of lines emitted for an instruction is the length of its full code.
+  -- `IsCounted` says that the number of MIPS lines emitted for an instruction is the length of its full code.
   abbrev IsCounted : Instruction → Type 0
   IsCounted i = count_of program frames c.active.function c.active.next i ≡ body_count program frames c.active.function i
 
-  -- `IsPlanThere` says that the operands of a plan are held in registers or memory, and the machine can compute its operation on them.
+  -- `IsPlanThere` says that registers or memory hold the operands of a plan (a sequence of machine operations), and the machine can
+  -- compute its operation.
   abbrev IsPlanThere : Plan → Type 0
   IsPlanThere plan =
       Held plan.left × Held plan.right × IsComputable globals_length (words_per_call * calls) plan.operation (word_of plan.left) (word_of plan.right)

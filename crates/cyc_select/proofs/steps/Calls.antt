@@ -100,7 +100,7 @@ module _ (program : Program) (well : IsWellFormed program) (frames : List Frame)
   abbrev call_line : List Line
   call_line = lines.Call (function_line program frames callee) ∷ []
 
-  -- The lines that end a run on a full stack stand at the line after the first line of a call.
+  -- The MIPS lines that end a run on a full stack stand at the line after the first line of a call.
   at_full : Stands code (here + 1) (ordinary (small 2 11 ∷ syscall ∷ []))
   at_full =
       stands_front code (here + 1) (ordinary (small 2 11 ∷ syscall ∷ [])) (ordinary entry ++ (ordinary passed ++ call_line))
@@ -220,7 +220,7 @@ module _ (program : Program) (well : IsWellFormed program) (frames : List Frame)
     abbrev r3 : Words
     r3 = put r2 RETURN_ADDRESS (addresses (here + 3 + 1 + length passed + 1))
 
-    -- Returns the choice of the initial contents of the callee's slots: the words that its frame contains.
+    -- Returns the choice of the initial values of the callee's slots: the words that the callee's frame already contains.
     abbrev choice : Choice
     choice = record { contents = λ (slot : ℕ). w2.words (low + slot_offset its slot); base = low + 4 * its.first_slot; serving = zeros.serving }
 

@@ -130,7 +130,8 @@ module _ (globals stack : ℕ) (caller callee : Frame) (caller_slots callee_slot
     pub inside : is_kept callee slot ≡ true → (after_w is q m).words (low + slot_offset callee slot) ≡ value
     pub store : (after_w is q m).store ≡ m.store
 
-  -- An instruction that puts the argument into the register of the callee's slot, followed by the line that keeps it, passes the argument.
+  -- An instruction that puts the argument into the callee slot's register, followed by a store of it in memory if needed, passes the
+  -- argument.
   through : (i : Instr) (slot : ℕ) (q : Words) (m : Contents) (value got : ℕ) → q FRAME ≡ low → slot < callee_slots → AreSafe globals stack (i ∷ []) q m
       → after_r (i ∷ []) q m ≡ put q (made_in callee slot % 32) got → after_w (i ∷ []) q m ≡ m → got ≡ value → Passes (i ∷ keep_code callee slot) slot q m value
   through i slot q m value got is_low below safe_here registers memory is =

@@ -125,7 +125,7 @@ module _ (program : Program) (well : IsWellFormed program) (frames : List Frame)
       (does : performed program zeros c (plain.Binary operator destination left right) ≡ gives c destination (result_of which (word_of left) (word_of right)))
       (nonzero : word_of right ≢ 0) (counted : count_of program frames c.active.function c.active.next (plain.Binary operator destination left right) ≡ divide_count frame destination left right)
       (by_minus : (a : ℕ) → IsWord a → multiply_divide_result Multiply which (if_low which a 0) (if_low which (2 ^ 32 - 1) 0) ≡ result_of which a (2 ^ 32 - 1)) where
-    -- Returns the number of lines that load the two operands of a division.
+    -- Returns the number of MIPS lines that load the two operands of a division.
     abbrev loads : ℕ
     loads = operand_count frame left + operand_count frame right
 
@@ -145,7 +145,7 @@ module _ (program : Program) (well : IsWellFormed program) (frames : List Frame)
     abbrev hi : ℕ
     hi = here + divide_count frame destination left right
 
-    -- After the division instruction, the lines that move its result from HI or LO to the destination match the step.
+    -- After the division instruction, the MIPS lines that move its result from HI or LO to the destination match the plain machine's step.
     finished : (q : Words) (d : labelled.Configuration) → At program well frames fit code formed addresses pages calls few (here + loads + 5) c.output c.input q w d → Stands code (here + loads + 5) (ordinary (reads_part which destination ++ keep_code frame destination))
         → Agrees program well frames fit code formed addresses pages calls few c run r w base back now s caches FIRST q → q (part which) ≡ result_of which (word_of left) (word_of right)
         → Goes 0 (here + loads + 5) (here + divide_count frame destination left right) (Running d)
@@ -186,7 +186,7 @@ module _ (program : Program) (well : IsWellFormed program) (frames : List Frame)
       part_stands : Stands code (here + loads + 5) (ordinary (reads_part which destination ++ keep_code frame destination))
       part_stands = subst (λ (n : ℕ). Stands code n (ordinary (reads_part which destination ++ keep_code frame destination))) five quotient_stands.1
 
-      -- If the divisor is -1, the product computes the same quotient and remainder as the division.
+      -- If the divisor is -1, the code that multiplies leaves the same quotient and remainder in its result registers as the division.
       multiplied : word_of right ≡ 2 ^ 32 - 1 → (from : MoveFromOp) → ((a : ℕ) → IsWord a → multiply_divide_result Multiply from (if_low from a 0) (if_low from (2 ^ 32 - 1) 0) ≡ result_of from a (2 ^ 32 - 1))
           → after_r (product_code from (operand_register frame FIRST left) ∷ []) q w (part from) ≡ result_of from (word_of left) (word_of right)
       multiplied same High law =

@@ -64,7 +64,7 @@ module _ (program : Program) (well : IsWellFormed program) (frames : List Frame)
   abbrev Goes : ℕ → State → Type 0
   Goes line t = Walk code formed addresses globals_length (words_per_call * calls) n line hi c.output (After program pages calls c) Goal t
 
-  -- The line that saves the return address, and the contents of memory after it.
+  -- The MIPS line that saves the return address, and the contents of memory after it.
   abbrev way : List Instr
   way = way_code frame
 
@@ -90,7 +90,7 @@ module _ (program : Program) (well : IsWellFormed program) (frames : List Frame)
   saved : AreSaved globals_length (words_per_call * calls) e.base frame.first_saved (omega (arith, here_lies.below_end)) room saved_cell 0 frame.saved e.r kept
   saved = are_saved globals_length (words_per_call * calls) e.base frame.first_saved (omega (arith, here_lies.below_end)) room saved_cell 0 frame.saved e.r kept e.standing.base_is (omega (arith, own.most_saved))
 
-  -- `IsKeptBy` describes the effect of the line that saves the return address, if the function has one.
+  -- `IsKeptBy` describes the effect of the MIPS line that saves the return address, if the function has one.
   record IsKeptBy (b : Bool) : Type 0 where
     pub safe : AreSafe globals_length (words_per_call * calls) (if b then store RETURN_ADDRESS (4 * frame.return_address) ∷ [] else []) e.r e.w
     pub registers : after_r (if b then store RETURN_ADDRESS (4 * frame.return_address) ∷ [] else []) e.r e.w ≡ e.r

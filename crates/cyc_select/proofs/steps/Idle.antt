@@ -1,5 +1,5 @@
--- An idle instruction has no lines: the labelled machine does not step, and its state already matches the plain
--- state after the instruction.
+-- An idle instruction (one that needs no machine code) has no lines: the labelled machine does not step, and
+-- its state already matches the plain state after the instruction.
 use Rattle.std.proofs.Common.{◌≡◌, ◌≢◌, ℕ, zero, suc, ◌+◌, ◌-◌, ◌*◌, ◌<◌, ◌≤◌, Bool, true, false, List, length, Some, refl, sym, ap, subst, ◌∙◌, arith, inl, inr}
 use Rattle.std.specs.Prelude.{◌⊎◌, ◌==◌, if◌then◌else◌}
 use Rattle.std.proofs.lemmas.Bool.{cases_Bool, cases_eq, cond-false, eq-eqb, false≢true, or_left}
@@ -54,7 +54,7 @@ module _ (program : Program) (well : IsWellFormed program) (frames : List Frame)
   right : AreHomes program (routine_at program c.active.function) (frame_at frames c.active.function).saved (frame_at frames c.active.function).homes
   right = fit.homes c.active.function ready.standing.known
 
-  -- An idle instruction has no line of its own, so the next instruction has the same line number.
+  -- An idle instruction (one that needs no machine code) has no line of its own, so the next instruction has the same line number.
   no_line : (index : ℕ) (i : Instruction) → instruction_at program (record { function = c.active.function; index = index }) ≡ Some i → is_idle (frame_at frames c.active.function) index i ≡ true
       → after_count program frames c.active.function i ≡ 0 → instruction_line program frames c.active.function index ≡ instruction_line program frames c.active.function (index + 1)
   no_line index i at_i idle none =
@@ -201,7 +201,7 @@ module _ (program : Program) (well : IsWellFormed program) (frames : List Frame)
   never_holds comparison (operands.Slot left) other never = absurd never
   never_holds comparison (operands.Word left) (operands.Slot other) never = absurd never
 
-  -- An instruction marked idle writes only slots that are not live, or jumps over instructions marked idle.
+  -- An instruction that the frame marks as needing no machine code is of a form for which this is possible, and no lines follow it.
   idle_kind : (index : ℕ) (i : Instruction) → instruction_at program (record { function = c.active.function; index = index }) ≡ Some i → idle_at (frame_at frames c.active.function).idle index ≡ true
       → (is_idle (frame_at frames c.active.function) index i ≡ true) × (after_count program frames c.active.function i ≡ 0)
   idle_kind index i at_i is = go i (fit.idle c.active.function ready.standing.known index i at_i is)
@@ -216,7 +216,8 @@ module _ (program : Program) (well : IsWellFormed program) (frames : List Frame)
       go (plain.Branch comparison left right_operand target) idle = (is, refl)
       go j idle = absurd idle
 
-  -- Consecutive idle instructions have no lines, so the instruction after them has the same line number as the first.
+  -- Consecutive idle instructions (ones that need no machine code) have no lines, so the instruction after them has
+  -- the first one's line number.
   no_lines : (first count : ℕ) → first + count ≤ length (routine_at program c.active.function).code → AreIdleFrom (frame_at frames c.active.function).idle first (first + count)
       → instruction_line program frames c.active.function first ≡ instruction_line program frames c.active.function (first + count)
   no_lines first zero inside idle = let e : first ≡ first + 0 = omega arith in ap (instruction_line program frames c.active.function) e

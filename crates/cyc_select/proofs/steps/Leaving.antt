@@ -77,7 +77,7 @@ module _ (program : Program) (well : IsWellFormed program) (frames : List Frame)
       slot_held program well frames fit code formed addresses pages calls few c run r w base back now s caches (value_register frame slot) slot refl (omega (arith, below, in_range))
       (0, (i, at_i, needs slot (among value results slot from below)))
 
-  -- Returns the lines of a return after the one that restores the return address.
+  -- Returns the MIPS lines of a return after the one that restores the return address.
   abbrev rest : ℕ → List Line
   rest line = ending_code (c.active.function == program.main) frame line value ++ ordinary (loaded frame value results) ++ lines.Return ∷ []
 

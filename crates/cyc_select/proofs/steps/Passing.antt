@@ -131,7 +131,7 @@ module _ (program : Program) (well : IsWellFormed program) (frames : List Frame)
             ∙ is
       ]
 
-  -- A slot is stored in memory before a call only if the argument is passed from memory.
+  -- A slot is stored in memory before a call only if it is an argument that is passed from memory.
   spilled_from : (m : Contents) (source slot : ℕ) → source < (routine_at program c.active.function).slots → StandsIn m → HasCached source
       → (o : Option ℕ) → from source slot ≡ o → AreSpilled (spill_from o (frame_at frames c.active.function) source) m source slot 1
   spilled_from m source slot below s cached None none =

@@ -81,7 +81,7 @@ reported_is (requests.CloseDynamic handle) store slots q m choice = refl
 reported_is (requests.Allocate destination handle words) store slots q m choice = refl
 reported_is (requests.Free address) store slots q m choice = refl
 
--- A request writes exactly the destination slots of its result.
+-- A request to the store (the heap of regions) writes exactly the destination slots of its result.
 answers_written : (request : Request) (slot : ℕ) → destination_of request ≤ slot → slot < destination_of request + length (result_registers (answer_count request)) → request_writes request slot ≡ true
 answers_written (requests.OpenLexical destination) slot begun below = among destination 2 slot begun below
 answers_written (requests.CloseTo mark) slot begun below = absurd (omega (arith, begun, below))
@@ -340,7 +340,7 @@ module _ (program : Program) (well : IsWellFormed program) (frames : List Frame)
     last_lines : Stands code (here + length is + length js) (ordinary last)
     last_lines = stands_after code (here + length is) js last after_lines
 
-    -- The labelled machine matches a request by the lines that load its arguments and call its service.
+    -- The labelled machine matches a request to the store by the lines that load its arguments and make the system call.
     called_goes : (n : ℕ) → 0 < n
         → ((d : labelled.Configuration) → At program well frames fit code formed addresses pages calls few called c.output c.input ready w d → Goes n called hi (Running d))
         → Goes 1 here hi (Running run)
@@ -393,7 +393,7 @@ module _ (program : Program) (well : IsWellFormed program) (frames : List Frame)
       abbrev w1 : Contents
       w1 = record w { store = served c.store call chosen }
 
-      -- `answered` are the registers after the service and before the lines that update the number of open regions.
+      -- `answered` are the registers after the store's system call and before the lines that update the number of open regions.
       abbrev answered : Words
       answered = answered_r (answer c.store call chosen) ready
 
@@ -474,7 +474,7 @@ module _ (program : Program) (well : IsWellFormed program) (frames : List Frame)
             are_brought program well frames fit addresses pages calls few false c1 base back (frame_at frames c.active.function).saves (c.active.next + 1) (destination_of request) past final low_words fits_here shares_none (destination_of request) (result_registers (answer_count request)) final w1 c.active.slots
             (omega arith) (omega arith) (results_low (answer_count request) few_answers) (λ n below. refl) in_final
 
-        -- A request leaves the registers of all slots outside its result unchanged.
+        -- A request to the store leaves the registers of all slots unchanged, except those of the request's result slots.
         apart_kept : (a k : ℕ) → value_register (frame_at frames c.active.function) a ≡ Some k → IsLiveAt program (routine_at program c.active.function) a (c.active.next + 1)
             → a < destination_of request ⊎ destination_of request + length (result_registers (answer_count request)) ≤ a → final k ≡ c.active.slots a
         apart_kept a k has wanted outside =

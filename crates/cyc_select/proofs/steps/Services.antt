@@ -1,4 +1,4 @@
--- The simulation of the machine's services: reading a byte, writing a byte, and ending the run by an uncaught exception.
+-- The simulation of the machine's system calls: reading a byte, writing a byte, and ending the run by an uncaught exception.
 use Rattle.std.proofs.Common.{◌≡◌, ℕ, suc, ◌+◌, ◌-◌, ◌*◌, ◌%◌, ◌^◌, ◌<◌, ◌≤◌, List, [], ◌∷◌, ◌++◌, length, drop, Some, refl, sym, ap, subst, ◌∙◌, arith}
 use Rattle.std.specs.List.{AllByRecursion}
 use Rattle.cyc_words.specs.Ending.{Ending, Uncaught}
@@ -111,7 +111,7 @@ module _ (program : Program) (well : IsWellFormed program) (frames : List Frame)
       next : Configuration
       next = record c { active = record c.active { next = c.active.next + 1; slots = put c.active.slots destination (byte_of c.input) }; input = drop 1 c.input }
 
-      -- After the service has read the byte, it still has to be written to its slot.
+      -- After the system call has read a byte, the byte still has to be written to its slot.
       has_read : (t : State) → labelled.status_of t ≡ simulation.Running → labelled.output_of t ≡ c.output → labelled.input_of t ≡ drop 1 c.input → After program pages calls c t
       has_read t running output left = (
         running,

@@ -120,11 +120,11 @@ module _ (program : Program) (well : IsWellFormed program) (frames : List Frame)
   abbrev IsFree : Instruction → Type 0
   IsFree i = calls_nothing i ≡ true
 
-  -- `IsCounted` says that the number of lines emitted for an instruction is the length of its full code.
+  -- `IsCounted` says that the number of MIPS lines emitted for an instruction is the length of its full code.
   abbrev pub IsCounted : Instruction → Type 0
   IsCounted i = count_of program frames c.active.function c.active.next i ≡ body_count program frames c.active.function i
 
-  -- `Gets` says that an instruction writes exactly this slot and passes control to the next instruction.
+  -- `Gets` says that an instruction writes exactly the slot `destination` and passes control to the next instruction.
   abbrev Gets : Instruction → (destination : ℕ) → Type 0
   Gets i destination =
       ((slot : ℕ) → slot ≢ destination → writes program i slot ≡ false) × (writes program i destination ≡ true) × (leads i c.active.next (c.active.next + 1) ≡ true)
@@ -187,7 +187,7 @@ module _ (program : Program) (well : IsWellFormed program) (frames : List Frame)
   stored_length false register destination = refl
 
   -- A block that computes a word in a register, followed by a store if the slot's home includes memory, matches an instruction that
-  -- writes this word. If the slot has a register, the block computes the word there.
+  -- writes this word. If the slot has a register, the block computes the word in this register.
   gives_from : (i : Instruction) → IsAt i → IsFree i → (destination word : ℕ) (input : List ℕ) → Gets i destination → destination < slots → performed program zeros c i ≡ gives (record c { input = input }) destination word
       → AllByRecursion IsWord input → (line count : ℕ) (q : Words) (d : labelled.Configuration) → At program well frames fit code formed addresses pages calls few line c.output input q w d
       → (is : List Instr) (register but : ℕ) → Agrees but q → Keeps globals_length (words_per_call * calls) is q w but → after_r is q w (register % 32) ≡ word
@@ -324,7 +324,7 @@ module _ (program : Program) (well : IsWellFormed program) (frames : List Frame)
           (puts_keeps globals_length (words_per_call * calls) is r w (made_in frame destination % 32) _ _ (made_in frame destination % 32) (made_in_scratch destination) (λ n n_low n_high other. other) puts) puts.result
           (gets destination) below refl (omega (arith, length_load frame k source, counted)) all_counted stands_here
 
-  -- The labelled machine matches an instruction that writes the result of a plan to a slot.
+  -- The labelled machine matches an instruction that writes the result of a plan (a sequence of machine operations) to a slot.
   plan_goes : (i : Instruction) → IsAt i → IsFree i → (plan : Plan) (destination word : ℕ) → Held plan.left × Held plan.right × IsComputable globals_length (words_per_call * calls) plan.operation (word_of plan.left) (word_of plan.right)
       → plan_word c.active.slots plan ≡ word → Gets i destination → destination < slots → performed program zeros c i ≡ gives c destination word → count_of program frames c.active.function c.active.next i ≡ plan_count frame plan destination
       → Stands code here (ordinary (plan_code frame plan destination)) → Goes 1 here (here + plan_count frame plan destination) (Running run)
@@ -334,7 +334,8 @@ module _ (program : Program) (well : IsWellFormed program) (frames : List Frame)
       gives_by i at_i free (computed_code frame target plan) destination word (plan_count frame plan destination) (omega (arith, length_computed frame target plan, operation_some plan.operation)) leaves.keeps (leaves.result ∙ is)
       given below does (omega (arith, length_computed frame target plan)) counted stands
 
-  -- `IsPlanThere` says that the operands of a plan are held in registers or memory, and the machine can compute its operation on them.
+  -- `IsPlanThere` says that registers or memory hold the operands of a plan (a sequence of machine operations), and the machine can
+  -- compute its operation.
   abbrev IsPlanThere : Plan → Type 0
   IsPlanThere plan =
       Held plan.left × Held plan.right × IsComputable globals_length (words_per_call * calls) plan.operation (word_of plan.left) (word_of plan.right)
@@ -360,7 +361,7 @@ module _ (program : Program) (well : IsWellFormed program) (frames : List Frame)
       plan_goes (plain.Unary operator destination operand) at_i refl (unary_plan operator operand) destination (unary_result operator (word_of operand))
       (unary_there operator operand operand_there) (unary_word c.active.slots operand (is_word operand operand_there) operator) (gets destination) below refl counted stands
 
-  -- The labelled machine matches an operator that is computed by a plan, without a test of the divisor.
+  -- The labelled machine matches an operator computed by a plan (a sequence of machine operations), without a test of the divisor.
   pub binary_goes : (operator : BinaryOperator) (destination : ℕ) (left right : Operand) → IsAt (plain.Binary operator destination left right) → destination < slots → IsThere left → IsThere right
       → is_tested operator right ≡ false
       → performed program zeros c (plain.Binary operator destination left right) ≡ gives c destination (binary_result operator (word_of left) (word_of right))

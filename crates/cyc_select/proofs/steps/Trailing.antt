@@ -1,5 +1,5 @@
--- The simulation of the lines after a call: results are written to the caller's slots, and registers of slots with a copy
--- in memory are reloaded.
+-- The simulation of the MIPS lines after a call: results are written to the caller's slots, and registers of slots with a
+-- copy in memory are reloaded.
 use Rattle.std.proofs.Common.{◌≡◌, ◌≢◌, ℕ, zero, suc, ◌+◌, ◌-◌, ◌*◌, ◌%◌, ◌<◌, ◌≤◌, true, false, List, [], ◌∷◌, ◌++◌, length, length-append, Some, refl, sym, ap, subst, ◌∙◌, arith, inl, inr}
 use Rattle.std.specs.Prelude.{◌⊎◌}
 use Rattle.std.proofs.lemmas.Bool.{cases_eq, cases_lt, eq-eqb, leb-true, false≢true}

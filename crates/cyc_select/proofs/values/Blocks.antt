@@ -24,7 +24,7 @@ count_lasts q r same = ap (λ (p : ℕ × ℕ × ℕ). p.1) same
 pub middle_lasts : (q r : Words) → lasting q ≡ lasting r → q GLOBALS ≡ r GLOBALS
 middle_lasts q r same = ap (λ (p : ℕ × ℕ × ℕ). p.2) same
 
--- `AreSame` says that all registers that slots may have are unchanged, except for `but`.
+-- `AreSame` says that all registers that slots may have are unchanged, except for the register `but`.
 abbrev pub AreSame : (but : ℕ) → (q r : Words) → Type 0
 AreSame but q r = (n : ℕ) → 6 ≤ n → n < 24 → n ≢ but → q n ≡ r n
 

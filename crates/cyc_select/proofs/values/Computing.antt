@@ -1,4 +1,4 @@
--- The registers after the code that computes operands, plans and tests.
+-- The values in registers after the code that computes operands, plans (sequences of machine operations) and tests.
 use Rattle.std.proofs.Common.{◌≡◌, ◌≢◌, ℕ, ◌-◌, ◌/◌, ◌%◌, ◌^◌, ◌<◌, ◌≤◌, Bool, true, false, List, [], ◌∷◌, Option, None, Some, refl, sym, ap, subst, ◌∙◌, arith}
 use Rattle.std.specs.Prelude.{◌==◌, nat_lt, if◌then◌else◌, bit_or}
 use Rattle.std.proofs.lemmas.Bool.{eqb-true, ne_eqb}
@@ -96,7 +96,7 @@ module _ (globals stack : ℕ) where
   IsHeld frame base w r slots (operands.Slot number) = HeldIn (value_register frame number) frame base w r slots number
   IsHeld frame base w r slots (operands.Word word) = IsWord word
 
-  -- The module assumes registers and memory in which the frame and the slots' registers are unchanged.
+  -- The module assumes that the registers `q` and the memory `m` have the same frame and the same registers of slots as `r` and `w`.
   module _ (frame : Frame) (base : ℕ) (w : Contents) (r slots : Words) (q : Words) (m : Contents) (zero : q ZERO ≡ 0) (same : q FRAME ≡ base) (memory : m ≡ w) (values : ValuesSame q r) where
     memory_puts : (target number : ℕ) → IsWritable (target % 32) → IsCell globals stack (memory_address base (slot_offset frame number)) → w.words (memory_address base (slot_offset frame number)) ≡ slots number
         → Puts globals stack (load target (slot_offset frame number) ∷ []) q m (target % 32) (target % 32) (slots number)
@@ -282,12 +282,13 @@ module _ (globals stack : ℕ) where
   minus_one_is n zero =
       ap (λ (x : ℕ). add_of x (sign_extended 65535)) zero ∙ (ap (add_of 0) (sign_extended_high 65535 (omega arith) (omega arith)) ∙ refl)
 
-  -- `Leaves` says that the instructions leave this word in the target register and change nothing else.
+  -- `Leaves` says that the instructions leave this word in the target register, and change no reserved
+  -- register and no register of another slot.
   pub record Leaves (is : List Instr) (q : Words) (m : Contents) (target word : ℕ) : Type 0 where
     pub keeps : Keeps globals stack is q m (target % 32)
     pub result : after_r is q m (target % 32) ≡ word
 
-  -- The module assumes registers and memory in which the frame and the slots' registers are unchanged.
+  -- The module assumes that the registers `q` and the memory `m` have the same frame and the same registers of slots as `r` and `w`.
   module _ (frame : Frame) (base : ℕ) (w : Contents) (r slots : Words) (q : Words) (m : Contents) (zero : q ZERO ≡ 0) (same : q FRAME ≡ base) (memory : m ≡ w) (values : ValuesSame q r) where
     pub operands_put : (but : ℕ) (left right : Operand) → IsHeld frame base w r slots left → IsHeld frame base w r slots right
         → AreLoaded (operands_code frame left right) q m but (operand_register frame FIRST left) (operand_register frame SECOND right) (operand_word slots left) (operand_word slots right)

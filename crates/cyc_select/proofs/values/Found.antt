@@ -1,4 +1,4 @@
--- The offsets of the slots that plans and tests name fit in load and store instructions.
+-- The frame offsets of the slots that plans (sequences of machine operations) and tests name fit in load and store instructions.
 use Rattle.std.proofs.Common.{◌≡◌, ℕ, zero, suc, ◌+◌, ◌<◌, ◌≤◌, false, Option, None, Some, refl, inl, inr, arith}
 use Rattle.cyc_plain.specs.declared.instruction.BinaryOperator.{BinaryOperator}
 use Rattle.cyc_plain.specs.declared.instruction.Comparison.{Comparison}

@@ -61,7 +61,7 @@ module _ (slots : Words) where
   next_is (operands.Slot number) h is = absurd (let e : None ≡ Some h = is in cc)
   next_is (operands.Word word) h is = half_is (add_of word 1) h (IsWord-add_of word 1) is
 
-  -- An operand that has a successor immediate is not the greatest signed word.
+  -- If an operand's word plus 1 is available as an immediate, the operand is not the greatest signed word.
   pub next_not_greatest : (o : Operand) (h : ℕ) → next_half o ≡ Some h → operand_word slots o ≢ 2 ^ 31 - 1
   next_not_greatest (operands.Slot number) h is same = absurd (let e : None ≡ Some h = is in cc)
   next_not_greatest (operands.Word word) h is same =

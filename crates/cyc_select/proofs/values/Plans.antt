@@ -48,7 +48,7 @@ use Rattle.cyc_select.specs.inside.Operands.{branch_on, is_tested}
 use Rattle.cyc_select.proofs.values.Halves.{signed_is, negated_is, next_is, next_not_greatest, low_is, zero_is, amount_is, power_is, signed_fits, negated_half_fits, next_fits, low_fits, next_signed}
 use Rattle.cyc_select.proofs.values.Operations.{zero_test, not_zero_test, difference_zero, low_product}
 
--- Returns the first word for a quotient, and the second word for a remainder.
+-- Returns the word `low` (from LO) for a quotient, and the word `high` (from HI) for a remainder.
 abbrev pub if_low : MoveFromOp → (low high : ℕ) → ℕ
 if_low High low high = high
 if_low Low low high = low
@@ -113,7 +113,7 @@ not_below_truth a b = elim (sltu_of_cases a b) [
     above : (x y : ℕ) → suc x ≤ y → nat_le y x ≡ false
     above x y less = grind arith
 
--- If two plans have the same value, a conditional choice between the plans has this value too.
+-- If two plans (sequences of machine operations) have the same value, a conditional choice between the plans has this value too.
 via_if : (slots : Words) (b : Bool) (p q : Plan) (value : ℕ) → (b ≡ true → plan_word slots p ≡ value) → (b ≡ false → plan_word slots q ≡ value) → plan_word slots (if b then p else q) ≡ value
 via_if slots true p q value first second = first refl
 via_if slots false p q value first second = second refl
@@ -306,7 +306,7 @@ unary_word slots operand fits unary.Not = comparison_word slots operand (operand
 
 -- ---- tests
 
--- Returns true if the branch of a test is taken for these slots.
+-- Returns true if the branch of a test is taken for the given slot values.
 abbrev pub test_taken : Words → Test → Bool
 test_taken slots (tests.Operands op left right) = branch_taken op (operand_word slots left) (operand_word slots right)
 test_taken slots (tests.Sign op operand) = branch_zero_taken op (operand_word slots operand)
@@ -322,7 +322,7 @@ not_truth_zero : (t : Bool) → not (truth t == 0) ≡ t
 not_truth_zero true = refl
 not_truth_zero false = refl
 
--- A branch on the word before a plan's final step is taken exactly if the plan's result would be 1.
+-- A branch on the word that a plan computes before its final step is taken exactly if the plan's result would be 1.
 branches_on : (o : Outcome) (word : ℕ) (t : Bool) → outcome_result o word ≡ truth t → branch_taken (branch_on o) word 0 ≡ t
 branches_on outcomes.AsItIs word t is = ap (λ (n : ℕ). not (n == 0)) is ∙ not_truth_zero t
 branches_on outcomes.WhetherZero word t is = truth_injective (word == 0) t is
@@ -378,7 +378,8 @@ module _ (slots : Words) (left right : Operand) (left_fits : IsWord (operand_wor
 
 -- ---- a property of all plans
 
--- A property holds for all plans if it holds for each plan made from operands that satisfy `P`, and the word 0 satisfies `P`.
+-- A property holds for all plans (sequences of machine operations) if it holds for each plan made from operands that satisfy
+-- `P`. The word 0 must satisfy `P`.
 module _ (P : Operand → Type 0) (zero : P (operands.Word 0)) (Q : Plan → Type 0)
     (of_arithmetic : (op : ArithmeticOp) (left right : Operand) (outcome : Outcome) → P left → P right → Q (arithmetic_plan op left right outcome))
     (of_immediate : (op : ImmediateOp) (left : Operand) (half : ℕ) (outcome : Outcome) → half < 2 ^ 16 → P left → Q (immediate_plan op left half outcome)) where
@@ -434,7 +435,7 @@ module _ (P : Operand → Type 0) (zero : P (operands.Word 0)) (Q : Plan → Typ
   all_unary unary.Complement operand o = of_arithmetic arithmetic.Nor (operands.Word 0) operand outcomes.AsItIs zero o
   all_unary unary.Not operand o = all_comparison comparisons.Equal operand (operands.Word 0) o zero
 
-  -- `AllOfTest` says that the operands of a test, or the plan that it computes, have the property.
+  -- `AllOfTest` says that a test's operands have a property of operands, or that the plan that it computes has a property of plans.
   abbrev pub AllOfTest : Test → Type 0
   AllOfTest (tests.Operands op left right) = P left × P right
   AllOfTest (tests.Sign op operand) = P operand
@@ -461,7 +462,7 @@ module _ (P : Operand → Type 0) (zero : P (operands.Word 0)) (Q : Plan → Typ
   all_test comparisons.NotEqual left right l r = (l, r)
   all_test comparison left right l r = all_order comparison left right l r
 
-  -- A division has a plan if its divisor needs no test.
+  -- A division is computed by a plan (a sequence of machine operations) if its divisor needs no test.
   module _ (of_shift : (op : ShiftOp) (left right : Operand) → P left → P right → Q (shift_by None op left right))
       (of_shift_by : (op : ShiftOp) (left right : Operand) (amount : ℕ) → P left → Q (shift_by (Some amount) op left right))
       (of_product : (left right : Operand) → P left → P right → Q (multiply_divide_plan Multiply Low left right))
@@ -502,7 +503,8 @@ module _ (P : Operand → Type 0) (zero : P (operands.Word 0)) (Q : Plan → Typ
     all_operator binary.Greater left right fine l r = all_comparison comparisons.Greater left right l r
     all_operator binary.GreaterOrEqual left right fine l r = all_comparison comparisons.GreaterOrEqual left right l r
 
-    -- Exchanging the operands of a commutative operator, which is never a division, keeps the property of its plan.
+    -- Exchanging the operands of a commutative operator, which is never a division, keeps the property of the plan
+    -- that computes this operator.
     all_swapped : (operator : BinaryOperator) (left right : Operand) → is_swapped operator left ≡ true → P left → P right → Q (operator_plan operator right left)
     all_swapped binary.Add left right is l r = all_operator binary.Add right left refl r l
     all_swapped binary.Multiply left right is l r = all_operator binary.Multiply right left refl r l

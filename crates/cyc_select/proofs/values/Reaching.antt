@@ -15,7 +15,8 @@ use Rattle.cyc_select.proofs.values.Computing.{second_scratch, second_aside}
 use Rattle.cyc_select.proofs.values.Operations.{global_lies, near_lies}
 
 module _ (globals stack : ℕ) where
-  -- `Reaches` says that a register holds the base address for a global, whose offset from it fits an instruction.
+  -- `Reaches` says that a register holds a base address for a global, and that the global's offset from it fits a
+  -- load or store instruction.
   pub record Reaches (near : Bool) (global but : ℕ) (q : Words) (m : Contents) : Type 0 where
     pub keeps : Keeps globals stack (if near then [] else upper_of_global global ∷ []) q m but
     pub others : (n : ℕ) → n < 32 → n ≢ SECOND → after_r (if near then [] else upper_of_global global ∷ []) q m n ≡ q n

@@ -1,4 +1,4 @@
--- Counts the lines of each instruction, and computes the number of its first line.
+-- Counts the lines of each instruction, and computes the line number at which its code begins.
 use Rattle.std.specs.Prelude.{ℕ, suc, ◌+◌, ◌*◌, ◌==◌, if◌then◌else◌, List, [], ◌∷◌, length, take, Option, Some, None}
 use Rattle.cyc_registers.specs.inside.Bars.{is_crossing}
 use Rattle.cyc_plain.specs.declared.instruction.Instruction.{Instruction}
@@ -17,16 +17,16 @@ use Rattle.cyc_select.specs.inside.Operands.{word_count, load_count, operand_cou
 use Rattle.cyc_select.specs.inside.Passing.{spills_count, copies_count}
 use Rattle.cyc_select.specs.inside.Hoisting.{is_idle, hoisted, hoisted_count}
 
--- Returns the number of lines at a return of `main` that end the run when its first call returns; 0 for other functions.
+-- Returns the number of MIPS lines at a return of `main` that end the run when its first call returns; 0 for other functions.
 abbrev pub ending_count : Program → (function : ℕ) → ℕ
 ending_count program function = if function == program.main then 4 else 0
 
--- Returns the number of lines that load an argument of a request; 0 if the request has no such argument.
+-- Returns the number of MIPS lines that load an argument of a request; 0 if the request has no such argument.
 abbrev pub argument_count : Option Operand → ℕ
 argument_count None = 0
 argument_count (Some operand) = load_count operand
 
--- Returns the number of lines of a request that update the count of open lexical regions.
+-- Returns the number of MIPS lines of a request that update the count of open lexical regions.
 abbrev pub regions_count : Request → ℕ
 regions_count (requests.OpenLexical destination) = 1
 regions_count (requests.CloseTo mark) = 1
@@ -40,14 +40,14 @@ ask_count frame request =
     argument_count (first_operand request) + argument_count (second_operand request) + 2 + regions_count request
     + gives_count frame (destination_of request) (answer_count request)
 
--- Returns the number of lines of a move of several words.
+-- Returns the number of MIPS lines of a move of several words.
 abbrev pub move_words_count : Frame → (destination source count : ℕ) → ℕ
 move_words_count frame destination source count =
     if is_crossing destination source count
     then 2 * length (result_registers count)
     else moves_count frame destination source count
 
--- Returns the number of lines of an instruction, without those executed after a call returns.
+-- Returns the number of MIPS lines of an instruction, without those executed after a call returns.
 abbrev pub body_count : Program → List Frame → (function : ℕ) → Instruction → ℕ
 body_count program frames function (plain.Move destination source) =
     move_count (frame_at frames function) destination source
@@ -96,13 +96,13 @@ body_count program frames function (plain.Finish value) =
 body_count program frames function (plain.Uncaught tag value) = word_count tag + load_count value + 2
 body_count program frames function (plain.Enter callee) = 3
 
--- Returns the number of lines that follow a call and are executed after it returns.
+-- Returns the number of MIPS lines that follow a call and are executed after it returns.
 abbrev pub after_count : Program → List Frame → (function : ℕ) → Instruction → ℕ
 after_count program frames function (plain.Call callee arguments count result) =
     (routine_at program callee).results + reload_count (frame_at frames function)
 after_count program frames function instruction = 0
 
--- Returns the number of lines in the body of the instruction at `index`: 0 if the instruction is idle.
+-- Returns the number of MIPS lines in the body of the instruction at `index`: 0 if the instruction needs no machine code.
 abbrev pub place_count : Program → List Frame → (function index : ℕ) → Instruction → ℕ
 place_count program frames function index instruction =
     if is_idle (frame_at frames function) index instruction then 0 else body_count program frames function instruction
@@ -111,7 +111,7 @@ abbrev pub count_of : Program → List Frame → (function index : ℕ) → Inst
 count_of program frames function index instruction =
     place_count program frames function index instruction + after_count program frames function instruction
 
--- Returns the number of lines of a function's code from the instruction at `index` on.
+-- Returns the number of MIPS lines of a function's code from the instruction at `index` on.
 abbrev pub code_count : Program → List Frame → (function index : ℕ) → List Instruction → ℕ
 code_count program frames function index [] = 0
 code_count program frames function index (i ∷ code) =
@@ -124,11 +124,11 @@ abbrev pub functions_count : Program → List Frame → (first : ℕ) → List R
 functions_count program frames first [] = 0
 functions_count program frames first (r ∷ routines) = function_count program frames first r + functions_count program frames (suc first) routines
 
--- Returns the number of a function's first line.
+-- Returns the line number of a function's first line.
 abbrev pub function_line : Program → List Frame → (function : ℕ) → ℕ
 function_line program frames function = START_LINES + functions_count program frames 0 (take function program.functions)
 
--- Returns the number of the first line of an instruction.
+-- Returns the line number at which the code of an instruction begins.
 abbrev pub instruction_line : Program → List Frame → (function index : ℕ) → ℕ
 instruction_line program frames function index =
     function_line program frames function + saving_count (frame_at frames function) + code_count program frames function 0 (take index (routine_at program function).code)

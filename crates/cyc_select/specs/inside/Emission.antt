@@ -28,15 +28,15 @@ use Rattle.cyc_select.specs.declared.tables.Tables.{Tables}
 abbrev pub AddsLines : {T : Type 0} → Result T AllocError → (old new : Emitter) → List Line → Type 0
 AddsLines result old new lines = OnOk result (new.lines.items ≡ old.lines.items ++ lines)
 
--- `IsReached` says that the offset of a slot in the frame fits an instruction.
+-- `IsReached` says that the offset of a slot in the frame fits a load or store instruction.
 abbrev pub IsReached : Frame → (slot : ℕ) → Type 0
 IsReached frame slot = slot_word frame slot < MOST_FRAME_WORDS
 
--- `AreReached` says that the offsets of `count` slots from `first` on fit an instruction.
+-- `AreReached` says that the frame offsets of `count` slots from `first` on fit a load or store instruction.
 abbrev pub AreReached : Frame → (first count : ℕ) → Type 0
 AreReached frame first count = (count ≡ 0) ⊎ (slot_word frame first + count ≤ MOST_FRAME_WORDS)
 
--- `IsFound` says that the offset of an operand's slot, if the operand is a slot, fits an instruction.
+-- `IsFound` says that the frame offset of an operand's slot, if the operand is a slot, fits a load or store instruction.
 abbrev pub IsFound : Frame → Operand → Type 0
 IsFound frame (operands.Slot number) = IsReached frame number
 IsFound frame (operands.Word word) = Unit {0}
@@ -45,7 +45,7 @@ abbrev pub IsArgumentFound : Frame → Option Operand → Type 0
 IsArgumentFound frame (Some operand) = IsFound frame operand
 IsArgumentFound frame None = Unit {0}
 
--- `IsRequestFound` says that the offsets of a request's operands and result slots fit an instruction.
+-- `IsRequestFound` says that the frame offsets of a request's operands and result slots fit a load or store instruction.
 pub record IsRequestFound (frame : Frame) (request : Request) : Type 0 where
   pub first : IsArgumentFound frame (first_operand request)
   pub second : IsArgumentFound frame (second_operand request)
@@ -59,7 +59,7 @@ IsTestFound frame (tests.Operands op left right) = IsFound frame left × IsFound
 IsTestFound frame (tests.Sign op operand) = IsFound frame operand
 IsTestFound frame (tests.Computed plan) = IsPlanFound frame plan
 
--- The greatest number of lines that a program may have.
+-- The greatest number of MIPS lines that a program may have.
 abbrev pub most_lines : ℕ
 most_lines = START_LINES + MOST_SIZE
 
@@ -67,23 +67,23 @@ most_lines = START_LINES + MOST_SIZE
 abbrev pub AreFew : Program → Type 0
 AreFew program = (k : ℕ) → (routine_at program k).results ≤ GREATEST_VALUE
 
--- Returns the line numbers of the instructions of a function's code from `index` on, if the first of them begins at line `here`.
+-- Returns the line numbers at which the instructions of a function from `index` on begin, if the first of them begins at line `here`.
 abbrev pub instruction_lines : Program → List Frame → (function index here : ℕ) → List Instruction → List ℕ
 instruction_lines program frames function index here [] = []
 instruction_lines program frames function index here (i ∷ code) =
     here ∷ instruction_lines program frames function (suc index) (here + count_of program frames function index i) code
 
--- Returns the line numbers of the instructions of a function.
+-- For each instruction of a function, returns the number of the first line of its code in the labelled code.
 abbrev pub lines_in : Program → List Frame → (function : ℕ) → List ℕ
 lines_in program frames function =
     instruction_lines program frames function 0 (function_line program frames function + saving_count (frame_at frames function)) (routine_at program function).code
 
--- `IsNumbered` says that a table contains the line numbers of a function.
+-- `IsNumbered` says that a table contains the line numbers in the labelled code at which a function and its instructions begin.
 pub record IsNumbered (program : Program) (frames : List Frame) (function : ℕ) (its : FunctionLines) : Type 0 where
   pub first_is : its.first ≡ function_line program frames function
   pub lines_are : its.lines.items ≡ lines_in program frames function
 
--- `AreNumbered` says that a table contains the line numbers of the first `count` functions.
+-- `AreNumbered` says that a table contains the line numbers in the labelled code for the first `count` functions and their instructions.
 pub record AreNumbered (program : Program) (frames : List Frame) (count : ℕ) (functions : List FunctionLines) : Type 0 where
   pub as_many : length functions ≡ count
   pub each : (k : ℕ) (its : FunctionLines) → slice_get functions k ≡ Some its → IsNumbered program frames k its

@@ -24,7 +24,7 @@ use Rattle.cyc_select.specs.inside.Instructions.{add_immediate, small, minus, lo
 use Rattle.cyc_select.specs.inside.Slots.{value_register, made_in, is_own}
 use Rattle.cyc_select.specs.inside.Operands.{or_immediate, operand_register, condition_of, is_tested}
 
--- Returns true if an instruction has no lines: its frame marks it as idle, and instructions of its kind may be idle.
+-- Returns true if an instruction has no lines: the frame lists it as needing no machine code, and instructions of its form may need none.
 abbrev pub is_idle : Frame → (index : ℕ) → Instruction → Bool
 is_idle frame index (plain.Move destination source) = idle_at frame.idle index
 is_idle frame index (plain.MoveWords destination source count) = idle_at frame.idle index
@@ -36,11 +36,11 @@ is_idle frame index instruction = false
 
 -- ---- the line that a branch copies from its target
 
--- A line can be hoisted before a branch if it computes a register from registers only. A copy of the branch target's first line may fill
--- the delay slot; the branch then jumps to the line after the original. The register must be a temporary, or that of a slot for which the
--- frame permits the copy.
+-- A MIPS line can be hoisted before a branch if it computes a register from registers only. A copy of the branch target's first line may
+-- fill the delay slot; the branch then jumps to the line after the original. The register that the copied line writes must be a
+-- temporary, or that of a slot for which the frame permits the copy.
 
--- Returns the first line of the code that loads a word into a register.
+-- Returns the first line of the code that loads a constant word into a register.
 abbrev pub word_first : (target word : ℕ) → Instr
 word_first target word =
     if fits_signed word
@@ -68,7 +68,7 @@ operation_first (operations.Shift op) target left right = Some (shift_of op targ
 operation_first (operations.ShiftBy op amount) target left right = Some (shift_by_of op target left amount)
 operation_first (operations.MultiplyDivide op from) target left right = None
 
--- Returns the first line of the code of a plan.
+-- Returns the first line of the code of a plan (a sequence of machine operations).
 abbrev pub plan_first : Frame → (target : ℕ) → Plan → Option Instr
 plan_first frame target plan =
     operands_first frame plan.left plan.right
@@ -117,8 +117,7 @@ given_register frame (plain.Unary operator destination operand) = value_register
 given_register frame (plain.Binary operator destination left right) = value_register frame destination
 given_register frame instruction = None
 
--- Returns the register of the slot that the target instruction computes, if the frame permits this
--- instruction's first line to fill delay slots.
+-- Returns the register of the slot that the branch target computes, if the frame permits copies of the target's first line in delay slots.
 abbrev pub own_register : Frame → (target : ℕ) → Instruction → Option ℕ
 own_register frame target instruction = if fills_at frame.fills target then given_register frame instruction else None
 
@@ -157,7 +156,7 @@ hoisted_at frame condition target (Some instruction) =
     then None
     else copied_if condition (own_register frame target instruction) (first_line frame instruction)
 
--- Returns the line that is hoisted before a branch with this test to this target, or `None`.
+-- Returns the MIPS line that is hoisted before a branch with this test to this target, or `None`.
 abbrev pub hoisted : Frame → List Instruction → Test → (target : ℕ) → Option Instr
 hoisted frame code test target = hoisted_at frame (condition_of frame test) target (slice_get code target)
 

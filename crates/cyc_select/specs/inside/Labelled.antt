@@ -34,8 +34,8 @@ IsFormedLine count lines.Return = Unit {0}
 abbrev pub IsFormed : Labelled → Type 0
 IsFormed code = All (IsFormedLine (length code.lines)) code.lines
 
--- Returns the most words that a line takes: a branch to a far target is two instructions with their delay slots, and a jump has a
--- delay slot.
+-- Returns the greatest number of machine words that a line takes: a branch to a far target is two instructions with their delay
+-- slots, and a jump has a delay slot.
 abbrev pub words_of : Line → ℕ
 words_of (lines.Ordinary instruction) = 1
 words_of (lines.Branch condition label) = 4

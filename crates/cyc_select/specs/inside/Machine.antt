@@ -1,6 +1,6 @@
--- The labelled machine defines the meaning of labelled code: it is the MIPS machine without program counter and delay slots. A line is
--- executed as a whole, and a return looks up the line whose address is the return address. An ordinary instruction has the effect of the
--- MIPS machine's own step.
+-- The labelled machine defines the meaning of labelled code: it is the MIPS machine without program counter and delay slots. A MIPS line
+-- is executed as a whole, and a return looks up the line whose address is the return address. An ordinary instruction has the effect of
+-- the MIPS machine's own step.
 use Rattle.std.specs.Prelude.{◌≡◌, ◌≢◌, ℕ, ◌+◌, ◌-◌, ◌*◌, ◌⊎◌, Bool, true, false, if◌then◌else◌, List, [], ◌++◌, length, replicate, Option, Some, None, slice_get, slice_set}
 use Rattle.cyc_words.specs.Ending.{Ending}
 use Rattle.cyc_isa.specs.Effect.{branch_taken, branch_zero_taken}
@@ -56,7 +56,7 @@ machine_of c = record { core = core_of c; memory = memory_of c; phase = phases.R
 abbrev pub world_of : Configuration → World
 world_of c = record { machine = machine_of c; output = c.output; input = c.input }
 
--- Returns the configuration with a MIPS machine's registers and memory, and with this next line.
+-- Returns the configuration with a MIPS machine's registers and memory, in which the given line comes next.
 abbrev pub from_world : World → ℕ → Configuration
 from_world w line =
     record {
@@ -76,7 +76,8 @@ abbrev pub closed : World → Option Ending → State
 closed w (Some ending) = Ended ending w.output w.input
 closed w None = Stopped w.output w.input
 
--- Returns the labelled state of a MIPS machine's world, with this next line if the machine is running.
+-- Returns the labelled state that corresponds to a state of the MIPS machine with its input and
+-- output. If the machine is running, `line` is the next line.
 abbrev pub settled : World → (line : ℕ) → Phase → State
 settled w line phases.Running = Running (from_world w line)
 settled w line phases.Waiting = Stopped w.output w.input

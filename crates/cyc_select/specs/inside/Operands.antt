@@ -31,7 +31,7 @@ use Rattle.cyc_select.specs.inside.Slots.{value_register, or_else, is_kept, load
 
 -- ---- operands
 
--- A word is loaded into a register by one instruction if one half suffices, otherwise by both halves.
+-- A word is loaded into a register by one instruction if one 16-bit half suffices, otherwise by two instructions, one for each half.
 abbrev pub or_immediate : (target half : ℕ) → Instr
 or_immediate target half = machine.Immediate immediate.Or (register_of target) (register_of ZERO) half
 
@@ -73,7 +73,7 @@ operation_code (operations.Shift op) target left right = shift_of op target left
 operation_code (operations.ShiftBy op amount) target left right = shift_by_of op target left amount ∷ []
 operation_code (operations.MultiplyDivide op from) target left right = multiply_divide_of op left right ∷ move_from_of from target ∷ []
 
--- Returns the code of a plan's final step on the word in the target register.
+-- Returns the code of a plan's final step, which turns the word computed in the target register into the plan's result.
 abbrev pub outcome_code : Outcome → (target : ℕ) → List Instr
 outcome_code outcomes.AsItIs target = []
 outcome_code outcomes.WhetherZero target = is_zero target ∷ []
@@ -83,13 +83,13 @@ outcome_code outcomes.WhetherNotZero target = arithmetic_of arithmetic.SetLessUn
 abbrev pub operands_code : Frame → (left right : Operand) → List Instr
 operands_code frame left right = operand_code frame FIRST left ++ operand_code frame SECOND right
 
--- Returns the code of a plan without its final step.
+-- Returns the code of a plan (operands and a machine operation) without its final step, which turns the computed word into the result.
 abbrev pub operation_of : Frame → (target : ℕ) → Plan → List Instr
 operation_of frame target plan =
     operands_code frame plan.left plan.right
     ++ operation_code plan.operation target (operand_register frame FIRST plan.left) (operand_register frame SECOND plan.right)
 
--- Returns the code of a plan with its final step.
+-- Returns the code of a plan (operands and a machine operation) with its final step, which turns the computed word into the result.
 abbrev pub computed_code : Frame → (target : ℕ) → Plan → List Instr
 computed_code frame target plan = operation_of frame target plan ++ outcome_code plan.outcome target
 
@@ -103,7 +103,7 @@ test_code frame (tests.Operands op left right) = operands_code frame left right
 test_code frame (tests.Sign op operand) = operand_code frame FIRST operand
 test_code frame (tests.Computed plan) = operation_of frame FIRST plan
 
--- Returns the branch that is taken if a plan's final step would compute 1.
+-- Returns the branch that is taken if the final step of a plan (a sequence of machine operations) would compute 1.
 abbrev pub branch_on : Outcome → BranchOp
 branch_on outcomes.AsItIs = branch.NotEqual
 branch_on outcomes.WhetherZero = branch.Equal
@@ -118,7 +118,8 @@ condition_of frame (tests.Computed plan) =
 
 -- ---- addresses
 
--- A load or store instruction contains a small offset. A larger offset is added to the address first.
+-- A load or store instruction contains a small offset. An offset that does not fit a load or store
+-- instruction is added to the address first.
 
 abbrev pub far_plan : (address : Operand) → (offset : ℕ) → Plan
 far_plan address offset = arithmetic_plan arithmetic.AddUnsigned address (operands.Word offset) outcomes.AsItIs
@@ -150,7 +151,7 @@ abbrev pub load_count : Operand → ℕ
 load_count (operands.Slot number) = 1
 load_count (operands.Word word) = word_count word
 
--- Returns the number of lines that load a slot into a register: 0 if the slot has a register.
+-- Returns the number of MIPS lines that load a slot into a register: 0 if the slot has a register.
 abbrev pub fetch_count : Option ℕ → ℕ
 fetch_count None = 1
 fetch_count (Some own) = 0
@@ -159,7 +160,7 @@ abbrev pub operand_count : Frame → Operand → ℕ
 operand_count frame (operands.Slot number) = fetch_count (value_register frame number)
 operand_count frame (operands.Word word) = if is_zero_word (operands.Word word) then 0 else word_count word
 
--- Returns the number of lines that store a slot's word in the frame: 0 if the slot's home is a register alone.
+-- Returns the number of MIPS lines that store a slot's word in the frame: 0 if the slot's home is a register alone.
 abbrev pub keep_count : Frame → (slot : ℕ) → ℕ
 keep_count frame slot = if is_kept frame slot then 1 else 0
 
@@ -174,20 +175,20 @@ abbrev pub hand_count : Frame → (source slot : ℕ) → ℕ
 hand_count frame source slot =
     if is_own (value_register frame slot) source then keep_count frame slot else give_count frame slot
 
--- Returns the number of lines that write registers to the `count` slots from `slot` on.
+-- Returns the number of MIPS lines that write registers to the `count` slots from `slot` on.
 abbrev pub gives_count : Frame → (slot count : ℕ) → ℕ
 gives_count frame slot zero = 0
 gives_count frame slot (suc count) = give_count frame slot + gives_count frame (suc slot) count
 
--- Returns the number of lines that reload registers after a call.
+-- Returns the number of MIPS lines that reload registers after a call.
 abbrev pub reload_count : Frame → ℕ
 reload_count frame = sum_by homing.both_count frame.homes
 
--- Returns the number of lines that load the base address for a global: 0 if a register holds it.
+-- Returns the number of MIPS lines that load the base address for a global: 0 if a register holds it.
 abbrev pub reach_count : (global : ℕ) → ℕ
 reach_count global = if is_near global then 0 else 1
 
--- Returns the number of lines that copy an operand to a slot.
+-- Returns the number of MIPS lines that copy an operand to a slot.
 abbrev pub move_count_to : Option ℕ → Frame → (destination : ℕ) → Operand → ℕ
 move_count_to None frame destination source = operand_count frame source + 1
 move_count_to (Some register) frame destination source = load_count source + keep_count frame destination
@@ -195,7 +196,7 @@ move_count_to (Some register) frame destination source = load_count source + kee
 abbrev pub move_count : Frame → (destination : ℕ) → Operand → ℕ
 move_count frame destination source = move_count_to (value_register frame destination) frame destination source
 
--- Returns the number of lines that copy words to slots one by one.
+-- Returns the number of MIPS lines that copy words to slots one by one.
 abbrev pub moves_count : Frame → (destination source count : ℕ) → ℕ
 moves_count frame destination source zero = 0
 moves_count frame destination source (suc count) =
@@ -213,7 +214,7 @@ outcome_count outcomes.AsItIs = 0
 outcome_count outcomes.WhetherZero = 1
 outcome_count outcomes.WhetherNotZero = 1
 
--- Returns the number of lines of a plan without its final step.
+-- Returns the number of MIPS lines of a plan (a sequence of machine operations) without its final step.
 abbrev pub count_of_operation : Frame → Plan → ℕ
 count_of_operation frame plan =
     operand_count frame plan.left + operand_count frame plan.right + operation_count plan.operation

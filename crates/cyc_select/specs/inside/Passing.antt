@@ -21,7 +21,7 @@ free_register (Some register) callee slot = if is_taken callee slot register the
 abbrev pub passed_from : (caller callee : Frame) → (source slot : ℕ) → Option ℕ
 passed_from caller callee source slot = free_register (value_register caller source) callee slot
 
--- Returns the code that stores the word of a slot whose home is a register alone, if the argument is passed from memory.
+-- Returns the code that stores a slot, whose home is a register alone, in its word of memory if the argument is passed from memory.
 abbrev pub spill_from : Option ℕ → (caller : Frame) → (source : ℕ) → List Instr
 spill_from None caller source = if is_kept caller source then [] else store_slot caller (made_in caller source) source ∷ []
 spill_from (Some register) caller source = []

@@ -1,5 +1,5 @@
 -- Plans: the machine operation and operands that compute an operator or a comparison. The plans are this project's own choice;
--- `proofs/Plans` proves that the plans compute these operators and comparisons.
+-- `proofs/values/Plans` proves that the plans of this file compute the plain program's operators and comparisons.
 use Rattle.std.specs.Prelude.{ℕ, Bool, true, false, Option, Some, None, if◌then◌else◌}
 use Rattle.cyc_isa.specs.declared.instr.ImmediateOp.{ImmediateOp}
 use Rattle.cyc_isa.specs.declared.instr.ImmediateOp.TheVariants as immediate
@@ -34,12 +34,12 @@ abbrev pub arithmetic_plan : ArithmeticOp → (left right : Operand) → Outcome
 arithmetic_plan op left right outcome =
     record { operation = operations.Arithmetic op; left = left; right = right; outcome = outcome }
 
--- Returns a plan whose instruction has an immediate operand. The right operand of this plan is the word 0, which needs no line.
+-- Returns a plan whose instruction has an immediate operand. The right operand of this plan is the word 0, which needs no machine code.
 abbrev pub immediate_plan : ImmediateOp → Operand → (half : ℕ) → Outcome → Plan
 immediate_plan op left half outcome =
     record { operation = operations.Immediate op half; left = left; right = operands.Word 0; outcome = outcome }
 
--- Returns a plan with the immediate, if one is given, otherwise the plan `other`.
+-- Returns the plan whose instruction has the given immediate, or the plan `other` if no immediate is given.
 abbrev pub immediate_or : Option ℕ → ImmediateOp → Operand → Outcome → Plan → Plan
 immediate_or (Some half) op left outcome other = immediate_plan op left half outcome
 immediate_or None op left outcome other = other
@@ -71,7 +71,7 @@ product_plan left right = product_or (power_of right) left right
 
 -- ---- comparisons
 
--- Returns the comparison that holds for the exchanged operands exactly if this one holds for the operands in order.
+-- Returns the comparison that holds for the exchanged operands exactly if the given comparison holds for the operands in order.
 abbrev pub mirrored : Comparison → Comparison
 mirrored comparisons.Less = comparisons.Greater
 mirrored comparisons.LessOrEqual = comparisons.GreaterOrEqual

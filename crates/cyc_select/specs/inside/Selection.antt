@@ -163,7 +163,7 @@ abbrev pub argument_code : Frame → (register : ℕ) → Option Operand → Lis
 argument_code frame register None = []
 argument_code frame register (Some operand) = load_code frame register operand
 
--- Returns the number of the machine service that serves a request.
+-- Returns the number of the system call that performs a request to the store (the heap of regions).
 abbrev pub service_number : Request → ℕ
 service_number (requests.OpenLexical destination) = OPEN_LEXICAL
 service_number (requests.CloseTo mark) = CLOSE_LEXICAL
@@ -172,7 +172,7 @@ service_number (requests.CloseDynamic handle) = CLOSE_DYNAMIC
 service_number (requests.Allocate destination handle words) = ALLOCATE
 service_number (requests.Free address) = FREE
 
--- Returns the code that moves the result of a request from the result registers to slots.
+-- Returns the code that moves the result of a request to the store (the heap of regions) from the result registers to slots.
 abbrev pub answer_code : Frame → Request → List Instr
 answer_code frame request = bring_all false frame (destination_of request) (result_registers (answer_count request))
 
@@ -186,7 +186,7 @@ regions_code (requests.CloseDynamic handle) = []
 regions_code (requests.Allocate destination handle words) = []
 regions_code (requests.Free address) = []
 
--- Returns the code of a request to the store.
+-- Returns the code of a request to the store (the heap of regions).
 abbrev pub ask_code : Frame → Request → List Line
 ask_code frame request =
     ordinary (
@@ -217,7 +217,7 @@ calling_code caller callee here label arguments count =
 abbrev pub returned_code : Frame → (result results : ℕ) → List Line
 returned_code frame result results = ordinary (bring_all true frame result (result_registers results) ++ reloads frame)
 
--- Returns the code that ends the run if this return is that of the first call of `main`.
+-- Returns the code that ends the run if a return is the one from the first call of `main`.
 abbrev pub ending_code : Bool → Frame → (here value : ℕ) → List Line
 ending_code is_main frame here value =
     if is_main
@@ -233,7 +233,7 @@ returning_code is_main frame here value results =
     ++ ordinary (load_all frame value (result_registers results) ++ (restores frame ++ pop_frame ∷ []))
     ++ lines.Return ∷ [])
 
--- Returns the code that fills a handler's record: the previous handler, the frame, and the line after the recording call.
+-- Returns the code that fills the first two words of a handler's record: the addresses of the previous handler's record and of the frame.
 abbrev pub recorded_code : Frame → (first : ℕ) → List Instr
 recorded_code frame first =
     store_slot frame HANDLERS first
@@ -276,7 +276,7 @@ throw_code frame here tag value =
     ∷ ordinary (small SERVICE END_UNCAUGHT ∷ syscall ∷ [])
     ++ (ordinary unwound_code ++ lines.Return ∷ []))
 
--- Returns the lines of an instruction, if the first of them has number `here`.
+-- Returns the MIPS lines of an instruction, if the first of them has the line number `here`.
 abbrev pub body : Program → List Frame → (function here : ℕ) → Instruction → List Line
 body program frames function here (plain.Move destination source) =
     move_code (frame_at frames function) destination source
@@ -327,13 +327,14 @@ body program frames function here (plain.Finish value) =
 body program frames function here (plain.Uncaught tag value) = uncaught_code (frame_at frames function) tag value
 body program frames function here (plain.Enter callee) = room_code here
 
--- Returns the lines that follow a call and are executed after it returns.
+-- Returns the MIPS lines that follow a call and are executed after it returns.
 abbrev pub following : Program → List Frame → (function : ℕ) → Instruction → List Line
 following program frames function (plain.Call callee arguments count result) =
     returned_code (frame_at frames function) result (routine_at program callee).results
 following program frames function instruction = []
 
--- Returns the lines of the instruction at `index`, if the first of them has number `here`; an idle instruction has none.
+-- Returns the lines of the instruction at `index`, if the first of them has number `here`; an instruction that needs no
+-- machine code has none.
 abbrev pub place_lines : Program → List Frame → (function index here : ℕ) → Instruction → List Line
 place_lines program frames function index here instruction =
     if is_idle (frame_at frames function) index instruction then [] else body program frames function here instruction

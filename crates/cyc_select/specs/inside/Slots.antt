@@ -52,18 +52,18 @@ give_to (Some register) frame source slot = copy register source ∷ keep_code f
 abbrev pub give_code : Frame → (source slot : ℕ) → List Instr
 give_code frame source slot = give_to (value_register frame slot) frame source slot
 
--- Returns true if the slot's own register is this one.
+-- Returns true if the given register is the slot's own register.
 abbrev pub is_own : Option ℕ → (register : ℕ) → Bool
 is_own None register = false
 is_own (Some own) register = own == register
 
--- Returns the code that writes a register to a slot. If it is the slot's own register, no copy is needed.
+-- Returns the code that writes a register to a slot. If the register is the slot's own, no copy is needed.
 abbrev pub hand_code : Frame → (source slot : ℕ) → List Instr
 hand_code frame source slot =
     if is_own (value_register frame slot) source then keep_code frame slot else give_code frame source slot
 
--- Returns the code that writes a register to a slot, as `give_code` does. If registers are reloaded afterwards (`again`), a slot with a
--- register and memory is written in memory only.
+-- Returns the code that writes a register to a slot, as `give_code` does. If registers are reloaded afterwards (`again`), a slot whose
+-- home is a register and memory is written in memory only.
 abbrev pub bring_code : (again : Bool) → Frame → (source slot : ℕ) → List Instr
 bring_code again frame source slot =
     if again && is_kept frame slot then store_slot frame source slot ∷ [] else give_code frame source slot
@@ -114,7 +114,7 @@ at_global op register global =
 abbrev pub global_code : MemoryOp → (register global : ℕ) → List Instr
 global_code op register global = reach_code global ++ at_global op register global ∷ []
 
--- The instruction that moves the frame pointer to the next frame.
+-- The instruction that moves the frame pointer to the callee's frame, below the current one.
 abbrev pub push_frame : Instr
 push_frame = add_immediate FRAME FRAME (minus (4 * MOST_FRAME_WORDS))
 
@@ -171,7 +171,7 @@ arrivals frame = reloads_from frame 0 (arriving frame)
 abbrev pub arrival_count : Frame → ℕ
 arrival_count frame = sum_by homing.saved_count (take frame.parameters frame.homes)
 
--- Returns the lines at a function's entry: they save registers, then load the parameters that belong in them.
+-- Returns the MIPS lines at a function's entry: they save registers, then load the parameters that belong in them.
 abbrev pub saving_code : Frame → List Instr
 saving_code frame = way_code frame ++ (saves frame ++ arrivals frame)
 

@@ -1,5 +1,5 @@
--- This file defines the frame words that parts of a function need, for parts of which `cyc_meaning` defines only the needs of
--- lists. It also defines the bound on the counted values.
+-- This file defines the frame words that single list elements need; `cyc_meaning` defines only those of whole lists. It also
+-- defines the bound on the counted values.
 use Rattle.std.specs.Prelude.{ℕ, ◌+◌, ◌^◌, max, option_map}
 use Rattle.cyc_types.specs.declared.typed.Operation.{Operation}
 use Rattle.cyc_types.specs.declared.typed.Operation.TheVariants as operation
@@ -29,13 +29,13 @@ operation_need (operation.Pointer o e) t left =
 operation_need (operation.PointerPeek n o e) t left =
     max (left + operand_words (type_of (view_expression e)) + words_of t) (left + expression_need (view_expression e))
 
--- The frame words that one item of a block needs.
+-- The frame words that one declaration or statement of a block needs.
 abbrev pub item_need : Item → ℕ
 item_need (item.Execute s) = statement_need (view_statement s)
 item_need (item.Local w n t v) = initial_need (option_map view_converted v)
 item_need i = 0
 
--- The frame words that one item of a block keeps in addition to the variables.
+-- The frame words that are reserved for one declaration or statement of a block in addition to the variables.
 abbrev pub kept_by_item : Item → ℕ
 kept_by_item (item.Execute s) = kept_by (view_statement s)
 kept_by_item (item.Region w r n) = 1

@@ -55,7 +55,7 @@ context = with_local true pointer (with_local true key (with_region (body_contex
 second : (n : ℕ) → 1 < suc (suc n)
 second n = omega arith
 
--- The field is neither a struct nor a unique pointer, so the key in the field can be read.
+-- In the example, the field that holds the key is neither a struct nor a unique pointer, so the key can be read.
 freed : WellTypedStatement context free
 freed = (
   types.Void,

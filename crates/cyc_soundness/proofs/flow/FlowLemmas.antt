@@ -1,4 +1,4 @@
--- This file is about the flow states of locals: implication between states, and the parts of a state that the rules only lower.
+-- This file is about the flow states of locals: when one state implies another, and facts of a state that the flow rules only weaken.
 use Rattle.std.proofs.Common.{◌≡◌, ℕ, zero, suc, Bool, true, false, not, List, [], ◌∷◌, ◌++◌, refl, sym, ap, subst, ◌∙◌}
 use Rattle.std.specs.Prelude.{◌≢◌, get_or, slice_set, if◌then◌else◌}
 use Rattle.std.proofs.lemmas.List.{get_or-set_other}
@@ -127,7 +127,7 @@ vacated_full (a ∷ as') zero (suc m) s = s
 vacated_full (a ∷ as') (suc n) zero s = s
 vacated_full (a ∷ as') (suc n) (suc m) s = vacated_full as' n m s
 
--- Marking a local as empty yields a weaker flow state.
+-- Marking a local as empty, that is, as holding no known value, yields a weaker flow state.
 pub vacant_implied : (f : State) (n : ℕ) → Implies f (with_fullness Vacant f n)
 vacant_implied Unreached n = unreached_implies Unreached
 vacant_implied (Reached as') n = record { reached = λ h. refl; set = λ m s. vacated as' n m s; full = λ m s. vacated_full as' n m s }
@@ -185,7 +185,7 @@ full_implies : (f : State) (n : ℕ) → Implies (with_fullness Full f n) f
 full_implies Unreached n = unreached_implies Unreached
 full_implies (Reached as') n = record { reached = λ h. refl; set = λ m s. filled_still as' n m s; full = λ m s. filled_full as' n m s }
 
--- Marking locals as full yields a stronger flow state.
+-- Marking locals as full (holding a value that is not lent) yields a stronger flow state.
 pub each_full_implies : (ns : List ℕ) (f : State) → Implies (with_each Full ns f) f
 each_full_implies [] f = implies_self f
 each_full_implies (n ∷ ns) f = implies_after (with_each Full ns (with_fullness Full f n)) (with_fullness Full f n) f (each_full_implies ns (with_fullness Full f n)) (full_implies f n)
@@ -201,7 +201,7 @@ full_both : (f : State) (n m : ℕ) → with_fullness Full (with_fullness Full f
 full_both Unreached n m = refl
 full_both (Reached as') n m = ap Reached (filled_both as' n m)
 
--- Marking several locals as full yields the same flow state in every order.
+-- Marking several locals as full (holding a value that is not lent) yields the same flow state in every order.
 pub full_last : (n : ℕ) (ns : List ℕ) (f : State) → with_fullness Full (with_each Full ns f) n ≡ with_each Full ns (with_fullness Full f n)
 full_last n [] f = refl
 full_last n (m ∷ ns) f = full_last n ns (with_fullness Full f m) ∙ ap (λ g. with_each Full ns g) (full_both f m n)
@@ -222,7 +222,7 @@ full_set Vacant full = absurd (let k : false ≡ true = full in cc)
 full_set Locked full = absurd (let k : false ≡ true = full in cc)
 full_set Full full = refl
 
--- A local that the rules allow to be consumed is full.
+-- A local that the rules allow to be consumed is full, that is, it holds a value that is not lent.
 pub used_full : (f : State) (n : ℕ) → not (is_vacant (fullness f n)) ≡ true → not (is_locked (fullness f n)) ≡ true → IsFullIn f n
 used_full f n set free = full_of (fullness f n) (not-true (is_vacant (fullness f n)) set) (not-true (is_locked (fullness f n)) free)
 

@@ -351,7 +351,8 @@ module _ (n : ℕ) where
         go true same = (each_still (locks_of js) l.now (out same) (there, locked there)).1
         go false same = let k : true ≡ false = sym there ∙ never_items w c js a l fresh flows same in absurd (cc)
 
-    -- The requirements that clauses satisfy while a local is lent, with the flow states after the clauses and at their breaks.
+    -- The requirements that the catch clauses of a `try` satisfy while a local is lent, with the flow states after the clauses
+    -- and at their breaks.
     record LocksClauses (k : ℕ) (c : Around) (cs : Clauses) (a b : Known) : Type 0 where
       kept : InClauses locking k cs
       now : IsLockedIf b.now
@@ -382,7 +383,7 @@ module _ (n : ℕ) where
     out_front k ks apart out (first as') = apart refl
     out_front k ks apart out (later b as' among) = out among
 
-    -- The items after a statement that may end satisfy the requirements while a local is lent.
+    -- If a statement may end, then the block items after it satisfy the requirements on code that runs while a local is lent.
     following_statement : (w : ℕ → Bool) (k : ℕ) (c : Around) (s : Statement) (js : Items) (a b l : Known) → AreFresh w js → Derives (rule_items (statements.following_item (Execute s) c) js l) b → Locks (InStatement locking k s) (may_end s) c a l → (may_end s ≡ false → is_reached l.now ≡ false)
         → (may_end s ≡ true → Locks (InItems locking (k + declared_regions s) js) (items_may_end js) (statements.following_item (Execute s) c) l b × (items_may_end js ≡ true → IsOut (locks_of js)))
         → Locks (InItems locking k (MoreItems (Execute s) js)) (may_end s && items_may_end js) c a b × ((may_end s && items_may_end js) ≡ true → IsOut (locks_of js))
@@ -518,19 +519,19 @@ module _ (n : ℕ) where
             breaks = λ out before. y.breaks out (z.breaks out before);
           }
 
--- A local that an item lends stays lent in all reachable code of its block.
+-- A local that a block item (a declaration or statement) lends stays lent in all reachable code of the item's block.
 pub locked_items : (q : Relied) (n : ℕ) (w : ℕ → Bool) (k : ℕ) (c : Around) (js : Items) (a b : Known) → w n ≡ true → AreFresh w js → IsLockedIn n a.now → Derives (rule_items c js a) b → InItems q k js → InItems (Reached (only n) ∷ q) k js
 locked_items q n w k c js a b mine fresh locked flows kept = (locks_items n q w k c js a b mine fresh locked flows kept).0.kept
 
 -- ---- the start of a loan
 
--- An item that lends a local locks this local.
+-- A declaration or statement that lends a local locks this local.
 pub now_locked : (f : flow.State) (key l : ℕ) → is_reached f ≡ true → not (is_vacant (fullness f key)) ≡ true → key ≢ l → IsLockedIn key (with_fullness Full (with_fullness Locked f key) l)
 now_locked Unreached key l reached set apart = let z : false ≡ true = reached in absurd (cc)
 now_locked (Reached as') key l reached set apart =
     locked_with key Full (Reached (slice_set as' key Locked)) l apart (refl, ap is_locked (set_there as' key Locked (not-true (is_vacant (get_or as' key Vacant)) set)))
 
--- The locals in scope have lower numbers than the local that is declared next.
+-- Every local in scope has a lower index than the local that is declared next.
 scoped_below : (these : Lives) (n : ℕ) (vs : List LocalInScope) (bs : List InScope) → IsScope these vs bs → AreBelow n bs → AreScoped vs n
 scoped_below these n vs [] none below = subst (λ us. AreScoped us n) (sym none) tt
 scoped_below these n vs (Variable b ∷ bs) (rest, (v, vs_are, number, of_type, hidden, life), is) (less, below) =

@@ -1,5 +1,5 @@
--- If a peek has read a local, then the local does not change until the value is used: no expression that is
--- evaluated before the use moves the local.
+-- If an access has read a local without moving its value (a peek), then the local does not change until the
+-- read value is used: no expression that is evaluated before the use moves the local.
 use Rattle.std.proofs.Common.{◌≡◌, ◌≢◌, ℕ, zero, suc, true, false, not, List, [], ◌∷◌, ◌++◌, Option, Some, None, refl, sym, ap, ◌∙◌, eqb}
 use Rattle.std.specs.Prelude.{get_or, nat_eq}
 use Rattle.std.specs.List.{list_any}
@@ -148,7 +148,7 @@ looked_side q None y w f h reached flows kept = kept
 looked_side q (Some n) (VariableSide l t) w f h reached flows kept = kept
 looked_side q (Some n) (CellSide d) w f h reached flows kept = (looks_place q n d (w ++ n ∷ []) f h (at_last n n w refl) reached flows kept).0
 
--- The semantics and the flow rules agree on which local an access peeks at.
+-- The semantics and the flow rules agree on the local that a memory access reads without moving its value (peeks at).
 pub peeked_so : (d : Dereference) → peeked d ≡ peek_after d
 peeked_so (Target k (Peek p n u) t) = refl
 peeked_so (Target k a t) = refl

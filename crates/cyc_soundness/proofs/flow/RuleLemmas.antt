@@ -54,6 +54,6 @@ clauses_implied c start (Case x n r js cs) k m (l, d, later) =
     implies_after k.now (meet k.now (with_each Full (locks_of js) l.now)) m.now (meet_first k.now (with_each Full (locks_of js) l.now))
     (clauses_implied c start cs (or_clause k.now js l) m later)
 
--- An item that locks no local does not change the context of the flow rules.
+-- A declaration or statement that locks no local does not change the context of the flow rules.
 pub nothing_locked : (c : Around) (js : Items) (k m : Known) → Derives (rule_items (record c { locks = c.locks ++ [] }) js k) m → Derives (rule_items c js k) m
 nothing_locked c js k m d = subst (λ ns. Derives (rule_items (record c { locks = ns }) js k) m) (append-nil c.locks) d

@@ -1,4 +1,5 @@
--- This file has tests on numbers, and consequences of two tests.
+-- This file has Boolean tests on natural numbers: equality, membership in a list, and sets given as
+-- functions, with consequences of the tests.
 use Rattle.std.proofs.Common.{◌≡◌, ℕ, Bool, true, false, cond, ◌||◌, nat_eq, List, [], ◌∷◌, ◌++◌, refl, ap, subst, ◌∙◌}
 use Rattle.std.specs.List.{list_any}
 use Rattle.std.proofs.lemmas.Bool.{or_left, or_right}

@@ -162,7 +162,7 @@ module _ (ls : List ℕ) (p o : Guard) (as' : List Fullness) (x : (n : ℕ) → 
       go true l k = not_from_false (is_vacant (get_or as' n Vacant)) (listed_full n l)
       go false l k = subst (λ a. not (is_vacant a) ≡ true) (rest n l) k
 
--- At the end of their loans, the listed locals are full again.
+-- When the loans of the listed locals end, these locals are full again: they hold values that are not lent.
 pub unlocked : (ls : List ℕ) (p : Guard) (e : Bool) (o : Guard) (d : Bool) (f : State) → Leaves ls p e o d → Fits p e f → Fits o d (with_each Full ls f)
 unlocked ls p true o d f x h = subst (Fits o d) (sym (ap (with_each Full ls) h ∙ refilled_never ls)) (fits_never o d)
 unlocked ls p false o true f x h = absurd x
@@ -197,7 +197,7 @@ leaves_lent p m h n = go (nat_eq m n) (reflects m n)
     go true (same e) = (sym (or_true_right (p.locked n)), λ k. subst (λ i. p.locked i ≡ false) e h, λ s. s)
     go false (other k) = (sym (or_false_right (p.locked n)), λ l. absurd (cc), λ s. s)
 
--- The flow state after an item that lends one local and declares another.
+-- The flow state after a declaration or statement that lends one local and declares another.
 pub record Lent (p : Guard) (e : Bool) (m : ℕ) (f : State) : Type 0 where
   pub never : Bool
   pub leaves : Leaves (m ∷ []) (lending m p) never p e

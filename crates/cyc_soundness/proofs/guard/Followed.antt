@@ -134,7 +134,7 @@ module _ (p : Guard) where
     before_clauses (Default c js) ns r = before_items js ns r
     before_clauses (Case e n c js cs) ns r = before_items js ns (before_clauses cs (touched_items js ns) r)
 
--- After an item, the touched locals on which the guard relies are still locked.
+-- After a declaration or statement, the touched locals on which the guard relies are still locked.
 pub after_rests : (j : Item) (p : Guard) (ns : List ℕ) → Rests p ns → Rests (following_item j p) ns
 after_rests (Execute s) p ns r = r
 after_rests (Declare n t v) p ns r = r
@@ -234,11 +234,11 @@ module _ (p : Guard) (e : Bool) where
 abbrev pub BothFit : Guard → Bool → Guard → Bool → Known → Type 0
 BothFit p e o d k = Fits p e k.now × Fits o d k.breaks
 
--- Says that the flow states after an item and at its breaks match their guards.
+-- Says that the flow states after a declaration or statement, and at its breaks, match their guards.
 abbrev pub ItemFits : Item → Guard → Bool → Guard → Bool → Known → Type 0
 ItemFits j p e o d l = (i : Bool) × Leaves (locked_by j) (following_item j p) i p e × Fits (following_item j p) i l.now × Fits o d l.breaks
 
--- The match of flow states and guards after items that have locked these locals.
+-- The match of flow states with guards after block items (declarations and statements) that have locked the listed locals.
 pub record ItemsFit (ls : List ℕ) (p : Guard) (e : Bool) (o : Guard) (d : Bool) (l : Known) : Type 0 where
   pub inner : Guard
   pub never : Bool

@@ -25,7 +25,7 @@ use Rattle.cyc_soundness.proofs.guard.Followed.{rests_back, before, before_initi
 use Rattle.cyc_soundness.proofs.guard.Followed.{followed_place, followed_placement, followed_converted, followed_side, BothFit, ItemFits, ItemsFit, caught_fits, followed_statement, followed_items, followed_item, falls, falls_items, falls_clauses}
 use Rattle.cyc_soundness.proofs.guard.Never.{never_items}
 
--- Says that the peeks whose values are not yet used are exactly those of the guard.
+-- Says that the locals that were read early (peeked at), and whose read values are not yet used, are exactly the guard's peeked locals.
 abbrev pub Waits : Guard → List ℕ → Type 0
 Waits p q = (n : ℕ) → p.peeked n ≡ has q n
 
@@ -260,7 +260,7 @@ kept_continue (Some l) f left b h (k, u) = h (held_of l.head) (tested left l.hea
 
 -- ---- catch clauses
 
--- The locals on which the clauses of a `try` rely: the locals that hold values at the start of the clauses.
+-- The locals on which the catch clauses of a `try` rely: the locals that hold values at the start of the clauses.
 record Caught (p : Guard) (ts : List ℕ) (f : State) : Type 0 where
   relied : ℕ → Bool
   reliable : IsReliable p relied (held_of f)
@@ -314,7 +314,7 @@ leaves_relying : (ls : List ℕ) (p o : Guard) (d : Bool) (r : ℕ → Bool) →
 leaves_relying ls p o true r h x = x
 leaves_relying ls p o false r h x = λ n. ((x n).0, (x n).1, λ s. h n ((x n).2 s))
 
--- The flow state after clauses is at most the state before the clauses.
+-- The flow state after the catch clauses of a `try` is at most the state before the clauses.
 clauses_fall : (c : Around) (start : State) (cs : Clauses) (k l : Known) → Derives (rule_clauses c start cs k) l → IsAtLeast (held_of k.now) (held_of l.now)
 clauses_fall c start NoClauses k l (u, eq) = subst (λ z. IsAtLeast (held_of k.now) (held_of z.now)) (sym eq) (at_least_same (held_of k.now))
 clauses_fall c start (Default b js) k l (m, x, (u, eq)) = subst (λ z. IsAtLeast (held_of k.now) (held_of z.now)) (sym eq) (meet_left k.now (with_each Full (locks_of js) m.now))
@@ -343,7 +343,7 @@ kept_loan p n m f g j h k1 k2 eq i =
     let lent : State = with_fullness Full (with_fullness Locked f m) n in
     (seen_kept p [] m f h k1 k2, at_least_trans (with_held true (held_of f) n) (held_of lent) j (lent_at_least f n m k1) (moved_to g lent j eq i))
 
--- A list of items is unreachable, or it is guarded.
+-- A list of block items (declarations and statements) is unreachable, or it satisfies the guarded form of the flow rules.
 run_or_never : (p : Guard) (e : Bool) (x : Option Exits) (js : Items) (f : State) (j : Held) → Fits p e f → (e ≡ false → KeepsItems p x js (held_of f) j) → KeepsItems p x js (held_of f) j
 run_or_never p true x js f j h k = subst (λ g. KeepsItems p x js (held_of g) j) (sym h) (never_items p x js j)
 run_or_never p false x js f j h k = k refl

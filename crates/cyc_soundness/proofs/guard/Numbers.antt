@@ -1,4 +1,4 @@
--- The numbers of declared locals are fresh: no declared local is lent at its declaration.
+-- The indices of declared locals are fresh: no local is lent at the moment of its declaration.
 use Rattle.std.proofs.Common.{◌≡◌, ℕ, Bool, true, false, Option, Some, None}
 use Rattle.cyc_types.specs.TypedTrees.{Statement, Block, Empty, Evaluate, Swap, If, While, Return, Break, Continue, Throw, Try, Items, NoItems, MoreItems, Item, Execute, Declare, DeclareRegion, OpenRegion, DeclareAlias, DeclareKey, Clauses, NoClauses, Default, Case}
 use Rattle.cyc_soundness.specs.inside.guard.Held.{updated}

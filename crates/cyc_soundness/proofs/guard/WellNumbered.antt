@@ -1,4 +1,4 @@
--- In a well-typed program the numbers of declared locals are fresh: a lent local is in scope, and a declared local has the next number.
+-- In a well-typed program the index of each declared local is fresh: a lent local is in scope, and a declared local has the next index.
 use Rattle.std.proofs.Common.{◌≡◌, ℕ, suc, ◌+◌, ◌<◌, ◌≤◌, Bool, true, false, cond, nat_eq, List, [], ◌∷◌, Some, None, length, refl, subst, arith, inl, inr}
 use Rattle.cyc_types.specs.Types.{Ty}
 use Rattle.cyc_types.specs.Declarations.{declared_types, item_types}
@@ -9,11 +9,11 @@ use Rattle.cyc_soundness.proofs.guard.Bools.{Reflects, same, other, reflects}
 use Rattle.cyc_soundness.proofs.guard.Numbers.{IsFresh, AreFresh, AreFreshClauses}
 use Rattle.cyc_soundness.proofs.guard.Whole.{AreAllFresh}
 
--- Says that all lent locals have numbers below m.
+-- Says that all lent locals have indices below m.
 abbrev pub AreBelow : (locked : ℕ → Bool) → ℕ → Type 0
 AreBelow w m = (n : ℕ) → w n ≡ true → n < m
 
--- Says that all locals in scope have numbers below m.
+-- Says that all locals in scope have indices below m.
 abbrev pub InScope : List LocalInScope → ℕ → Type 0
 InScope [] m = Unit {0}
 InScope (v ∷ vs) m = (v.number < m) × InScope vs m

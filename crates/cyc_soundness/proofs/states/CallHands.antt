@@ -70,7 +70,7 @@ pub variables_pending : (g : Typing) (q : Pending) (bs : List InScope) → AreVa
 variables_pending g q [] are = tt
 variables_pending g q (b ∷ bs) (is, are) = (variable_pending g q b is, variables_pending g q bs are)
 
--- Facts about which variables hold their content do not affect which lifetimes are open.
+-- Facts about which variables hold their values do not affect which lifetimes are open.
 open_marked : (g : Typing) (here : ℕ → Standing) (l : Life) → IsOpenIn g l → IsOpenIn (record g { here = here }) l
 open_marked g here (Kept region) is = is
 open_marked g here (OfRegion number ns us) is = is
@@ -115,7 +115,7 @@ holds_lent g j f bs (reached, are) = (reached, set_lent g j f bs are)
 
 -- ---- keys
 
--- Freeing a key closes its dynamic region and keeps the world well-typed.
+-- Freeing a key closes its dynamic region and keeps the heap state (regions and objects) well-typed.
 pub closed_by_key : (g : Typing) (regions : List Region) (objects : List Object) (number i : ℕ) (r : Region) → IsAmong number g.kept → g.own (KeyOf number) ≡ Hand i → IsTyped g regions objects
     → IsTyped (giving g (Some (KeyOf number)) Nobody) (set regions number r) objects
 closed_by_key g regions objects number i r among has typed =

@@ -29,7 +29,7 @@ use Rattle.cyc_soundness.proofs.states.StillHands.{variables_grown, given_typed}
 use Rattle.cyc_soundness.proofs.states.CallHands.{hands_globals, variables_marked}
 use Rattle.cyc_soundness.proofs.states.StackLocals.{open_of, globals_among, kept_open, object_known, open_outlasting, IsPresent, outlasting_open, lent_held}
 
--- A typed state is assembled from its parts.
+-- A run state is typed if its heap state, its environment, its scope and its stack are typed.
 pub running : (p : Program) (g : Typing) (x : Exits) (bs : List InScope) (e : Environment) (w : World) → IsTyped g w.regions w.objects → KnowsProgram g p → IsBound e.locals e.counters bs → AreVariables g bs
     → (focus : Focus) (k : List Entry) → LiveIn k bs → IsFocus p g x bs focus k → IsWell p (Running focus k e w)
 running p g x bs e w typed globals bound variables focus k live stands =
@@ -56,7 +56,7 @@ open_object g regions object (OfRegion number around lent) common opens = opens
 open_object g regions object (Kept a) common opens = opens
 open_object g regions object Owned common opens = absurd common
 
--- A resource at which a peek looks, or that an operand holds, has a holder.
+-- A resource that a peek has read from a local, or that an operand holds, has a holder.
 pub part_had : (g : Typing) (i : ℕ) (peek : Option ℕ) (o : Option Thing) → ClaimsPart g i peek o → IsHad g o
 part_had g i None None is = tt
 part_had g i (Some n) None is = tt
@@ -204,7 +204,7 @@ plain_unkept (Key (OfRegion number ns us)) plain = tt
 plain_unkept (Key Owned) plain = tt
 plain_unkept (Struct n ls) plain = tt
 
--- A type that is not a key and determines its claims is plain.
+-- A type is plain if it contains no key and if it alone determines the resources that its values claim.
 pub both_plain : (t : RunTy) → IsKeyless t → IsByType t → IsPlain t
 both_plain Int keyless by = tt
 both_plain Char keyless by = tt
@@ -261,7 +261,7 @@ module _ (p : Program) (g : Typing) (x : Exits) (bs : List InScope) (e : Environ
       let c = content_of kind number offset t y at cells opens filled same in
       subst (λ s. IsWell p s) (sym (c.loads k e)) (running p g x bs e w typed globals bound variables (Given (record { kind = kind; value = c.value })) k live (r, f, holds, fits c.value c.has, comes c, stack))
 
-  -- Writing a known cell yields a typed state, whose typing has grown.
+  -- Writing a cell of a known object yields a typed state, whose typing has grown.
   module _ (v : Operand) (focus : Focus) (k : List Entry) (number offset m : ℕ) (t : RunTy) (y : ObjectType) (here : ℕ → Standing) where
     abbrev pub written_typing : Typing
     written_typing = record (with_filled g number (risen offset m)) { here = here }
@@ -309,7 +309,7 @@ module _ (p : Program) (g : Typing) (x : Exits) (bs : List InScope) (e : Environ
 
 -- ---- storing an operand's value
 
--- The relation `Changed` holds if it holds with the standing of variables written out.
+-- The relation `Changed` holds from a typing if it holds from the same typing with its field `here` written out.
 changed_from : (old : Holder) (g h : Typing) → Changed old (record g { here = g.here }) h → Changed old g h
 changed_from old g h changed = record {
   grows = record { objects = changed.grows.objects; filled = changed.grows.filled; fields = changed.grows.fields; kept = changed.grows.kept };
@@ -358,7 +358,7 @@ module _ (p : Program) (g : Typing) (x : Exits) (bs : List InScope) (e : Environ
         (λ object j hidden apart kept. before object j hidden apart kept) (λ j u found apart kept. beside j u found apart kept) free lasts (λ kept. (given_now g.own thing its, claims.1))
         (λ more now. goes (changed_after (Hand i) (record g { here = here }) (record stored_given { here = here }) stored_typing (giving_changed (record g { here = here }) thing (Hand i) its claims.0) more) now)
 
-  -- A value is stored, and no variable gains or loses its content.
+  -- A value is stored, and no variable gains or loses its value.
   pub stores_on : (v : Operand) (focus : Focus) (k : List Entry) (number offset m i : ℕ) (t : RunTy) (y : ObjectType) → LiveIn k bs → slice_get g.objects number ≡ Some y → slice_get y.cells offset ≡ Some t → IsOpenObject g w.regions number y.life
       → slice_get g.filled number ≡ Some m → offset ≤ m → y.is_hidden ≡ false → IsResult g (Value t) v → Claims g.own (Hand i) t v.value
       → (Changed (Hand i) g (stored_typing v focus k number offset m i t y g.here) → IsFilled (stored_typing v focus k number offset m i t y g.here) number (suc offset) → IsFocus p (stored_typing v focus k number offset m i t y g.here) x bs focus k)

@@ -1,5 +1,5 @@
 -- This file is about resources that change holders: keys, and pointers to unique objects. All resources that the step does not move keep
--- their holders, so typed parts stay typed.
+-- their holders, so typed parts of the run state stay typed.
 use Rattle.std.proofs.Common.{◌≡◌, ◌≢◌, ℕ, Bool, true, false, List, [], ◌∷◌, set, Option, Some, None, slice_get, refl, sym, ap, subst, ◌∙◌, inl, inr, eqb}
 use Rattle.std.specs.Prelude.{if◌then◌else◌, ◌==◌}
 use Rattle.std.proofs.lemmas.Bool.{eqb-true, eq-eqb, false_from_ne_true}
@@ -77,7 +77,7 @@ marked_other object b here n apart = other_number n object b (here n) apart
 pub marked_before : (object : ℕ) (b : Standing) (here : ℕ → Standing) (n : ℕ) (s : Standing) → n ≢ object → marked object b here n ≡ s → here n ≡ s
 marked_before object b here n s apart e = sym (marked_other object b here n apart) ∙ e
 
--- A variable that receives content and already had content keeps its standing `Here`.
+-- A variable that holds its value (standing `Here`) still has this standing after it receives a value.
 pub marked_keeps : (object : ℕ) (here : ℕ → Standing) (n : ℕ) → here n ≡ Here → marked object Here here n ≡ Here
 marked_keeps object here n is = by_test (n == object) (here n) Here Here (λ e. refl) (λ e. is)
 
@@ -105,7 +105,7 @@ lent_no_hand i m j e = let k : Lent i m ≡ Hand j = e in absurd (cc)
 pub lent_not_at : (i m n o : ℕ) → Lent i m ≢ At n o
 lent_not_at i m n o e = let k : Lent i m ≡ At n o = e in absurd (cc)
 
--- A variable whose content is lent does not hold its content.
+-- A variable whose value is lent (standing `Away`) does not have the standing `Here` of a variable that holds its value.
 pub away_not_here : (a : Standing) (j : ℕ) → a ≡ Away j → a ≡ Here → ⊥
 away_not_here a j away here = let k : Away j ≡ Here = sym away ∙ here in absurd (cc)
 
@@ -123,8 +123,8 @@ at_some m n e = let k : At m n ≡ Nobody = e in absurd (cc)
 
 -- ---- the change relation
 
--- The resources of one holder go to another holder. Nothing else changes, except that facts are added and that variables receive content,
--- unless they have lent their content.
+-- The resources of one holder go to another holder. Nothing else changes, except that facts are added and that variables receive values,
+-- unless they have lent theirs.
 pub record Changed (old : Holder) (g h : Typing) : Type 0 where
   pub grows : Grows g h
   pub own : (a : Thing) → g.own a ≢ old → h.own a ≡ g.own a
@@ -196,11 +196,11 @@ handing_changed g o old new object b has back from = record {
     away Gone back from n j hides is apart other = marked_other object Gone g.here n (apart_from n (from (λ e. let k : Gone ≡ Here = e in absurd (cc))) apart) ∙ is
     away (Away i) back from n j hides is apart other = marked_other object (Away i) g.here n (apart_from n (from (λ e. let k : Away i ≡ Here = e in absurd (cc))) apart) ∙ is
 
--- A variable loses its content to a new holder.
+-- A variable loses the resource of its value to a new holder.
 pub gone_changed : (g : Typing) (o : Option Thing) (new : Holder) (object : ℕ) → Owns g.own (At object 0) o → Changed (At object 0) g (handing g o new object Gone)
 gone_changed g o new object has = handing_changed g o (At object 0) new object Gone has (λ e. let k : Gone ≡ Here = e in absurd (cc)) (λ other. refl)
 
--- A variable receives content. This affects neither holders that have lent other resources nor a variable to which pointers may point.
+-- A variable receives a value. This affects neither holders that have lent other resources nor a variable to which pointers may point.
 pub marked_changed : (g : Typing) (object : ℕ) → Changed (At object 0) g (record g { here = marked object Here g.here })
 marked_changed g object = record {
   grows = same_grows g g.own (marked object Here g.here);
@@ -224,7 +224,7 @@ shown_changed g object y there shown = record {
   loans = refl;
 }
 
--- Facts about locals stay true if all full locals keep their contents.
+-- Facts about locals stay true if every local that holds a value that is not lent keeps this value.
 module _ (g h : Typing) (grows : Grows g h) (depth : h.depth ≡ g.depth) where
   one_here : (f : flow.State) (b : InScope) → ((n object : ℕ) → IsFullIn f n → IsHere g g.depth n object → IsHere h g.depth n object) → HoldsIts g f b → HoldsIts h f b
   one_here f (Variable b) now (set, full) = (λ s. grows.filled b.object 1 (set s), λ s. subst (λ d. IsHere h d b.number b.object) (sym depth) (now b.number b.object s (full s)))

@@ -1,4 +1,5 @@
--- A stack entry keeps its types for every holder of the resource, and an entry that awaits no value is only dropped.
+-- This file proves that a stack stays typed when a resource changes its holder, if no stack entry claims this
+-- resource. A stack entry that awaits no value is only dropped.
 use Rattle.std.proofs.Common.{◌≡◌, ◌≢◌, inl, inr, ℕ, ◌≤◌, ◌<◌, ◌+◌, Bool, true, false, List, [], ◌∷◌, Option, Some, None, slice_get, refl, sym, ap, subst, ◌∙◌, arith}
 use Rattle.std.specs.Prelude.{if◌then◌else◌, suc, length, get_or}
 use Rattle.std.proofs.lemmas.Option.{same_Some}
@@ -28,7 +29,7 @@ use Rattle.cyc_soundness.proofs.states.Hands.{Changed, stays_changed, owns_kept,
 use Rattle.cyc_soundness.proofs.states.StackLemmas.{relied_if, IsAboveBy, IsAbove, above_by, hand_other, lent_other, looked_other, none_lent, operands_long, above_to, statement_spared, ends_relied}
 use Rattle.cyc_soundness.proofs.states.StackLemmas.{no_fewer, part_spared, waits_whole, place_whole, goes_relied, above_after, above_outside, relied_other, only_full, lender_other, outer_other, array_grown, full_at_grown}
 
--- The local with an unused peek into which a stored operand points.
+-- The local, if any, from which a stored pointer operand was read early (peeked) and not yet used.
 abbrev held_peek : Awaiting → Option ℕ
 held_peek (ApplyPointer peek operator left) = peek
 held_peek (StoreCell peek place) = peek
@@ -46,7 +47,7 @@ looked_unspared (Some m) q n e spared =
     let one : is_full (get_or (only m) n Vacant) ≡ false = spared.0 in
     let z : true ≡ false = sym (ap is_full (ap (λ i. get_or (only i) n Vacant) same ∙ only_full n)) ∙ one in absurd (cc)
 
--- An enclosing flow state relies on the local whose peek is not yet used.
+-- An enclosing flow state relies on a local that was read early (peeked at) and whose read value is not yet used.
 unspared : (a : Awaiting) (q r : Relied) (n : ℕ) → held_peek a ≡ Some n → IsSpared (relied_by (part a) q r) n → ⊥
 unspared (ApplyPointer peek operator left) q r n e spared = looked_unspared peek r n e spared
 unspared (StoreCell peek place) q r n e spared = looked_unspared peek r n e spared
@@ -122,7 +123,7 @@ changed_outside old g h d changed = record {
   loans = changed.loans;
 }
 
--- Says that all variables keep their contents and their loans.
+-- Says that all variables keep their values and their loans.
 abbrev pub AreStill : Typing → Typing → Type 0
 AreStill g h = (object : ℕ) → h.here object ≡ g.here object
 
@@ -135,7 +136,7 @@ holds_by : (empties : Bool) (old : Holder) (g h : Typing) (f : flow.State) (bs :
 holds_by false old g h f bs still changed other holds = holds_here g h changed.grows changed.depth f bs (λ n object full here. (still refl object ∙ here.0, slot_kept old g h changed g.depth n object here.1)) holds
 holds_by true old g h f bs still changed other holds = holds_kept old g h changed f bs (other refl) holds
 
--- A variable that has lent its content before a step has still lent it after the step.
+-- A variable that has lent its value before a step has still lent it after the step.
 lent_still : (empties : Bool) (old : Holder) (g h : Typing) (x y : Exits) (k : List Entry) (lent j : ℕ) (t : RunTy) (object : ℕ) → (empties ≡ false → AreStill g h) → Changed old g h → x ≡ lending y lent → IsAboveBy empties x g (EndLoan lent ∷ k) old → j < g.loans
     → IsLentOut g lent j t object → IsLentOut h lent j t object
 lent_still empties old g h x y k lent j t object still changed same above less (l, there, away) = (

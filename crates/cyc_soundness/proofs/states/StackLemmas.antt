@@ -1,4 +1,5 @@
--- This file is about the typing of stacks, which is preserved when the typing of the world grows, and about the locals in scope.
+-- This file is about the locals in scope and the typing of stacks. The typing of a stack is preserved when the typing of the
+-- heap state (regions and objects) grows.
 use Rattle.std.proofs.Common.{◌≡◌, ◌≢◌, inl, inr, ℕ, ◌≤◌, ◌<◌, ◌+◌, Bool, true, false, List, [], ◌∷◌, Option, Some, None, slice_get, refl, sym, ap, subst, ◌∙◌, arith}
 use Rattle.std.specs.Prelude.{if◌then◌else◌, nat_lt, ◌⊎◌, zero, suc, length, get_or}
 use Rattle.std.proofs.lemmas.Bool.{ltb-true, false_from_ne_true}
@@ -46,7 +47,7 @@ abbrev pub relied_if : (empties : Bool) → Relied → Relied
 relied_if false q = []
 relied_if true q = q
 
--- Says that no flow state relies on the content of this variable.
+-- Says that no flow state relies on the value of this variable.
 abbrev IsLoose : (empties : Bool) → Exits → Typing → List Entry → (object : ℕ) → Type 0
 IsLoose empties x g k object = (d n : ℕ) × IsSlot g d n object × (((d ≡ g.depth) × IsSpared (relied_at (relied_if empties x.relied) k) n) ⊎ (g.depth < d))
 
@@ -91,7 +92,7 @@ lent_other empties x g k i object (Hand j) above less = lent_no_hand i object j
 lent_other empties x g k i object (At other offset) above less = lent_not_at i object other offset
 lent_other empties x g k i object (Lent j other) above less = λ e. (let same : i ≡ j = (lent_same i object j other e).0 in absurd (omega (arith, above, less, same)))
 
--- If a local differs from a relied local, then their variables differ too.
+-- If a local differs from a local on whose value a flow state relies, then the variables of the two locals differ too.
 slot_other : (g : Typing) (n object other : ℕ) → IsSlot g g.depth n object → (d m : ℕ) → IsSlot g d m other → (d ≡ g.depth → m ≡ n → ⊥) → At object 0 ≢ At other 0
 slot_other g n object other slot d m its apart e =
     let (depth, number) = slot_same g g.depth d n m other (subst (λ i. IsSlot g g.depth n i) (at_same object 0 other 0 e).0 slot) its in
@@ -110,7 +111,7 @@ variable_other x g k n object (At other (suc i)) above slot relied = λ e. (let 
 variable_other x g k n object (At other zero) (inl loose) slot relied = loose_other true x g k n object other loose slot relied
 variable_other x g k n object (At other zero) (inr (filling, shown)) slot relied = let z : true ≡ false = filling in absurd (cc)
 
--- A cell to which pointers point differs from a variable at which a peek looks.
+-- A cell to which pointers point differs from a variable that a peek has read.
 hiding_other : (g : Typing) (object other : ℕ) → IsHiding g object true → IsHiding g other false → At object 0 ≢ At other 0
 hiding_other g object other (y, there, hidden) (z, stands, shown) e =
     let same : y ≡ z = same_Some y z (sym there ∙ ap (λ n. slice_get g.objects n) (at_same object 0 other 0 e).0 ∙ stands) in
@@ -287,7 +288,7 @@ not_full : (f : flow.State) (n : ℕ) → is_reached f ≡ true → IsSparedBy f
 not_full Unreached n reached one = absurd (let k : false ≡ true = reached in cc)
 not_full (Reached as') n reached one = one
 
--- A variable on which clauses rely differs from the old holder of the resource.
+-- A variable on which the catch clauses of a `try` rely differs from the old holder of the resource.
 pub relied_other : (x y : Exits) (g : Typing) (cs : Clauses) (k : List Entry) (f : flow.State) (old : Holder) (m object : ℕ) → x ≡ relying y f → is_reached f ≡ true → IsAboveBy true x g (Handler cs ∷ k) old → IsFullIn f m → IsSlot g g.depth m object → At object 0 ≢ old
 relied_other x y g cs k f old m object same reached above full slot = variable_other x g (Handler cs ∷ k) m object old above slot
     (λ spared. (let one : IsSparedBy f m = (subst (λ (z : Exits). IsSpared z.relied m) same spared).0 in let z : true ≡ false = sym full ∙ not_full f m reached one in absurd (cc)))
@@ -296,7 +297,7 @@ pub only_full : (n : ℕ) → get_or (only n) n Vacant ≡ Full
 only_full zero = refl
 only_full (suc n) = only_full n
 
--- A variable that has lent its content differs from the old holder of the resource.
+-- A variable that has lent its value differs from the old holder of the resource.
 pub lender_other : (x y : Exits) (g : Typing) (k : List Entry) (lent : ℕ) (old : Holder) (object : ℕ) → x ≡ lending y lent → IsAboveBy true x g (EndLoan lent ∷ k) old → IsSlot g g.depth lent object → At object 0 ≢ old
 lender_other x y g k lent old object same above slot = variable_other x g (EndLoan lent ∷ k) lent object old above slot
     (λ spared. (let one : is_full (get_or (only lent) lent Vacant) ≡ false = (subst (λ (z : Exits). IsSpared z.relied lent) same spared).0 in

@@ -85,7 +85,7 @@ pub among_set : {b : Bound} {bs : List InScope} (g : Typing) (f : flow.State) �
 among_set g f (first cs) (is, are) s = is.0 s
 among_set g f (later c cs among) (is, are) s = among_set g f among are s
 
--- A full local holds the resource of its content.
+-- A full local holds the resource that its value claims.
 pub among_own : {b : Bound} {bs : List InScope} (g : Typing) (f : flow.State) → IsAmong (Variable b) bs → AreSet g f bs → IsFullIn f b.number → IsHere g g.depth b.number b.object
 among_own g f (first cs) (is, are) s = is.1 s
 among_own g f (later c cs among) (is, are) s = among_own g f among are s
@@ -94,7 +94,7 @@ pub among_level : {l : ℕ} {bs : List InScope} (e : Environment) → IsAmong (L
 among_level e (first cs) (is, are) = is
 among_level e (later c cs among) (is, are) = among_level e among are
 
--- An outer scope has at most the facts of an inner scope.
+-- The facts that hold about all locals of an inner scope also hold about the locals of an outer scope.
 pub within_bound : (e : Environment) (cs bs : List InScope) → Within cs bs → IsBound e.locals e.counters bs → IsBound e.locals e.counters cs
 within_bound e cs bs (itself _) are = are
 within_bound e cs bs (older b _ ds inner within) (is, are) = within_bound e cs ds within are
@@ -152,7 +152,7 @@ set_with_fullness g a f number (Variable b ∷ bs) (less, below) ((set, full), a
     ((λ s. set (other_set a f number b.number apart s), λ s. full (other_full a f number b.number apart s)), set_with_fullness g a f number bs below are)
 set_with_fullness g a f number (b ∷ bs) (less, below) (is, are) = (tt, set_with_fullness g a f number bs below are)
 
--- All locals in scope with one number have the same object.
+-- All locals in scope that have the same index are bound to the same object.
 one_object : (e : Environment) (number object : ℕ) (b : Bound) → e.locals number ≡ Some object → e.locals b.number ≡ Some b.object → b.number ≡ number → b.object ≡ object
 one_object e number object b there here same =
     let k : Some object ≡ Some b.object = sym there ∙ ap e.locals (sym same) ∙ here in
@@ -184,7 +184,7 @@ set_stored g e a f number object (b ∷ bs) (here, bound) one full reached own (
 pub none_among : {A B : Type 0} {a : A} → IsAmong a [] → B
 none_among among = elim among [ ]
 
--- The content of a local is in only one object.
+-- The value of a local is stored in only one object.
 pub full_here : (g : Typing) (e : Environment) (n object : ℕ) (bs : List InScope) → IsBound e.locals e.counters bs → e.locals n ≡ Some object → IsFull g object → AreFullAt g n object bs
 full_here g e n object [] bound one full = tt
 full_here g e n object (Variable b ∷ bs) (here, bound) one full =
@@ -210,7 +210,7 @@ module _ (old : Holder) (g h : Typing) (changed : Changed old g h) (n object : �
       ]
   refilled_set f (b ∷ bs) (here, at) (is, are) = (tt, refilled_set f bs at are)
 
-  -- When the loan of a local ends, the local is full again.
+  -- When the loan of a local ends, the local is full again: it holds a value that is not lent.
   pub given_back : (f : flow.State) (bs : List InScope) → AreFullAt g n object bs → Holds g f bs → Holds h (with_fullness Full f n) bs
   given_back f bs at (reached, are) = (reached_with Full f n reached, refilled_set f bs at are)
 

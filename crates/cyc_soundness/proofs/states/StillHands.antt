@@ -1,4 +1,5 @@
--- This file is about steps in which no resource changes its holder and the world is unchanged: typed parts stay typed.
+-- This file is about steps in which no resource changes its holder and the heap state (regions and objects) is
+-- unchanged: typed parts stay typed.
 use Rattle.std.proofs.Common.{◌≡◌, ◌≢◌, ℕ, Bool, true, false, List, set, Option, Some, None, slice_get, refl, sym, ap, subst, ◌∙◌, inl, inr, ◌⊎◌}
 use Rattle.std.specs.Prelude.{if◌then◌else◌, ◌==◌}
 use Rattle.std.proofs.lemmas.Bool.{eqb-true}
@@ -18,7 +19,7 @@ use Rattle.cyc_soundness.proofs.states.WorldLemmas.{object_grown}
 use Rattle.cyc_soundness.proofs.states.Hands.{given_other, held_before, given_too, nobody_before, marked_before, at_same, at_no_hand, at_not_lent, lent_same, lent_some, lent_no_hand, lent_not_at, away_not_here, away_not_gone, away_same, at_some, Changed, stays_changed, same_grows, giving_changed}
 use Rattle.cyc_soundness.proofs.states.Hands.{claims_kept, hiding_kept, variables_kept, holds_kept}
 
--- Says that the typing grows, and that variables may receive content.
+-- Says that the typing grows, and that variables may receive values.
 pub record Raises (g h : Typing) : Type 0 where
   pub grows : Grows g h
   pub own : h.own ≡ g.own
@@ -56,7 +57,8 @@ module _ (g h : Typing) (stays : Stays g h) where
 
 -- ---- the world is unchanged
 
--- A resource moves to another holder. Each cell held its own content before, and the contents of different cells are different resources.
+-- A resource moves to another holder. Each cell held the resource of its own value before, and the values of different cells claim
+-- different resources.
 pub hands_typed : (g : Typing) (o : Option Thing) (old new : Holder) (here : ℕ → Standing) (regions : List Region) (objects : List Object) → Owns g.own old o → IsHeld old
     → ((object i : ℕ) (t : ObjectType) (x : Object) → slice_get g.objects object ≡ Some t → slice_get objects object ≡ Some x → IsKept (record g { own = given o new g.own; here = here }) object i t.is_hidden
     → (IsKept g object i t.is_hidden × (At object i ≢ old)) ⊎ ((u : RunTy) (c : Cell) (v : values.Value) → slice_get t.cells i ≡ Some u → slice_get x.cells i ≡ Some c → c.content ≡ Some v → Claims (given o new g.own) (At object i) u v))
@@ -86,7 +88,7 @@ given_typed g o old new regions objects has held apart other typed = hands_typed
 
 -- A resource moves out of a hidden variable, that is, a variable to which no pointer points.
 module _ (g : Typing) (o : Option Thing) (object : ℕ) (new : Holder) (y : ObjectType) (regions : List Region) (objects : List Object) (has : Owns g.own (At object 0) o) (there : slice_get g.objects object ≡ Some y) (hidden : y.is_hidden ≡ true) (typed : IsTyped g regions objects) where
-  -- After a resource moves out of a variable, the variable no longer holds its content.
+  -- After a resource moves out of a variable, the variable no longer holds its value.
   taken_kept : (a : Standing) → (a ≡ Here → ⊥) → (n i : ℕ) (u : ObjectType) (x : Object) → slice_get g.objects n ≡ Some u → slice_get objects n ≡ Some x → IsKept (handing g o new object a) n i u.is_hidden
       → (IsKept g n i u.is_hidden × (At n i ≢ At object 0)) ⊎ ((r : RunTy) (c : Cell) (v : values.Value) → slice_get u.cells i ≡ Some r → slice_get x.cells i ≡ Some c → c.content ≡ Some v → Claims (given o new g.own) (At n i) r v)
   taken_kept a none n i u x found stands kept = elim (same_or_other n object) [
@@ -106,7 +108,7 @@ module _ (g : Typing) (o : Option Thing) (object : ℕ) (new : Holder) (y : Obje
         | inr apart ↦ inl (marked_before object Gone g.here n (Away j) apart now, lent_not_at j n object 0)
       ]
 
-  -- The variable has lent its content to a loan.
+  -- The variable has lent its value: a loan holds the resource that the value claims.
   pub lent_typed : (j : ℕ) → new ≡ Lent j object → ((x : Object) → slice_get objects object ≡ Some x → (i : ℕ) (u : RunTy) (c : Cell) (v : values.Value) → slice_get y.cells i ≡ Some u → slice_get x.cells i ≡ Some c → c.content ≡ Some v → Claims (given o new g.own) (Lent j object) u v)
       → IsTyped (handing g o new object (Away j)) regions objects
   lent_typed j new_is claims = hands_typed g o (At object 0) new (marked object (Away j) g.here) regions objects has tt (taken_kept (Away j) (λ e. let k : Away j ≡ Here = e in absurd (cc))) away typed
@@ -131,7 +133,7 @@ also_lent own (Some a) (Some b) old new has = go (same_thing b a)
     go true = inr refl
     go false = inl has
 
--- If a further resource has the same content as a lent one, then it is lent too.
+-- If a further resource belongs to a lending variable or to its loan, then the state stays typed when the loan receives this resource.
 pub also_typed : (g : Typing) (o : Option Thing) (object j : ℕ) (y : ObjectType) (regions : List Region) (objects : List Object) → slice_get g.objects object ≡ Some y → y.is_hidden ≡ true → g.here object ≡ Away j
     → Owns g.own (At object 0) o ⊎ Owns g.own (Lent j object) o → IsTyped g regions objects → IsTyped (giving g o (Lent j object)) regions objects
 also_typed g o object j y regions objects there hidden lent (inl has) typed = hands_typed g o (At object 0) (Lent j object) g.here regions objects has tt before (λ n i t x found stands now hides. inl (now, lent_not_at i n object 0)) typed
@@ -179,7 +181,7 @@ also_changed old new g h o has changed = record {
     other None has a apart = changed.own a apart
     other (Some b) has a apart = twice (same_thing a b) (h.own a) (g.own a) (given_other g.own (Some b) old new a has apart) (changed.own a apart)
 
--- A variable receives back the content that it has lent.
+-- A variable receives back the value that it has lent.
 pub returned_typed : (g : Typing) (o : Option Thing) (object j : ℕ) (y : ObjectType) (regions : List Region) (objects : List Object) → Owns g.own (Lent j object) o → slice_get g.objects object ≡ Some y
     → ((x : Object) → slice_get objects object ≡ Some x → (i : ℕ) (u : RunTy) (c : Cell) (v : values.Value) → slice_get y.cells i ≡ Some u → slice_get x.cells i ≡ Some c → c.content ≡ Some v → Claims (given o (At object 0) g.own) (At object i) u v)
     → IsTyped g regions objects → IsTyped (handing g o (At object 0) object Here) regions objects
@@ -286,7 +288,7 @@ freed_typed g object i x regions objects has stands typed =
       | inr apart ↦ now.lent n u z found (sym (slice_get-set_other objects object n gone apart) ∙ is)
     ]
 
--- If no swap is incomplete, then each cell holds its own content.
+-- If no swap is incomplete, then each cell holds the resource of its own value.
 pub not_awaited : (g : Typing) (object i : ℕ) → g.pending ≡ Settled → g.pending ≢ Awaits object i
 not_awaited g object i settled e = let k : Settled ≡ Awaits object i = sym settled ∙ e in absurd (cc)
 

@@ -1,4 +1,4 @@
--- The typing of a world grows when an object is created or a cell is written, and typed parts stay typed.
+-- The typing of a heap state (regions and objects) grows when an object is created or a cell is written, and typed parts stay typed.
 use Rattle.std.proofs.Common.{◌≡◌, ◌≢◌, ℕ, zero, suc, ◌+◌, ◌≤◌, ◌<◌, Bool, true, false, List, [], ◌∷◌, ◌++◌, length, map, set, Option, Some, None, refl, sym, ap, subst, ◌∙◌, inl, inr, arith, length-append}
 use Rattle.std.specs.Prelude.{if◌then◌else◌, slice_get}
 use Rattle.std.proofs.lemmas.List.{length-set}
@@ -117,7 +117,7 @@ variable_grows g t n here = record {
   kept = λ number is. is;
 }
 
--- Each holder of a resource held it before, or is the new object.
+-- The typing with one more object, in which the standing of each variable is given: it holds, has lost or has lent its value.
 abbrev pub with_variable : Typing → ObjectType → (filled : ℕ) → (here : ℕ → Standing) → Typing
 with_variable g t n here = record (with_object g t n) { here = here }
 
@@ -270,7 +270,7 @@ live_object g w number x y typed there stands owner opens = go x.life refl y.own
         let owner_is : o ≡ Unique true = sym f ∙ ap (λ (z : Object). z.owner) (sym same) ∙ live in
         ap (λ z. is_live w z) owner_is
 
--- The object with a number, and its cell of this type.
+-- The object that has the given number, and its cell of the given type.
 pub record HasCell (g : Typing) (w : World) (number offset : ℕ) (x : ObjectType) (t : RunTy) : Type 0 where
   pub object : Object
   pub filled : ℕ
@@ -337,7 +337,7 @@ filled_grows g number m n flag more = record { objects = λ other u there. there
       | inr apart ↦ (k, slice_get-set_other g.filled number other n apart ∙ is, enough)
     ]
 
--- The cell with the kind of c that contains this value.
+-- The cell `c` with this value stored in it.
 abbrev filled_with : Cell → values.Value → Cell
 filled_with c v = record c { content = Some v }
 

@@ -73,7 +73,7 @@ blanks_typed : (g : Typing) (n : ℕ) (kind : Kind) (t : RunTy) → kind ≡ kin
 blanks_typed g zero kind t same = tt
 blanks_typed g (suc n) kind t same = ((same, refl), blanks_typed g n kind t same)
 
--- The typing context inside an array element, where the counter has a value.
+-- The typing context inside an element expression of an array, where the loop counter of the array has a value.
 context_counted : (p : Program) (x : Exits) (bs : List InScope) (c : Context) → IsContext p x bs c → IsContext p x (Level c.counters ∷ bs) (counting.with_counter c)
 context_counted p x bs c stands = record {
   globals = stands.globals;
@@ -152,7 +152,7 @@ module _ (p : Program) (g : Typing) (x : Exits) (bs : List InScope) (e : Environ
       let still : AreStill new.regions = (still_open w.regions n heap_number r _ at refl typed.heap, λ m among held. still_dynamic w.regions n m r _ at refl refl ((typed.kept m among).1 held), (let same : length new.regions ≡ length w.regions = length-set w.regions n _ in let few : length w.regions ≤ length new.regions = omega (arith, same) in few)) in
       (new, ap (λ a. created_in w n a cells) found, refl, still)
 
-  -- The world with one more object, whose cells are empty.
+  -- The heap state with one more object, whose cells are empty.
   created_there : (owner : Owner) (cells : List Cell) (l : Life) → IsNewOwner l owner → IsOpenLife w.regions l
       → (new : World) × (created w owner cells ≡ Found new) × (new.objects ≡ w.objects ++ record { owner = owner; cells = cells } ∷ []) × AreStill new.regions
   created_there (InRegion n) cells (OfRegion region ns us) owned opens' = made_there n cells (subst (λ i. is_open (slice_get w.regions i) ≡ true) owned opens')
@@ -162,7 +162,7 @@ module _ (p : Program) (g : Typing) (x : Exits) (bs : List InScope) (e : Environ
   created_there (Unique false) cells l owned opens = absurd owned
   created_there (InRegion n) cells Owned owned opens = absurd owned
 
-  -- The typing of the world with one more object; an operand holds the pointer to the new object.
+  -- The typing of the heap state with one more object; an operand holds the pointer to the new object.
   abbrev new_world : List RunTy → Life → (hand : ℕ) → Typing
   new_world ts l i = giving (with_object g (new_type ts l) 0) (pointer_at l (length w.objects)) (Hand i)
 
@@ -194,7 +194,7 @@ module _ (p : Program) (g : Typing) (x : Exits) (bs : List InScope) (e : Environ
       kept_before (Kept region) n new m held = held
       kept_before Owned n new m held = held
 
-  -- Facts about locals stay true in a world with one more object.
+  -- Facts about locals stay true in a heap state with one more object.
   holds_made : (h : Typing) (f : flow.State) → Changed Nobody g h → Holds g f bs → Holds h f bs
   holds_made h f changed holds = holds_kept Nobody g h changed f bs (λ n object full here. at_some object 0) holds
 
@@ -320,7 +320,7 @@ module _ (p : Program) (g : Typing) (x : Exits) (bs : List InScope) (e : Environ
       go false = running p g x bs e w typed globals bound variables (Throwing array_size 0) k live (Val (Value (Pointer marks.Fat (read bs t) (lives_in bs r))) f, stack)
   array_on owner level kind element v k c t r f live stands holds alive owned repeats is stack = absurd is
 
-  -- The next array element is written, and the counter of the array leaves the scope.
+  -- The next array element is written, and the loop counter of the array leaves the scope.
   pub fill_on : (object count index level : ℕ) (kind : Kind) (element : Expression) (v : Operand) (k : List Entry) (c : Context) (t : Ty) (r : Region') (f h : flow.State) → AreOpen w.regions (ends_of k) → LiveIn k bs → IsThere bs r
       → IsContext p x bs c → Holds g h bs → Repeats (relied_at x.relied k) c level kind element t f → Implies h f → index < count → IsArray g (read bs t) (lives_in bs r) object count index → Owns g.own (Hand (operands_in k)) (pointer_at (lives_in bs r) object) → IsResult g (Value (read bs t)) v
       → Claims g.own (Hand (1 + operands_in k)) (read bs t) v.value → IsStack p g x bs (Val (Value (Pointer marks.Fat (read bs t) (lives_in bs r))) f) k

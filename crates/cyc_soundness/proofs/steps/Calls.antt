@@ -70,7 +70,7 @@ given_later g h i j (t ∷ ts) (v ∷ vs) changed less (is, are) = (
   given_later g h i (suc j) ts vs changed (let more : i < suc j = omega (arith, less) in more) are,
 )
 
--- When an argument becomes a parameter, earlier parameters keep their contents.
+-- When an argument becomes a parameter, earlier parameters keep their values.
 own_kept : (g h : Typing) (i : ℕ) (bs : List InScope) → Changed (Hand i) g h → AreOwn g bs → AreOwn h bs
 own_kept g h i [] changed are = tt
 own_kept g h i (Variable b ∷ bs) changed (is, are) = (subst (λ d. IsHere h d b.number b.object) (sym changed.depth) (here_kept (Hand i) g h changed g.depth b.number b.object (at_no_hand b.object 0 i) is), own_kept g h i bs changed are)

@@ -175,7 +175,7 @@ module _ (p : Program) (g : Typing) (x : Exits) (bs : List InScope) (e : Environ
       go (types.Value t) is part op = on (Evaluating b) (Needs (ApplyPointer peek o left) ∷ Needs (Chain os) ∷ k) live
           (c, v, f, f1, stands, holds, evaluates, (read bs t ∷ [], bs, Val (read_value bs w') f1, awaited.points (judgements.seen_by b evaluates.typed) c t v w' f1 stands op, ((is, tt), part t refl), stack))
 
-  -- The claim of a left operand at which the operator only peeks.
+  -- The resource that a left operand claims, if the operator only peeks at the operand, that is, reads it without moving its value.
   left_part : (i : ℕ) (peek : Option ℕ) (n : ℕ) (s : ValueType) (v : values.Value) → (peek ≡ Some n) ⊎ ((peek ≡ None) × IsPlainValue (read_value bs s)) → ClaimsBy g i (looked peek (read_value bs s)) v → (t : Ty) → s ≡ types.Value t → ClaimsPart g i (Some n) (thing_of (read bs t) v)
   left_part i peek n s v (inl same) comes t is =
       subst (λ o. ClaimsPart g i o (thing_of (read bs t) v)) same (looked_part g i peek (read bs t) v (subst (λ z. ClaimsBy g i (looked peek (read_value bs z)) v) is comes))

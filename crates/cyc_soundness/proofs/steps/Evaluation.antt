@@ -60,7 +60,7 @@ left_typed q well c a v (ThenTest o b os) kept is = is
 left_typed q well c a v (ThenPointer o b os) kept is = inl is
 left_typed q well c a v (ThenPointerPeek n o b os) kept is = inr is.0
 
--- The semantics agrees with the typing rules on which expression is a peek of a local.
+-- The semantics agrees with the typing rules on which expression is a peek: a read of a local that does not move its value.
 peek_is : (n : ℕ) (a : Expression) → IsPeekOf n a → peek_of a ≡ Some n
 peek_is n (Peek p m u) is = ap (λ i. Some i) (sym is)
 peek_is n a is = absurd is

@@ -59,7 +59,7 @@ use Rattle.cyc_soundness.proofs.steps.Swapping.{swap_on}
 use Rattle.cyc_types.specs.flow.Touched.{touched_statement}
 use Rattle.cyc_types.proofs.typing.TestLemmas.{kept_append}
 
--- A scope with higher next numbers of locals and regions may follow a scope.
+-- A typing context stays valid in a scope if the indices of the next local and of the next region are raised.
 pub context_following : (p : Program) (x : Exits) (bs : List InScope) (c : Context) (locals regions : ℕ) → IsContext p x bs c
     → IsContext p x bs (record c { next_local = c.next_local + locals; next_region = c.next_region + regions })
 context_following p x bs c locals regions stands = record {
@@ -306,7 +306,7 @@ module _ (p : Program) (g : Typing) (x : Exits) (bs : List InScope) (e : Environ
 
   -- ---- items
 
-  -- The rest of a block after an item that lends a local.
+  -- The rest of a block after a declaration or statement that lends a local.
   lent_rest : (lent : ℕ) (js : Items) (c : Context) (f before following' ending : flow.State) → lent < c.next_local → IsLockedIn lent f → AreScoped c.locals c.next_local → WellTypedItems c js
       → Derives (rule_items (around (lending x lent)) js (record { now = f; breaks = before })) (record { now = ending; breaks = following' }) → AreBreaks x.loop following' → InItems x.relied c.next_region js
       → Continues (lending x lent) c js f (with_each Full (locks_of js) ending)

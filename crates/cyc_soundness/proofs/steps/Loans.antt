@@ -202,11 +202,11 @@ context_lending p x bs c n stands = record {
 }
 
 module _ (p : Program) (g : Typing) (x : Exits) (bs : List InScope) (e : Environment) (w : World) (typed : IsTyped g w.regions w.objects) (globals : KnowsProgram g p) (bound : IsBound e.locals e.counters bs) (variables : AreVariables g bs) where
-  -- The typing after a local has lent its content.
+  -- The typing after a local has lent its value.
   abbrev lent_content : Bound → values.Value → Typing
   lent_content b v = handing g (thing_of b.of_type v) (Lent g.loans b.object) b.object (Away g.loans)
 
-  -- The typing after a local has lent its content and the copy that was read.
+  -- The typing after a local has lent its value and, in the same loan, the resource of the copy that was read.
   abbrev lent_out : Bound → values.Value → Option Thing → Typing
   lent_out b v also = giving (lent_content b v) also (Lent g.loans b.object)
 
@@ -226,7 +226,7 @@ module _ (p : Program) (g : Typing) (x : Exits) (bs : List InScope) (e : Environ
     holds : Holds (lending_typing b value also) (with_fullness Locked f lent) bs
     stack : IsStack p (lending_typing b value also) (lending x lent) cs (Go h) (EndLoan lent ∷ k)
 
-  -- The content of the variable of a local.
+  -- The value stored in the variable of a local.
   record Content (b : Bound) : Type 0 where
     value : values.Value
     claims : Claims g.own (At b.object 0) b.of_type value

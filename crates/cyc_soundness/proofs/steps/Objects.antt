@@ -70,14 +70,14 @@ next_grown g h grows zero ts vs are = operands_grown g h grows ts vs are
 next_grown g h grows (suc i) [] vs are = absurd are
 next_grown g h grows (suc i) (t ∷ ts) vs are = next_grown g h grows i ts vs are
 
--- The next operand of an object or call, and the operands after it.
+-- The next operand for a new object or a call, and the operands after it.
 pub next_one : (g : Typing) (i : ℕ) (ts : List RunTy) (v : Operand) (vs : List Operand) → AreNext g i ts (v ∷ vs) → (t : RunTy) × (slice_get ts i ≡ Some t) × IsResult g (Value t) v × AreNext g (suc i) ts vs
 next_one g zero [] v vs are = absurd are
 next_one g zero (t ∷ ts) v vs (is, are) = (t, refl, is, are)
 next_one g (suc i) [] v vs are = absurd are
 next_one g (suc i) (t ∷ ts) v vs are = next_one g i ts v vs are
 
--- The next operand of an object or call claims its resource.
+-- The next operand for a new object or a call claims its resource.
 pub next_claims : (own : Thing → Holder) (g : Typing) (place i : ℕ) (ts : List RunTy) (v : Operand) (vs : List Operand) (t : RunTy) → slice_get ts i ≡ Some t → AreNextGiven own place i ts (v ∷ vs) → Claims own (Hand place) t v.value × AreNextGiven own (suc place) (suc i) ts vs
 next_claims own g place zero [] v vs t at are = absurd (let k : None ≡ Some t = at in cc)
 next_claims own g place zero (u ∷ ts) v vs t at (is, are) = (subst (λ z. Claims own (Hand place) z v.value) (same_Some u t at) is, are)
@@ -103,7 +103,7 @@ whole_grown g h grows y (Struct n ls) is = grows.fields n ls y.cells is
 abbrev pub new_type : List RunTy → Life → ObjectType
 new_type ts l = record { cells = ts; life = l; is_hidden = false; slot = NoLocal }
 
--- An object with one value is complete.
+-- An object that has a single cell is complete with one value of the cell's type.
 pub whole_of : (g : Typing) (l : Life) (t : RunTy) (v : values.Value) → HasType g t v → IsWhole g (new_type (t ∷ []) l) t
 whole_of g l Int v has = refl
 whole_of g l Char v has = refl

@@ -127,13 +127,13 @@ content_given : (own : Thing → Holder) (h new : Holder) (t : RunTy) (content :
 content_given own h new t None v is same = absurd (let k : None ≡ Some v = same in cc)
 content_given own h new t (Some u) v is same = subst (λ z. Claims (given_to (thing_of t u) new own) new t z) (same_Some u v same) (given_now own (thing_of t u) new, is.1)
 
--- The single cell of a new variable holds the resource of its own content.
+-- The single cell of a new variable holds the resource of its own value.
 one_owned : (g : Typing) (object : ℕ) (t : RunTy) (l : Life) (hidden : Bool) (s : Slot) (c : Cell) → ((v : values.Value) → c.content ≡ Some v → Claims g.own (At object 0) t v) → AreOwned g object (variable_type t l hidden s) (c ∷ [])
 one_owned g object t l hidden s c has zero u d v kept found at content =
     subst (λ z. Claims g.own (At object 0) z v) (same_Some t u found) (has v (ap (λ (z : Cell). z.content) (same_Some c d at) ∙ content))
 one_owned g object t l hidden s c has (suc i) u d v kept found at content = absurd (let k : None ≡ Some u = found in cc)
 
--- The typing of the world with the new local, which holds its initial content.
+-- The typing of the heap state with the new local, which holds its initial value.
 abbrev new_typing : Typing → List InScope → (number : ℕ) → Ty → Life → (filled object : ℕ) → Option Thing → Typing
 new_typing g bs number t l n object o = with_variable (giving g o (At object 0)) (new_type g.depth number bs t l) n (marked object Here g.here)
 
@@ -276,7 +276,7 @@ module _ (p : Program) (g : Typing) (x : Exits) (bs : List InScope) (e : Environ
       ([], bs, Val (Value (lives.Pointer m (read bs t) (lives_in bs r))) h, awaited.beside_handle (lives.Pointer m (read bs t) (lives_in bs r)) h, tt, stack)
   placed_by i v k c m t r f h q opens live stands holds alive made flows kept has stack = absurd has
 
-  -- The next element of an array is filled, and the counter of the array leaves the scope.
+  -- The next element of an array is filled, and the loop counter of the array leaves the scope.
   filled_on : (object count index level : ℕ) (kind : Kind) (element : Expression) (v : Operand) (k : List Entry) (cs : List InScope) (c : Context) (t : Ty) (r : Region) (f h : flow.State) → bs ≡ Level level ∷ cs
       → AreOpen w.regions (ends_of k) → LiveIn k bs → IsThere cs r → IsContext p x cs c → Holds g h bs → Repeats (relied_at x.relied k) c level kind element t f → Implies h f → index < count
       → IsArray g (read cs t) (lives_in cs r) object count index → Owns g.own (Hand (operands_in k)) (pointer_at (lives_in cs r) object) → IsResult g (Value (read cs t)) v → Claims g.own (Hand (1 + operands_in k)) (read cs t) v.value → IsStack p g x cs (Val (Value (lives.Pointer marks.Fat (read cs t) (lives_in cs r))) f) k

@@ -1,4 +1,4 @@
--- This file is about swaps: both sides are evaluated, then read, and then written.
+-- This file is about swaps: the left and the right operand are evaluated to cells, then both cells are read, and then both are written.
 use Rattle.std.proofs.Common.{true, ◌≡◌, ℕ, suc, ◌≤◌, Bool, false, List, [], ◌∷◌, Option, Some, None, slice_get, refl, sym, ap, subst, ◌∙◌, arith, inl, inr, zero, ◌⊎◌, ◌≢◌}
 use Rattle.std.specs.Prelude.{if◌then◌else◌}
 use Rattle.std.proofs.lemmas.Option.{same_Some}
@@ -46,7 +46,7 @@ use Rattle.cyc_soundness.proofs.types.RegionLemmas.{there_of}
 use Rattle.cyc_soundness.proofs.types.CallRegions.{cell_live, global_means}
 use Rattle.cyc_soundness.proofs.states.Cells.{part_had, running, life_of, lasting_common, open_object, value_part, held_still}
 
--- Says that an object is a local that holds its own content, or an object to which pointers may point.
+-- Says that an object is the variable of a local whose value is neither moved nor lent, or an object to which pointers may point.
 abbrev pub IsFree : Typing → (object : ℕ) → ObjectType → Type 0
 IsFree g object y = ((n : ℕ) × IsHere g g.depth n object) ⊎ (y.is_hidden ≡ false)
 
@@ -54,7 +54,7 @@ free_kept : (g : Typing) (object offset : ℕ) (y : ObjectType) → g.pending �
 free_kept g object offset y settled (inl (n, here)) = kept_now g object offset y.is_hidden here.0 settled
 free_kept g object offset y settled (inr shown) = ((λ is. let k : true ≡ false = sym is ∙ shown in absurd (cc)), not_awaited g object offset settled)
 
--- A local that holds its own content has not lent it.
+-- A local that holds the resource of its own value has not lent it.
 free_not_away : (g : Typing) (object : ℕ) (y : ObjectType) → IsFree g object y → y.is_hidden ≡ true → (j : ℕ) → g.here object ≡ Away j → ⊥
 free_not_away g object y (inl (n, here)) hides j away = away_not_here (g.here object) j away here.0
 free_not_away g object y (inr shown) hides j away = let k : true ≡ false = sym hides ∙ shown in absurd (cc)
@@ -65,7 +65,7 @@ free_above x g k object (suc i) y none there free = tt
 free_above x g k object zero y none there (inl (n, here)) = inl (g.depth, n, here.1, inl (refl, subst (λ q. IsSpared q n) (sym none) tt))
 free_above x g k object zero y none there (inr shown) = inr (refl, (y, there, shown))
 
--- The cell of one side of a swap.
+-- The cell that the left or right operand of a swap denotes.
 pub record SpotAt (g : Typing) (w : World) (t : RunTy) (v : values.Value) : Type 0 where
   pub number : ℕ
   pub offset : ℕ
@@ -121,7 +121,7 @@ module _ (p : Program) (g : Typing) (x : Exits) (bs : List InScope) (e : Environ
       }
   spot_at t f v k opens live holds plain (of_cell place r alive has had) = cell_spot t (lives_in bs r) place k opens (there_present g (ends_of k) bs r live.0 variables alive) had plain has
 
-  -- The left side of a swap is still a valid cell after the right side was evaluated.
+  -- The cell that the left operand of a swap denotes is still valid after the right operand was evaluated.
   pub left_spot : (i : ℕ) (peek : Option ℕ) (t : Ty) (f : flow.State) (v : values.Value) → IsLeftSpot p g i peek bs t f v → IsSpot p g bs t f v
   left_spot i peek t f v (left_variable place is) = is g
   left_spot i peek t f v (left_cell place r alive has part) = of_cell place r alive has (part_had g i peek (thing_of (lives.Pointer marks.NonNull (read bs t) (lives_in bs r)) place) part)
@@ -200,7 +200,7 @@ module _ (p : Program) (g : Typing) (x : Exits) (bs : List InScope) (e : Environ
 
   -- ---- reading both places
 
-  -- The cell of a swap that is read holds the resource of its own content.
+  -- The cell of a swap that is read holds the resource that its own value claims.
   swap_content_on : (kind : Kind) (left right place : values.Value) (before : Option Operand) (t : Ty) (k : List Entry) (f : flow.State) → SpotAt g w (read bs t) place → kind ≡ values.kind_of t → IsStack p g x bs (Go f) k
       → ((v : values.Value) → HasType g (read bs t) v → ClaimsAt g.own place (read bs t) v → IsWell p (swap_read kind left right before v k e w)) → IsWell p (swap_loaded_at kind left right before place k e w)
   swap_content_on kind left right place before t k f s kind_is stack goes =
@@ -286,7 +286,7 @@ module _ (p : Program) (g : Typing) (x : Exits) (bs : List InScope) (e : Environ
         let grows : Grows (record g { own = own; pending = Settled }) (record h { pending = Settled }) = record { objects = next.grows.objects; filled = next.grows.filled; fields = next.grows.fields; kept = next.grows.kept } in
         stack_grown p (record g { own = own; pending = Settled }) (record h { pending = Settled }) (record { grows = grows; own = next.own_is; here = next.here; pending = refl; depth = next.depth; loans = next.loans }) x bs (Go f) k stack
 
-  -- The second write of a swap: the right side receives the old content of the left side.
+  -- The second write of a swap: the right cell receives the old value of the left cell.
   second_on : (two : Write) (k : List Entry) (f : flow.State) (t : Ty) → AreOpen w.regions (ends_of k) → LiveIn k bs → Holds g f bs → IsWrite p g bs f t two → IsAwaited g two.place → Claims g.own (Hand (operands_in k)) (read bs t) two.operand.value
       → IsStack p (record g { pending = Settled }) x bs (Go f) k → IsWell p (stored_at two.place two.operand (Writing [] None) k e w)
   second_on two k f t opens live holds (plain, spot, is) awaits claims stack =
@@ -310,7 +310,7 @@ module _ (p : Program) (g : Typing) (x : Exits) (bs : List InScope) (e : Environ
             (stack_by false p hand still (giving still o right) x bs (Go f) k (λ e object. refl) changed (let le : operands_in k ≤ operands_in k = omega arith in le) stack),
       ))
 
-  -- The first write of a swap: the left side receives the content of the right side, and an operand holds the old content.
+  -- The first write of a swap: the left cell receives the value of the right cell, and an operand holds the old value of the left cell.
   first_on : (one two : Write) (k : List Entry) (f : flow.State) (t : Ty) → AreOpen w.regions (ends_of k) → LiveIn k bs → Holds g f bs → IsWrite p g bs f t one → IsWrite p g bs f t two → g.pending ≡ Settled
       → ClaimsAt g.own two.place (read bs t) one.operand.value → ClaimsAt g.own one.place (read bs t) two.operand.value → IsStack p (record g { pending = Settled }) x bs (Go f) k
       → IsWell p (stored_at one.place one.operand (Writing (two ∷ []) None) k e w)

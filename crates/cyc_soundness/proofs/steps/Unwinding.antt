@@ -83,7 +83,7 @@ module _ (p : Program) (g : Typing) (e : Environment) (w : World) (typed : IsTyp
       scope : AreVariables (ended_typing j what object) bs
       stack : IsStack p (ended_typing j what object) y bs (Go h) k
 
-    -- The content of the lending variable, if there is any, is the lent resource.
+    -- The resource that the lending variable's value claims, if there is any, is the lent resource.
     lent_content : (lent j : ℕ) (t : RunTy) (object : ℕ) → IsLentOut g lent j t object
         → (o : Option Thing) × Owns g.own (Lent j object) o × ((own : Thing → Holder) → Owns own (At object 0) o → (x : Object) → slice_get w.objects object ≡ Some x → (c : Cell) (v : values.Value) → slice_get x.cells 0 ≡ Some c → c.content ≡ Some v → Claims own (At object 0) t v)
     lent_content lent j t object (l, there, away) =
@@ -136,7 +136,7 @@ module _ (p : Program) (g : Typing) (e : Environment) (w : World) (typed : IsTyp
         variable_claims own t x claims zero u c v found at content = subst (λ e. Claims own (At object 0) e v) (same_Some t u found) (claims c v at content)
         variable_claims own t x claims (suc i) u c v found at content = absurd (let e : None ≡ Some u = found in cc)
 
-    -- After the end of its loan, a local is full.
+    -- After the end of its loan, a local is full, that is, it holds a value that is not lent.
     ended_holds : (f : flow.State) (lent j object : ℕ) (y : Exits) (h : flow.State) (k : List Entry) (z : HasEnded lent j object y h k) → AreFullAt g lent object bs → Holds g f bs → Holds (ended_typing j z.what object) (with_fullness Full f lent) bs
     ended_holds f lent j object y h k z full holds =
         let m = record g { loans = j } in

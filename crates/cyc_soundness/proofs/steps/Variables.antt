@@ -1,5 +1,5 @@
--- This file is about variables: the content of a local or a global is copied, peeked at, moved or replaced; each of these steps
--- yields a typed state.
+-- This file is about variables: the value of a local or a global is copied, read early (peeked at), moved or replaced; each of
+-- these steps yields a typed state.
 use Rattle.std.proofs.Common.{◌≡◌, ◌≢◌, inl, ℕ, ◌≤◌, zero, suc, Bool, true, false, List, [], ◌∷◌, map, Option, Some, None, slice_get, refl, sym, ap, subst, ◌∙◌, arith}
 use Rattle.std.specs.Prelude.{if◌then◌else◌, ◌||◌}
 use Rattle.cyc_types.specs.declared.typed.Kind.{Kind}
@@ -60,7 +60,7 @@ module _ (p : Program) (g : Typing) (x : Exits) (bs : List InScope) (e : Environ
       open_object g w.regions b.object b.life (lasting_common (ends_of k) b.life lasts) (lasting_open w.regions (ends_of k) b.life opens typed.heap
       (kept_open g w.regions w.objects b.life typed (object_known g w.regions w.objects b.object (local_type g.depth b) typed (among_variable g among variables)) (among_open g among variables)) lasts)
 
-  -- The content of a local's variable, which a step reads.
+  -- The value stored in a local's variable, which a step reads.
   abbrev pub Held : Bound → Kind → Type 0
   Held b kind = Content p g x bs e w typed globals bound variables kind b.object 0 b.of_type
 
@@ -82,7 +82,7 @@ module _ (p : Program) (g : Typing) (x : Exits) (bs : List InScope) (e : Environ
       (reads p g x bs e w typed globals bound variables k (values.kind_of u) b.object 0 b.of_type (local_type g.depth b) h live holds
       (among_variable g among variables) refl (open_local k b opens live among) full (ap kind_at of_type ∙ kind_meant (lives_in bs) u) r fits comes stack)
 
-  -- The step that peeks at a full local.
+  -- A full local holds the resource that its value claims.
   pub looks_bound : (k : List Entry) (n : ℕ) (u : Ty) (b : Bound) (h : flow.State) → AreOpen w.regions (ends_of k) → LiveIn k bs → Holds g h bs → IsAmong (Variable b) bs → b.number ≡ n → b.of_type ≡ read bs u → IsFullIn h n
       → IsStack p g x bs (Val (Seen b.object (read bs u)) h) k → IsWell p (loaded_from (values.kind_of u) (e.locals n) k e w)
   looks_bound k n u b h opens live holds among number of_type full stack =
@@ -134,7 +134,7 @@ module _ (p : Program) (g : Typing) (x : Exits) (bs : List InScope) (e : Environ
       let (at, full, closed) = globals.globals n u there in
       (there, global_means bs u closed)
 
-  -- A local is read and keeps its content.
+  -- A local is read and keeps its value.
   from_local : (k : List Entry) (c : Context) (n : ℕ) (u : Ty) (f h : flow.State) (r : RunValue) → AreOpen w.regions (ends_of k) → LiveIn k bs → IsContext p x bs c → Holds g f bs
       → (i : ℕ) × HasLocal c.locals n u i → IsSet f n → Implies f h → ((v : values.Value) → HasType g (read bs u) v → IsResult g r (record { kind = values.kind_of u; value = v }))
       → ((b : Bound) (v : values.Value) → b.number ≡ n → b.is_hidden ≡ is_moved u → (IsHere g g.depth b.number b.object → Claims g.own (At b.object 0) (read bs u) v) → IsAmong (Variable b) bs → ClaimsBy g (awaited.operands_in k) r v)
@@ -157,7 +157,7 @@ module _ (p : Program) (g : Typing) (x : Exits) (bs : List InScope) (e : Environ
       from_local k c n u f h (Value (read bs u)) opens live stands holds has is_set implies (λ v is. (sym (kind_meant (lives_in bs) u), is))
       (λ b v number hidden own among. plain_claims g.own (Hand (awaited.operands_in k)) (read bs u) v (plain_read g bs variables u plain)) (subst (λ z. IsStack p g x bs (Val z h) k) (ap (read_value bs) same) stack)
 
-  -- The step that peeks at the value of a local.
+  -- The step that peeks at a local, that is, reads its value without moving it.
   pub peeks : (k : List Entry) (c : Context) (n : ℕ) (u : Ty) (t : ValueType) (f h : flow.State) → AreOpen w.regions (ends_of k) → LiveIn k bs → IsContext p x bs c → Holds g f bs
       → (i : ℕ) × HasLocal c.locals n u i → is_unique u ≡ true → IsFullIn f n → Implies f h → t ≡ types.Value u → IsStack p g x bs (Val (looked (Some n) (read_value bs t)) h) k → IsWell p (loaded_from (values.kind_of u) (e.locals n) k e w)
   peeks k c n u t f h opens live stands holds has unique full implies same stack =
@@ -212,7 +212,8 @@ module _ (p : Program) (g : Typing) (x : Exits) (bs : List InScope) (e : Environ
         stack_changed p hand one h x bs (Val (read_value bs (assigned_type t)) (with_fullness Full f b.number)) k all (let le : awaited.operands_in k ≤ awaited.operands_in k = omega arith in le) stack_now,
       )))
     where
-      -- No flow state relies on the content of a variable to which no pointer points.
+      -- The stack stays typed when an assigned variable is marked as holding its value. If no
+      -- pointer points to the variable, then no flow state relies on its value.
       marked_stack : (hidden : Bool) → b.is_hidden ≡ hidden → IsStack p (record g { here = marked b.object Here g.here }) x bs (Val (read_value bs (assigned_type t)) (with_fullness Full f b.number)) k
       marked_stack true hides = stack_changed p (At b.object 0) g (record g { here = marked b.object Here g.here }) x bs (Val (read_value bs (assigned_type t)) (with_fullness Full f b.number)) k (marked_changed g b.object)
           (g.depth, b.number, (local_type g.depth b, among_variable g among variables, refl), inl (refl, spared hides)) stack

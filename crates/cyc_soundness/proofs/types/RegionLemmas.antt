@@ -84,7 +84,7 @@ there_open g bs regions.Heap are there = λ r e. absurd (let z : false ≡ true 
 there_open g bs regions.Unique are there = tt
 there_open g bs (regions.Variable n) are there = name_open g bs n are there
 
--- a region denotes a known lifetime
+-- a region other than the unique region denotes a lifetime that a region variable may denote
 pub life_known : (g : Typing) (bs : List InScope) (r : Region) → r ≢ regions.Unique → AreVariables g bs → IsKnownLife g (lives_in bs r)
 life_known g bs regions.Heap plain are = tt
 life_known g bs regions.Unique plain are = absurd (plain refl)
@@ -96,7 +96,7 @@ owner_known g (Kept (KeyOf region)) is = is
 owner_known g (Kept (PointerTo object)) is = tt
 owner_known g Owned is = tt
 
--- A region denotes a known owner of objects; the owner of unique objects is known too.
+-- Every region, including the unique region, denotes a lifetime that an object may have.
 pub region_owner : (g : Typing) (bs : List InScope) (r : Region) → AreVariables g bs → IsKnownOwner g (lives_in bs r)
 region_owner g bs regions.Heap are = tt
 region_owner g bs regions.Unique are = tt

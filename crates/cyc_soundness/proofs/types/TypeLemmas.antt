@@ -1,4 +1,5 @@
--- This file is about types in their two forms (with regions and with lifetimes), their kinds, and conversions.
+-- This file is about types in their two forms (with regions and with lifetimes), their representation kinds
+-- (int, char, pointer, ..), and conversions.
 use Rattle.std.proofs.Common.{◌≡◌, ◌⊎◌, inl, inr, true, List, [], ◌∷◌, map, Option, Some, None, refl, sym, ap, subst, ◌∙◌}
 use Rattle.std.specs.Prelude.{option_map}
 use Rattle.cyc_syntax.specs.declared.tree.PointerKind.{PointerKind}
@@ -36,7 +37,7 @@ mark_kinds marks.Nullable = refl
 mark_kinds marks.NonNull = refl
 mark_kinds marks.Fat = refl
 
--- The kind of a type does not depend on the lifetimes of its regions.
+-- The representation kind (int, char, pointer, ..) of a type does not depend on the lifetimes of its regions.
 pub kind_read : (n : Lives) (t : Ty) → kind_at (at n t) ≡ tests.kind_of t
 kind_read n types.Int = refl
 kind_read n types.Char = refl
@@ -148,12 +149,12 @@ well_type c (Assign l d u) t (v, r, place, converted, gives_u, same) = same
 well_type c (Store d e u) t (v, r, cell, converted, gives_u, same) = same
 well_type c (New w i u) t (k, v, r, placement, made, u_is, same) = same
 
--- The type of an expression that may be a peek.
+-- An expression has the type that its tree states, even if it is a peek (a read that does not move a local's value).
 seen_type : (c : Context) (a : Expression) (t : ValueType) → WellTyped c a t ⊎ IsPeek c a t → t ≡ type_of a
 seen_type c a t (inl well) = well_type c a t well
 seen_type c (Peek p n u) t (inr (variable, unique, same)) = same
 seen_type c a t (inr is) = absurd is
 
--- The pointer target that a typed tree states for a value.
+-- The pointer target that a typed tree states for an expression is the target of the expression's type.
 pub target_typed : (c : Context) (a : Expression) (t : ValueType) → WellTyped c a t ⊎ IsPeek c a t → target_by a ≡ target_of_value t
 target_typed c a t is = ap target_of_value (sym (seen_type c a t is))

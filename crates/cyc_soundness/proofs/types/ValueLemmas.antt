@@ -200,7 +200,8 @@ module _ (g : Typing) where
       subst (λ z. Fits g (Pointer k (at n t) (n r)) (conversion (tests.kind_of_mark k) z)) (sym is.1) (null_converted k (at n t) (n r))
   converted_by n c s t v agrees conv is = absurd conv
 
-  -- A value that is converted has the kind that the typed tree states as the source of the conversion.
+  -- A value that is converted has the representation kind (int, char, pointer, ..) that the typed tree
+  -- states as the source of the conversion.
   pub kind_given : (n : Lives) (c : Context) (s : ValueType) (t : Ty) (v : Operand) → Converts c s t → IsResult g (value_at n s) v → v.kind ≡ tests.kind_of_value s
   kind_given n c types.Void types.Int v conv is = absurd conv
   kind_given n c types.Void types.Char v conv is = absurd conv

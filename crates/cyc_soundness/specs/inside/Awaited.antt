@@ -40,8 +40,8 @@ pub data Want : Type 0 where
   Nothing : Want
   -- A value of this type (or none, if no value is used) is awaited; the flow state after it is given.
   Val : RunValue → flow.State → Want
-  -- A cell of this type and lifetime is awaited, which is reached through a peek of this local or, without a peek, through
-  -- an operand on the stack.
+  -- A cell of this type and lifetime is awaited. It is reached through a peek of this local (a read without a move) or,
+  -- without a peek, through an operand on the stack.
   PlaceOf : (peek : Option ℕ) → RunTy → Life → flow.State → Want
   -- The end of a statement is awaited.
   Go : flow.State → Want
@@ -49,7 +49,7 @@ pub data Want : Type 0 where
 abbrev pub place_operand : values.Value → Operand
 place_operand place = record { kind = kinds.NonNull; value = place }
 
--- The operands that an entry stores while it awaits a value.
+-- The operands that a stack entry stores while it awaits a value.
 abbrev pub held : Awaiting → List Operand
 held (Apply operator left) = left ∷ []
 held (ApplyPointer peek operator left) = left ∷ []
@@ -59,18 +59,18 @@ held (Advance peek target base) = base ∷ []
 held (MakeFields owner before rest) = before
 held a = []
 
--- The number of operands that an entry stores; the pointer to an array under construction counts as one operand.
+-- The number of operands that a stack entry stores; the pointer to an array under construction counts as one operand.
 abbrev pub count_held : Awaiting → ℕ
 count_held (FillElement object count index level kind element) = 1
 count_held a = length (held a)
 
--- The number of operands of an entry that awaits a cell; the left side of a swap counts as one operand.
+-- The number of operands that a stack entry stores while it awaits a cell; the left operand of a swap counts as one operand.
 abbrev pub count_place : AwaitingPlace → ℕ
 count_place (SwapRight kind peek is_cell left) = 1
 count_place a = 0
 
 -- The relation of a stack entry to its context: the awaited expression is complete, or it is a part of a larger expression. The value
--- also names the local whose peek is not yet used, if any.
+-- also names the local, if any, that was read early (peeked at) and whose read value is not yet used.
 pub data Part : Type 0 where
   Whole : (peek : Option ℕ) → Part
   PartOf : (peek : Option ℕ) → Part
@@ -97,8 +97,8 @@ abbrev pub relied_by : Part → (around now : Relied) → Relied
 relied_by (Whole peek) around now = and_looked peek around
 relied_by (PartOf peek) around now = and_looked peek now
 
--- The flow states on which entries above this stack rely, given those on which clauses rely: a local whose peek is not yet
--- used must not change.
+-- The flow states on which entries above this stack rely, given those on which catch clauses rely. A local that was read
+-- early (peeked at) must not change until the read value is used.
 abbrev pub relied_at : Relied → List Entry → Relied
 relied_at q [] = q
 relied_at q (Needs a ∷ stack) = relied_by (part a) q (relied_at q stack)
@@ -140,7 +140,7 @@ IsNew c t = IsDeclarable c.next_region t × IsLive c (regions.Variable c.region)
 abbrev pub null : Operand
 null = record { kind = kinds.Nullable; value = values.Null }
 
--- The exits inside the body of a loop.
+-- The possible exits of control inside the body of a loop.
 abbrev pub inside : Exits → LoopExit → Exits
 inside x l = record x { loop = Some l; locks = [] }
 
@@ -175,7 +175,8 @@ abbrev pub IsPlainValue : RunValue → Type 0
 IsPlainValue (Value t) = IsPlain t
 IsPlainValue r = Unit {0}
 
--- Says that the remaining operators of a chain fit the left operand. If the operand is a peek, then the next operator must only look at it.
+-- Says that the remaining operators of a chain fit the left operand. If the operand is a peek (a read that does not move a local's value),
+-- then the next operator must only look at it.
 abbrev pub IsChained : Option ℕ → RunValue → Operations → Type 0
 IsChained peek r (ThenTest o a os) = Unit {0}
 IsChained peek r (ThenPointerPeek n o a os) = (peek ≡ Some n) ⊎ ((peek ≡ None) × IsPlainValue r)
@@ -195,8 +196,8 @@ abbrev pub IsByType : RunTy → Type 0
 IsByType (lives.Pointer k t l) = IsCommonLife l
 IsByType t = Unit {0}
 
--- The typing of an entry that awaits a value. The typing consists of the types of the entry's stored operands, the awaited value, the
--- value with which the run continues, and the scope.
+-- The typing of a stack entry that awaits a value. The typing consists of the types of the entry's stored operands, the awaited
+-- value, the value with which the run continues, and the scope.
 pub data Waits (p : Program) (x : Exits) (q : Relied) (bs : List InScope) : Awaiting → List RunTy → RunValue → flow.State → List InScope → Want → Type 0 where
   converts : {from to : Kind} {target : Option Kind} (c : Context) (v : ValueType) (t : Ty) (f : flow.State) → AgreesWith c.regions (lives_in bs) → KeepsUnique c.regions (lives_in bs) → Converts c v t → from ≡ kind_of_value v → to ≡ kind_of t → target ≡ target_of_value v
       → Waits p x q bs (ConvertTo from to target) [] (read_value bs v) f bs (Val (Value (read bs t)) f)
@@ -265,7 +266,7 @@ pub data Waits (p : Program) (x : Exits) (q : Relied) (bs : List InScope) : Awai
       → Continues (lending x lent) (with_local true t (with_opened scopes.Alias c)) js (with_fullness Full (with_fullness Locked f lent) number) h
       → Implies (with_fullness Full h lent) i → Waits p x q bs (AliasOf number lent js) [] (Seen b.object (read bs u)) f cs (Go i)
 
--- The typing of an entry that awaits a cell of this type and lifetime, with the continuation after it.
+-- The typing of a stack entry that awaits a cell of this type and lifetime, with the continuation after it.
 pub data WaitsPlace (p : Program) (x : Exits) (q : Relied) (bs : List InScope) : AwaitingPlace → Option ℕ → RunTy → Life → flow.State → Want → Type 0 where
   loads_from : {kind : Kind} (peek : Option ℕ) (t : Ty) (r : Region) (f : flow.State) → IsThere bs r → IsByType (read bs t) → is_struct t ≡ false → kind ≡ values.kind_of t
       → WaitsPlace p x q bs (LoadFrom kind) peek (read bs t) (lives_in bs r) f (Val (Value (read bs t)) f)
@@ -296,7 +297,7 @@ abbrev pub AreClaimed : (own : Thing → Holder) → (below : ℕ) → List RunT
 AreClaimed own i (t ∷ ts) (v ∷ vs) = Claims own (Hand (i + length ts)) t v.value × AreClaimed own i ts vs
 AreClaimed own i ts vs = Unit {0}
 
--- Says that arguments in order, from position `place` on, claim their resources.
+-- Says that arguments in order, the first of which has the stack index `place`, claim their resources.
 abbrev pub AreGiven : (own : Thing → Holder) → (place : ℕ) → List RunTy → List Operand → Type 0
 AreGiven own i (t ∷ ts) (v ∷ vs) = Claims own (Hand i) t v.value × AreGiven own (suc i) ts vs
 AreGiven own i ts vs = Unit {0}
@@ -317,8 +318,8 @@ operands_in (entry ∷ stack) = operands_in stack
 abbrev pub Comes : Typing → RunValue → Operand → List Entry → Type 0
 Comes g r v stack = ClaimsBy g (operands_in stack) r v.value
 
--- Says that the operands stored in an entry, above `below` other operands, have these types. For an array under construction, the
--- type is that of the pointer to the array.
+-- Says that the operands stored in a stack entry, above `below` other operands, have these types. For an array under
+-- construction, the type is that of the pointer to the array.
 abbrev pub Keeps : Typing → (below : ℕ) → Awaiting → List RunTy → Type 0
 Keeps g i (FillElement object count index level kind element) ts = IsArrayOf g i ts object count index
 Keeps g i (ApplyPointer peek operator left) ts = AreOperands g ts (left ∷ []) × IsHeldPart g i peek ts left
@@ -329,7 +330,8 @@ Keeps g i a (t ∷ ts) = AreOperands g (t ∷ ts) (held a) × AreClaimed g.own i
 
 -- ---- swaps
 
--- One side of a swap after its evaluation: a variable that is full in this flow state, or a cell to which a pointer points.
+-- The left or right operand of a swap after its evaluation: a variable that is full in this flow state, or a cell to which
+-- a pointer points.
 pub data IsSpot (p : Program) (g : Typing) (bs : List InScope) (t : Ty) (f : flow.State) : values.Value → Type 0 where
   of_local : (b : Bound) → IsAmong (Variable b) bs → b.of_type ≡ read bs t → IsFullIn f b.number → IsSpot p g bs t f (values.Thin b.object 0)
   of_global : (number : ℕ) → slice_get (map (λ (v : GlobalVariable). v.of_type) p.globals) number ≡ Some t → read bs t ≡ at as_heap t
@@ -337,24 +339,25 @@ pub data IsSpot (p : Program) (g : Typing) (bs : List InScope) (t : Ty) (f : flo
   of_cell : (place : values.Value) (r : Region) → IsThere bs r → HasType g (lives.Pointer marks.NonNull (read bs t) (lives_in bs r)) place → IsHad g (thing_of (lives.Pointer marks.NonNull (read bs t) (lives_in bs r)) place)
       → IsSpot p g bs t f place
 
--- The left side of a swap, while the right side is evaluated. The left side is a variable, or a cell that is reached through a peek or
--- through a stored operand.
+-- The left operand of a swap, while the right operand is evaluated. The left operand is a variable, or a cell that is reached through
+-- a peeked local or through a stored operand.
 pub data IsLeftSpot (p : Program) (g : Typing) (hand : ℕ) (peek : Option ℕ) (bs : List InScope) (t : Ty) (f : flow.State) : values.Value → Type 0 where
   left_variable : (place : values.Value) → ((h : Typing) → IsSpot p h bs t f place) → IsLeftSpot p g hand peek bs t f place
   left_cell : (place : values.Value) (r : Region) → IsThere bs r → HasType g (lives.Pointer marks.NonNull (read bs t) (lives_in bs r)) place
       → ClaimsPart g hand peek (thing_of (lives.Pointer marks.NonNull (read bs t) (lives_in bs r)) place) → IsLeftSpot p g hand peek bs t f place
 
--- Says that the left side is stored in the swap's entry while the right side is evaluated; both sides have this type.
+-- Says that the left operand of a swap is stored in the swap's stack entry while the right operand is evaluated; both
+-- operands have this type.
 abbrev pub KeepsPlace : Program → Typing → (hand : ℕ) → List InScope → AwaitingPlace → RunTy → flow.State → Type 0
 KeepsPlace p g i bs (SwapRight kind peek is_cell left) r f = (t : Ty) × (r ≡ read bs t) × (is_struct t ≡ false) × IsLeftSpot p g i peek bs t f left
 KeepsPlace p g i bs a r f = Unit {0}
 
--- Says that a value claims its resource as the content of this cell.
+-- Says that a value claims its resource as the value stored in this cell.
 abbrev pub ClaimsAt : (own : Thing → Holder) → (place : values.Value) → RunTy → values.Value → Type 0
 ClaimsAt own (values.Thin object offset) t v = Claims own (At object offset) t v
 ClaimsAt own place t v = ⊥
 
--- Says that the value read from the left side of a swap, if any, is still the content of this cell.
+-- Says that the value read from the left operand of a swap, if any, is still stored in this cell.
 abbrev pub IsRead : Typing → (left : values.Value) → RunTy → Option Operand → Type 0
 IsRead g left t None = Unit {0}
 IsRead g left t (Some v) = IsResult g (Value t) v × ClaimsAt g.own left t v.value
@@ -368,8 +371,8 @@ abbrev pub IsAwaited : Typing → (place : values.Value) → Type 0
 IsAwaited g (values.Thin object offset) = g.pending ≡ Awaits object offset
 IsAwaited g place = ⊥
 
--- Says that the two writes of a swap are well-typed. After the first write, an operand holds the old value of the left side, and the
--- right side awaits its value.
+-- Says that the two writes of a swap are well-typed. After the first write, an operand holds the old value of the left cell, and the
+-- right cell awaits its value.
 abbrev pub AreSwapped : Program → Typing → (hand : ℕ) → List InScope → flow.State → List Write → Type 0
 AreSwapped p g i bs f [] = g.pending ≡ Settled
 AreSwapped p g i bs f (w ∷ []) = (t : Ty) × IsWrite p g bs f t w × IsAwaited g w.place × Claims g.own (Hand i) (read bs t) w.operand.value

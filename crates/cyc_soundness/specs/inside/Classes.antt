@@ -12,11 +12,11 @@ use Rattle.cyc_types.specs.flow.States as flow
 use Rattle.cyc_types.specs.flow.States.{Fullness, Vacant, Full, Unreached, Reached}
 use Rattle.cyc_soundness.specs.inside.Lives.{AllIn, IsKnown}
 
--- Says that a type mentions only regions with numbers below n.
+-- Says that all region variables that a type mentions have indices below n.
 abbrev pub IsDeclarable : ℕ → Ty → Type 0
 IsDeclarable n t = AllIn (IsKnown n) t
 
--- The flow states at the starts of the clauses of each enclosing `try`, on which these clauses rely.
+-- The flow states at the starts of the catch clauses of each enclosing `try`, on which these clauses rely.
 abbrev pub Relied : Type 0
 Relied = List flow.State
 
@@ -25,7 +25,7 @@ abbrev pub is_full : Fullness → Bool
 is_full Full = true
 is_full a = false
 
--- Says that a flow state does not rely on this local being full.
+-- Says that a flow state does not rely on this local holding a value that is not lent.
 abbrev pub IsSparedBy : flow.State → ℕ → Type 0
 IsSparedBy Unreached n = Unit {0}
 IsSparedBy (Reached as') n = is_full (get_or as' n Vacant) ≡ false
@@ -34,12 +34,12 @@ abbrev pub IsSpared : Relied → ℕ → Type 0
 IsSpared [] n = Unit {0}
 IsSpared (f ∷ q) n = IsSparedBy f n × IsSpared q n
 
--- The flow state in which only local n is known to be full.
+-- The flow state in which only local n is known to hold a value that is not lent.
 abbrev pub only : ℕ → List Fullness
 only zero = Full ∷ []
 only (suc n) = Vacant ∷ only n
 
--- The flow states on which entries rely, extended by a local whose peek is not yet used.
+-- The flow states on which stack entries rely, extended by a local that was read early (peeked at) and whose value is not yet used.
 abbrev pub and_looked : Option ℕ → Relied → Relied
 and_looked None q = q
 and_looked (Some n) q = Reached (only n) ∷ q
@@ -87,9 +87,9 @@ Asked true A = A
 
 -- ---- the class
 
--- All forms of the language are in the class. Enclosing clauses do not rely on a local that is consumed, lent, or assigned a value with a
--- single owner. At the start of a function there are no clauses, and for the body of a `try` the condition is proved. For unreachable
--- code, the condition requires nothing.
+-- All forms of the language are in the class. Enclosing catch clauses do not rely on a local that is consumed, lent, or assigned a value
+-- with a single owner. At the start of a function there are no such clauses, and for the body of a `try` the condition is proved. For
+-- unreachable code, the condition requires nothing.
 abbrev mutual
   pub InExpression : Relied → Expression → Type 0
   InExpression q (Number n) = Unit {0}
@@ -153,7 +153,7 @@ abbrev pub InSide : Relied → Side → Type 0
 InSide q (VariableSide l t) = Unit {0}
 InSide q (CellSide d) = InPlace q d
 
--- Says that statements in which the next region has number n are in the class: the types of locals mention only
+-- Says that statements in which the next region has index n are in the class: the types of locals mention only
 -- regions declared before them.
 abbrev mutual
   pub InStatement : Relied → ℕ → Statement → Type 0

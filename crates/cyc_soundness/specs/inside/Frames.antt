@@ -32,12 +32,12 @@ pub record Bound : Type 0 where
 abbrev pub local_type : (depth : ℕ) → Bound → ObjectType
 local_type d b = variable_type b.of_type b.life b.is_hidden (OfLocal d b.number)
 
--- An entry of a scope: a local, a counter, a region variable, the region variables of a call, or the region of a block.
+-- An entry of a scope: a local, the loop counter of an array, a region variable, the region variables of a call, or the region of a block.
 pub data InScope : Type 0 where
   Variable : Bound → InScope
-  -- The counter of an enclosing array `for`.
+  -- The loop counter that an enclosing array with `for` uses to fill its elements.
   Level : (level : ℕ) → InScope
-  -- The lifetime that the region variable with this number denotes; the flag tells if the region is live.
+  -- The lifetime that the region variable with this index denotes; the flag tells if the region is live.
   Names : (number : ℕ) → Life → (is_live : Bool) → InScope
   -- The lifetimes that all region variables of a call denote; the second function tells which of them are live.
   Instance : (ℕ → Life) → (ℕ → Bool) → InScope
@@ -84,7 +84,7 @@ IsThereBy live (regions.Variable n) = live n ≡ true
 abbrev pub IsThere : List InScope → Region → Type 0
 IsThere bs r = IsThereBy (λ n. is_live_named bs n) r
 
--- the number of the region that contains the variables in this scope
+-- the number that identifies the region that contains the variables in this scope
 abbrev pub home_of : List InScope → ℕ
 home_of [] = globals_number
 home_of (Home region ∷ bs) = region
@@ -107,7 +107,7 @@ abbrev pub IsScope : Lives → List LocalInScope → List InScope → Type 0
 IsScope m vs [] = vs ≡ []
 IsScope m vs (b ∷ bs) = (rest : List LocalInScope) × IsNewest m vs b rest × IsScope m rest bs
 
--- Says that the number of a local is below n.
+-- Says that the index of a local is below n.
 abbrev pub IsBelow : ℕ → InScope → Type 0
 IsBelow n (Variable b) = b.number < n
 IsBelow n b = Unit {0}
@@ -116,7 +116,7 @@ abbrev pub AreBelow : ℕ → List InScope → Type 0
 AreBelow n [] = Unit {0}
 AreBelow n (b ∷ bs) = IsBelow n b × AreBelow n bs
 
--- Says that each local has its object and each counter has a value.
+-- Says that each local has its object, and that each loop counter of an array has a value.
 abbrev pub HasMeaning : (locals counters : ℕ → Option ℕ) → InScope → Type 0
 HasMeaning locals counters (Variable b) = locals b.number ≡ Some b.object
 HasMeaning locals counters (Level l) = (index : ℕ) × (counters l ≡ Some index)
@@ -126,7 +126,8 @@ abbrev pub IsBound : (locals counters : ℕ → Option ℕ) → List InScope →
 IsBound locals counters [] = Unit {0}
 IsBound locals counters (b ∷ bs) = HasMeaning locals counters b × IsBound locals counters bs
 
--- Says that the objects of locals are variables of the right types. The lifetimes of regions are known, and live ones are open.
+-- Says that the objects of locals are variables of the right types. Region variables denote lifetimes that the typing knows,
+-- and the lifetimes of live region variables are open.
 abbrev pub IsOfVariable : Typing → InScope → Type 0
 IsOfVariable g (Variable b) = (slice_get g.objects b.object ≡ Some (local_type g.depth b)) × IsOpenIn g b.life
 IsOfVariable g (Names number life live) = IsKnownLife g life × (live ≡ true → IsOpenIn g life)
@@ -217,9 +218,9 @@ pub record Exits : Type 0 where
   pub result : Option Ty
   -- The result type of the function as the caller reads it.
   pub gives : RunValue
-  -- the locals that items have lent since the start of the enclosing loop's body
+  -- the locals that declarations and statements have lent since the start of the enclosing loop's body
   pub locks : List ℕ
-  -- The flow states on which enclosing clauses and ends of loans rely, innermost first.
+  -- The flow states on which the catch clauses of enclosing `try` statements and the ends of enclosing loans rely, innermost first.
   pub relied : Relied
 
 -- Says that a function without a result returns no value.
@@ -234,15 +235,15 @@ loop_of (Some l) = Some (record { place = l.place; head = l.head })
 abbrev pub around : Exits → Around
 around x = record { loop = loop_of x.loop; locks = x.locks }
 
--- The exits while one more local is lent; the end of the loan relies on this local.
+-- The possible exits of control while one more local is lent; the end of the loan relies on this local.
 abbrev pub lending : Exits → ℕ → Exits
 lending x n = record x { locks = x.locks ++ n ∷ []; relied = Reached (only n) ∷ x.relied }
 
--- The exits inside the body of a `try` whose clauses begin with this flow state.
+-- The possible exits of control inside the body of a `try` whose catch clauses begin with this flow state.
 abbrev pub relying : Exits → flow.State → Exits
 relying x f = record x { relied = f ∷ x.relied }
 
--- Says that the local with this number, if it is this entry, holds a value in this object.
+-- Says that if this scope entry is the local with the given index, then it holds a value and its object is the given one.
 abbrev pub IsFullAt : Typing → (number object : ℕ) → InScope → Type 0
 IsFullAt g n object (Variable b) = b.number ≡ n → IsFull g b.object × (b.object ≡ object)
 IsFullAt g n object b = Unit {0}
@@ -281,7 +282,7 @@ abbrev pub AreKnownLocals : ℕ → List LocalInScope → Type 0
 AreKnownLocals n [] = Unit {0}
 AreKnownLocals n (v ∷ vs) = (AllIn (IsKnown n) v.of_type × (v.region < n)) × AreKnownLocals n vs
 
--- Says that all regions that a context mentions have numbers below n.
+-- Says that all region variables that a typing context mentions have indices below n.
 pub record AreKnown (n : ℕ) (c : RegionContext) (vs : List LocalInScope) (result : Option Ty) : Type 0 where
   pub live : (r : Region) → Contains (live_regions c.live c.opened) r → IsKnown n r
   pub pairs : (a b : Region) → Contains c.written (a, b) → IsKnown n a × IsKnown n b

@@ -16,19 +16,19 @@ use Rattle.cyc_types.specs.flow.Programs.{start_of, in_function}
 use Rattle.cyc_soundness.specs.inside.Classes.{Relied, InExpression, InPlace, InSide, InInitial, InArguments, InOperations, InStatement, InItems, InClauses}
 use Rattle.cyc_soundness.specs.inside.Frames.{Implies, Exits, around, AreBreaks}
 
--- The local at which an expression peeks, if the expression is a peek.
+-- The local that an expression reads without moving its value, if the expression is such a read (a peek).
 abbrev pub seen_by : {A B : Type 0} → Expression → A ⊎ B → Option ℕ
 seen_by a (inl well) = None
 seen_by a (inr peek) = peek_of a
 
--- The typing and flow judgement of an expression, which may be a peek.
+-- The typing and flow judgement of an expression, which may be a peek (a read that does not move a local's value).
 pub record Evaluates (q : Relied) (c : Context) (a : Expression) (f : flow.State) (t : ValueType) (h : flow.State) : Type 0 where
   pub waiting : List ℕ
   pub typed : WellTyped c a t ⊎ IsPeek c a t
   pub flows : Derives (rule waiting a f) h
   pub kept : InExpression q a
 
--- The typing and flow judgement of an expression whose value is used, not only peeked at.
+-- The typing and flow judgement of an expression whose value is used, not only peeked at (read without being moved).
 abbrev pub EvaluatesWhole : Relied → Context → Expression → flow.State → ValueType → flow.State → Type 0
 EvaluatesWhole q c a f t h = (evaluates : Evaluates q c a f t h) × (seen_by a evaluates.typed ≡ None)
 
@@ -51,14 +51,15 @@ pub record Locates (q : Relied) (c : Context) (d : Dereference) (f : flow.State)
   pub flows : Derives (rule_place waiting d f) h
   pub kept : InPlace q d
 
--- The typing and flow judgement of the initial contents of an object of this type; k is the kind of the pointer to it.
+-- The typing and flow judgement of the initial values of an object of this type; k is the kind of the pointer to it.
 pub record Makes (q : Relied) (c : Context) (i : Initial) (k : PointerKind) (t : Ty) (f h : flow.State) : Type 0 where
   pub waiting : List ℕ
   pub typed : IsMade c i k t
   pub flows : Derives (rule_initial waiting i f) h
   pub kept : InInitial q i
 
--- The typing and flow judgement of one side of a swap of this type; the resulting state is the state after both sides were evaluated.
+-- The typing and flow judgement of the left or right operand of a swap of this type; the resulting state is the state after both
+-- operands were evaluated.
 pub record Finds (q : Relied) (c : Context) (y : Side) (f : flow.State) (t : Ty) (h : flow.State) : Type 0 where
   pub waiting : List ℕ
   pub typed : IsSide c y t
@@ -75,7 +76,8 @@ pub record Executes (x : Exits) (c : Context) (s : Statement) (f h : flow.State)
   pub breaks : AreBreaks x.loop following
   pub kept : InStatement x.relied c.next_region s
 
--- The typing and flow judgement of the rest of a block; at its end, the locals that these items have locked are full again.
+-- The typing and flow judgement of the rest of a block; at its end, the locals that its declarations and statements have
+-- locked are full again.
 pub record Continues (x : Exits) (c : Context) (js : Items) (f h : flow.State) : Type 0 where
   pub before : flow.State
   pub following : flow.State
@@ -86,7 +88,7 @@ pub record Continues (x : Exits) (c : Context) (js : Items) (f h : flow.State) :
   pub kept : is_reached f ≡ true → InItems x.relied c.next_region js
   pub ends : Implies (with_each Full (locks_of js) ending) h
 
--- The typing and flow judgement of clauses that begin with this flow state.
+-- The typing and flow judgement of catch clauses that begin with this flow state.
 pub record Catches (x : Exits) (c : Context) (start : flow.State) (cs : Clauses) (f h : flow.State) : Type 0 where
   pub before : flow.State
   pub following : flow.State

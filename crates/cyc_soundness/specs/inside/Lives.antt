@@ -1,6 +1,6 @@
 -- This file defines types at run time. Regions in trees have a meaning only in their function. States of runs use lifetimes instead:
--- the region with a number, or a unique object. A type of a tree becomes a run-time type when each of its regions is replaced by the
--- lifetime that it denotes. (One language of types for trees and for runs is this project's own choice.)
+-- that of a region, identified by its number, or that of a unique object. A type of a tree becomes a run-time type when each of its
+-- regions is replaced by the lifetime that it denotes. (One language of types for trees and for runs is this project's own choice.)
 use Rattle.std.specs.Prelude.{◌≢◌, ℕ, Bool, false, List, [], map, Option, Some, None}
 use Rattle.cyc_syntax.specs.declared.tree.PointerKind.{PointerKind}
 use Rattle.cyc_types.specs.declared.region.Region.{Region}
@@ -41,9 +41,9 @@ pub data RunValue : Type 0 where
   Void : RunValue
   Null : RunValue
   Value : RunTy → RunValue
-  -- A value of this type that a peek reads; the variable of this object keeps the value.
+  -- A value of this type that a peek (a read that does not move) reads from the variable with this object; the variable keeps the value.
   Seen : (object : ℕ) → RunTy → RunValue
-  -- A pointer into the object of the local at which a peek looks or, without a peek, of an operand on the stack.
+  -- A pointer into the object to which a peeked local points or, without a peek, into the object of an operand on the stack.
   Into : (peek : Option ℕ) → RunTy → RunValue
 
 -- the lifetimes that the regions of a function denote
@@ -63,13 +63,13 @@ value_at m types.Void = Void
 value_at m types.Null = Null
 value_at m (types.Value t) = Value (at m t)
 
--- The type of a value after a peek of this local, if the value comes from a peek.
+-- The run-time type of a value that was reached through a peek of this local (a read without a move), if a local is given.
 abbrev pub looked : Option ℕ → RunValue → RunValue
 looked None r = r
 looked (Some n) (Value t) = Into (Some n) t
 looked (Some n) r = r
 
--- The kind of a cell whose run-time type is given.
+-- The representation kind (int, char, pointer, ..) of a cell whose run-time type is given.
 abbrev pub kind_at : RunTy → Kind
 kind_at Int = kinds.Int
 kind_at Char = kinds.Char
@@ -102,7 +102,7 @@ AllInValue P types.Void = Unit {0}
 AllInValue P types.Null = Unit {0}
 AllInValue P (types.Value t) = AllIn P t
 
--- Says that a region is not the region variable with number n.
+-- Says that a region is not the region variable with index n.
 abbrev pub IsOther : ℕ → Region → Type 0
 IsOther n regions.Heap = Unit {0}
 IsOther n regions.Unique = Unit {0}

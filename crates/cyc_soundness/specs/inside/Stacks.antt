@@ -32,7 +32,7 @@ abbrev pub IsBlocked : Option Ty → flow.State → Type 0
 IsBlocked None f = Unit {0}
 IsBlocked (Some t) f = is_reached f ≡ false
 
--- Says that the content of this hidden variable is lent by the newest loan.
+-- Says that the newest loan lends the value of this variable, to which no pointer may point.
 abbrev pub IsLentOut : Typing → (lent loan : ℕ) → RunTy → (object : ℕ) → Type 0
 IsLentOut g lent j t object = (l : Life) × (slice_get g.objects object ≡ Some (variable_type t l true (OfLocal g.depth lent))) × (g.here object ≡ Away j)
 
@@ -75,7 +75,7 @@ AreNext g zero ts vs = AreOperands g ts vs
 AreNext g (suc i) [] vs = ⊥
 AreNext g (suc i) (t ∷ ts) vs = AreNext g i ts vs
 
--- Says that the operands for the cells from `offset` on are on the stack, from position `place` on.
+-- Says that the operands for the cells from `offset` on are on the stack, from stack index `place` on.
 abbrev pub AreNextGiven : (own : Thing → Holder) → (place offset : ℕ) → List RunTy → List Operand → Type 0
 AreNextGiven own i zero ts vs = AreGiven own i ts vs
 AreNextGiven own i (suc o) [] vs = Unit {0}
@@ -124,7 +124,7 @@ abbrev pub AreFull : Typing → List InScope → Type 0
 AreFull g [] = Unit {0}
 AreFull g (b ∷ bs) = IsFilledIn g b × AreFull g bs
 
--- Says that a scope entry that is a local holds its own resource.
+-- Says that a scope entry that is a local holds the resource of its own value.
 abbrev pub IsOwnIn : Typing → InScope → Type 0
 IsOwnIn g (Variable b) = IsHere g g.depth b.number b.object
 IsOwnIn g b = Unit {0}

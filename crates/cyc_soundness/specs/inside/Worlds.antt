@@ -1,6 +1,6 @@
--- This file defines the typing of a world: the facts about each object that was ever created, which stay true for ever. Values are typed by
--- these facts, not by which regions are open. A pointer keeps its type when its region closes; the proof that it may be dereferenced is
--- made at the dereference.
+-- This file defines the typing of a heap state (regions and objects): the facts about each object that was ever created, which stay true
+-- for ever. Values are typed by these facts, not by which regions are open. A pointer keeps its type when its region closes; the proof that
+-- it may be dereferenced is made at the dereference.
 use Rattle.std.specs.Prelude.{◌≡◌, ◌≢◌, ℕ, zero, suc, ◌+◌, ◌<◌, ◌≤◌, Bool, true, false, List, [], ◌∷◌, length, Option, Some, None, slice_get, ◌==◌, nat_lt, if◌then◌else◌}
 use Rattle.cyc_syntax.specs.declared.tree.PointerKind.TheVariants as marks
 use Rattle.cyc_types.specs.declared.region.Region.{Region as NamedRegion}
@@ -17,7 +17,7 @@ pub data IsAmong {A : Type 0} (a : A) : List A → Type 0 where
   first : (as' : List A) → IsAmong a (a ∷ as')
   later : (b : A) (as' : List A) → IsAmong a as' → IsAmong a (b ∷ as')
 
--- The local whose variable the object is, given by its number and by how many other calls enclose its call.
+-- The local whose variable the object is, given by the local's index and by how many other calls enclose its call.
 pub data Slot : Type 0 where
   NoLocal : Slot
   OfLocal : (depth number : ℕ) → Slot
@@ -40,11 +40,11 @@ pub data Holder : Type 0 where
   -- The holder is a loan of this variable, which began after this many other loans.
   Lent : (before object : ℕ) → Holder
 
--- States if a variable holds its own content.
+-- States if a variable holds its value, has lost it, or has lent it.
 pub data Standing : Type 0 where
   Gone : Standing
   Here : Standing
-  -- The content of the variable is lent to the end of a block; this many other loans began before.
+  -- The value of the variable is lent to the end of a block; this many other loans began before.
   Away : (before : ℕ) → Standing
 
 -- States if a swap is between its two writes, and which cell it must still write.
@@ -53,13 +53,13 @@ pub data Pending : Type 0 where
   Awaits : (object offset : ℕ) → Pending
 
 pub record Typing : Type 0 where
-  -- The type of each object, given the object's number.
+  -- The type of each object, given the number that identifies the object.
   pub objects : List ObjectType
   -- For each object, how many of its leading cells hold values; a cell that holds a value holds one for ever.
   pub filled : List ℕ
-  -- the types of a struct's cells, given its number and the lifetimes of its region parameters
+  -- the types of a struct's cells, given the struct's index and the lifetimes of its region parameters
   pub fields : ℕ → List Life → Option (List RunTy)
-  -- the numbers of the dynamic regions
+  -- the numbers that identify the dynamic regions
   pub kept : List ℕ
   -- The facts about the current state: the holder of each resource, the state of each variable, the number of calls that enclose the
   -- running call, and the number of loans.
@@ -69,7 +69,7 @@ pub record Typing : Type 0 where
   pub depth : ℕ
   pub loans : ℕ
 
--- Says that a region variable may denote this lifetime; a dynamic region must be one of this world.
+-- Says that a region variable may denote this lifetime; a dynamic region must be one that the typing lists.
 abbrev pub IsKnownLife : Typing → Life → Type 0
 IsKnownLife g (Kept (KeyOf region)) = IsAmong region g.kept
 IsKnownLife g Owned = ⊥
@@ -140,7 +140,7 @@ IsNumber (OfRegion number around lent) region = number ≡ region
 IsNumber (Kept (KeyOf number)) region = number ≡ region
 IsNumber l region = ⊥
 
--- Says that the key of the dynamic region with this number has this lifetime.
+-- Says that a lifetime is that of the key of the dynamic region with this number.
 abbrev pub IsKeyOf : Life → (region : ℕ) → Type 0
 IsKeyOf (Kept (KeyOf number)) region = number ≡ region
 IsKeyOf l region = ⊥
@@ -285,7 +285,7 @@ given (Some a) h own = λ b. if same_thing b a then h else own b
 abbrev pub giving : Typing → Option Thing → Holder → Typing
 giving g o h = record g { own = given o h g.own }
 
--- Changes the standing of one variable, that is, the fact if the variable holds its content.
+-- Changes the standing of one variable, which states if the variable holds its value, has lost it, or has lent it.
 abbrev pub marked : (object : ℕ) → Standing → (ℕ → Standing) → ℕ → Standing
 marked object b here = λ n. if n == object then b else here n
 
@@ -296,7 +296,7 @@ handing g o h object b = record g { own = given o h g.own; here = marked object 
 abbrev pub IsSlot : Typing → (depth number object : ℕ) → Type 0
 IsSlot g d n object = (x : ObjectType) × (slice_get g.objects object ≡ Some x) × (x.slot ≡ OfLocal d n)
 
--- Says that the variable of this local holds its own content.
+-- Says that the variable of this local holds its own value, which is neither moved nor lent.
 abbrev pub IsHere : Typing → (depth number object : ℕ) → Type 0
 IsHere g d n object = (g.here object ≡ Here) × IsSlot g d n object
 
@@ -309,7 +309,8 @@ abbrev pub IsLookedAt : Typing → (number : ℕ) → Option Thing → Type 0
 IsLookedAt g n None = Unit {0}
 IsLookedAt g n (Some a) = (object : ℕ) × IsHere g g.depth n object × IsHiding g object true × (g.own a ≡ At object 0)
 
--- Says that a resource is held by the local at which a peek looks or, without a peek, by an operand on the stack.
+-- Says that a resource is held by the local that was peeked at (read without a move). Without a peek, the
+-- resource is held by an operand on the stack.
 abbrev pub ClaimsPart : Typing → (hand : ℕ) → (peek : Option ℕ) → Option Thing → Type 0
 ClaimsPart g i None o = Owns g.own (Hand i) o
 ClaimsPart g i (Some n) o = IsLookedAt g n o
@@ -325,21 +326,21 @@ ClaimsBy g i (Seen object t) v = Owns g.own (At object 0) (thing_of t v)
 ClaimsBy g i (Into peek t) v = ClaimsPart g i peek (thing_of t v)
 ClaimsBy g i r v = Unit {0}
 
--- The claim of a value that leaves its call, which therefore is not a peek.
+-- The resource that a value claims when it leaves its call; such a value is never a peek (a read that does not move).
 abbrev pub ClaimsAlone : (own : Thing → Holder) → (hand : ℕ) → RunValue → values.Value → Type 0
 ClaimsAlone own i (Value t) v = Claims own (Hand i) t v
 ClaimsAlone own i (Seen object t) v = ⊥
 ClaimsAlone own i (Into peek t) v = ⊥
 ClaimsAlone own i r v = Unit {0}
 
--- Says that a cell holds the resource of its own content; a hidden variable may have given its content away.
+-- Says that a cell holds the resource of its own value; a variable to which no pointer may point may have moved or lent its value.
 abbrev pub IsKept : Typing → (object offset : ℕ) → (is_hidden : Bool) → Type 0
 IsKept g object offset hidden = (hidden ≡ true → g.here object ≡ Here) × (g.pending ≢ Awaits object offset)
 
 abbrev pub AreOwned : Typing → (object : ℕ) → ObjectType → List Cell → Type 0
 AreOwned g object y cs = (i : ℕ) (t : RunTy) (c : Cell) (v : values.Value) → IsKept g object i y.is_hidden → slice_get y.cells i ≡ Some t → slice_get cs i ≡ Some c → c.content ≡ Some v → Claims g.own (At object i) t v
 
--- Says that content that is lent is still stored in its hidden variable.
+-- Says that a value that is lent is still stored in its variable, to which no pointer may point.
 abbrev pub AreLent : Typing → (object : ℕ) → ObjectType → List Cell → Type 0
 AreLent g object y cs = (i j : ℕ) (t : RunTy) (c : Cell) (v : values.Value) → g.here object ≡ Away j → y.is_hidden ≡ true → slice_get y.cells i ≡ Some t → slice_get cs i ≡ Some c → c.content ≡ Some v → Claims g.own (Lent j object) t v
 
@@ -352,8 +353,8 @@ IsDynamic (Some r) = (r.sort ≡ Dynamic) × (r.is_open ≡ true)
 abbrev pub IsUniqueObject : Typing → List Object → (object : ℕ) → Type 0
 IsUniqueObject g objects object = (t : ObjectType) × (x : Object) × (slice_get g.objects object ≡ Some t) × (t.life ≡ Owned) × (slice_get objects object ≡ Some x) × (x.owner ≡ Unique true)
 
--- Says that each object has its type, and that there are no other objects. The region of the heap is open in the world. Dynamic regions
--- whose key has a holder are open, and unique objects whose pointer has a holder are live.
+-- Says that each object has its type, and that there are no other objects. The region of the heap is open. Dynamic regions whose key
+-- has a holder are open, and unique objects whose pointer has a holder are live.
 pub record IsTyped (g : Typing) (regions : List Region) (objects : List Object) : Type 0 where
   pub count : length objects ≡ length g.objects
   pub counts : length objects ≡ length g.filled
@@ -393,7 +394,7 @@ IsOpenIn g l = Unit {0}
 
 -- ---- growth
 
--- Says that all earlier facts about objects stay true.
+-- Says that all facts about objects in an earlier typing stay true in a later one.
 pub record Grows (g h : Typing) : Type 0 where
   pub objects : (number : ℕ) (t : ObjectType) → slice_get g.objects number ≡ Some t → slice_get h.objects number ≡ Some t
   pub filled : (number count : ℕ) → IsFilled g number count → IsFilled h number count

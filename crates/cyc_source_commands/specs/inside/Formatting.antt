@@ -15,15 +15,15 @@ use Rattle.cyc_host.specs.declared.answer.Answer.TheVariants.{Done, WriteFault}
 abbrev pub IsLaidOut : (text laid : List ℕ) → Type 0
 IsLaidOut text laid = (tokens : List Token) × IsAccepted text tokens × HasSameTokens tokens laid
 
--- Says that the formatted text was written to the device completely, or a prefix of the text if the device failed. A text without tokens is
--- rejected with its fault, unless memory ran out; then no byte is written.
+-- Says that the formatted text was written to the device completely, or a prefix of the text if the device failed. A text that the lexer
+-- rejects is answered by its fault, unless memory ran out; in both cases no byte is written.
 abbrev pub AnswersFormat : (text : List ℕ) → (old new : Option (List ℕ)) → Result Answer Fault → Type 0
 AnswersFormat text old new (Ok answer) =
     (laid : List ℕ) × IsLaidOut text laid × (((answer ≡ Done) × Appends old new laid) ⊎ ((answer ≡ WriteFault) × AppendsPrefix old new laid))
 AnswersFormat text old new (Err fault) = ((fault ≡ memory_fault) ⊎ IsRefused text fault) × Keeps old new
 
--- The final answer to the command that formats a text. Flushing does not change the written bytes. `held` are the bytes in the
--- buffer; `stuck` is true if some bytes could not be flushed when they had to be.
+-- The final answer to the command that formats a text. Flushing the device does not change the bytes that count as written.
+-- `held` are the bytes in the buffer; `stuck` is true if some bytes could not be flushed when they had to be.
 abbrev pub EndsFormat : (text : List ℕ) → (old new : Option (List ℕ)) (held : List ℕ) (stuck : Bool) → (last : Result Answer Fault) → Type 0
 EndsFormat text old new held stuck (Ok last) =
     (answer : Answer) × (written : Option (List ℕ)) × AnswersFormat text old written (Ok answer) × Keeps written new × EndsAs answer held stuck last

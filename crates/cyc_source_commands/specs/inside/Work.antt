@@ -1,4 +1,4 @@
--- The program's answers to the commands that check or compile a program, stated in terms of the results of the lower layers.
+-- The program's answers to the commands that check or compile a program, stated in terms of the results of the crates that this crate uses.
 use Rattle.std.specs.Prelude.{◌≡◌, ◌⊎◌, ℕ, List, Result, Ok, Err}
 use Rattle.cyc_words.specs.declared.fault.Fault.{Fault}
 use Rattle.cyc_words.specs.Fault.{memory_fault}

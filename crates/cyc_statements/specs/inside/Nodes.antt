@@ -1,4 +1,4 @@
--- This file defines the views of the nodes of typed statements, and of the parts of the declaration of a local.
+-- This file defines the mathematical views of the nodes of typed statements, and of the parts of the declaration of a local.
 use Rattle.std.specs.Prelude.{Option, option_map}
 use Rattle.std.specs.declared.boxed.Box.{Box}
 use Rattle.std.specs.declared.alloc.Global.{Global}

@@ -1,5 +1,6 @@
--- This file says how a table of pages represents a layout: by its rows, words and live marks, as functions, and by the heads of its chains.
--- The location of these parts is left open. The representation of a layout by a page table is this project's own choice.
+-- This file says how a table of pages represents a layout: by its rows, its words and the flags of live words, all as functions, and by the
+-- first elements of its linked lists. The location of these parts is left open. The representation of a layout by a page table is this
+-- project's own choice.
 use Rattle.std.specs.Prelude.{◌≡◌, ℕ, zero, suc, ◌+◌, ◌-◌, ◌*◌, ◌/◌, ◌^◌, ◌<◌, ◌≤◌, ◌==◌, ◌⊎◌, Bool, false, List, [], ◌∷◌, ◌++◌, Option, None, Some, is_some, if◌then◌else◌, length, slice_index, slice_index_or}
 use Rattle.std.specs.List.{AllByRecursion}
 use Rattle.cyc_words.specs.Demand.{greatest_class}
@@ -16,7 +17,8 @@ use Rattle.cyc_store.specs.declared.range.TheConstants.{PAGE_WORDS, UNIQUE, MOST
 use Rattle.cyc_store.specs.Pages.{Pages, HasChain}
 use Rattle.cyc_store.specs.Slots.{place_of, Layout, IsLaidOut, slots_from}
 
--- The content of a table that can be read.
+-- The content of a page table as far as it can be read: the numbers of pages, the first free page,
+-- and the rows, words and flags of live words as functions of their index.
 pub record Table : Type 0 where
   pub most : ℕ
   pub count : ℕ
@@ -41,7 +43,7 @@ numbers_from first (suc count) = first ∷ numbers_from (suc first) count
 
 -- ---- the row of a page
 
--- The number of words of a page that are live without a look at their live marks.
+-- The number of leading words of a page that are live by the page's row alone, without a look at the flags of live words.
 abbrev pub limit : (owner : Option ℕ) → (filled : ℕ) → ℕ
 limit None filled = 0
 limit (Some h) filled = if h == UNIQUE then 0 else filled
@@ -98,7 +100,7 @@ pub record IsStocked (word : ℕ → ℕ) (slots : ClassSlots) (class : ℕ) (de
   pub all : dead ≡ chain ++ slots_from (2 ^ class) slots.fresh slots.left
   pub linked : IsChain word slots.dead chain
 
--- The first empty slot of a class, and the empty slots that remain after it.
+-- The first empty slot of a size class, and the empty slots of the class that remain after it.
 abbrev pub next_slot_of : ClassSlots → (words : List ℕ) → (class : ℕ) → ℕ × ClassSlots
 next_slot_of slots words class =
     if slots.dead == NONE then (slots.fresh, record { dead = NONE; fresh = slots.fresh + 2 ^ class; left = slots.left - 1 })

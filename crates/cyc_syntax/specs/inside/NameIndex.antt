@@ -1,5 +1,5 @@
--- A text is looked up among the names by its key, a number. If another text has an equal key, it is looked up by the text. The lookup of
--- names by keys is this project's own choice.
+-- A text is looked up among the names by its key, a number. A text whose key an earlier text has is looked up by the text itself. The
+-- lookup of names by keys is this project's own choice.
 use Rattle.std.specs.Prelude.{◌≡◌, ℕ, ◌+◌, ◌*◌, ◌^◌, ◌%◌, ◌<◌, if◌then◌else◌, List, length, fold, get_or, [], Option, Some, None, IfSome, Vec}
 use Rattle.std.specs.Global.{Global}
 use Rattle.std.specs.Ordering.{nat_cmp}
@@ -16,7 +16,7 @@ key_of text = fold (λ key byte. (key * 257 % 2 ^ 64 + byte) % 2 ^ 64) 0 text
 abbrev pub first_in : BTreeMap ℕ ℕ → ℕ → Option ℕ
 first_in firsts key = get_by (nat_cmp key) firsts
 
--- Returns the number stored for a text among the other texts, if there is one.
+-- Returns the number stored for a text among the texts whose key an earlier text has, if there is one.
 abbrev pub other_in : BTreeMap (Vec ℕ Global) ℕ → List ℕ → Option ℕ
 other_in others text = get_by (λ v. slice_cmp nat_cmp text v.items) others
 
@@ -24,7 +24,8 @@ other_in others text = get_by (λ v. slice_cmp nat_cmp text v.items) others
 abbrev pub number_if : List (List ℕ) → List ℕ → Option ℕ
 number_if texts text = if is_among text texts then Some (number_of texts text) else None
 
--- Returns the result of a lookup: the number of the first text with this key if it is equal, otherwise the entry among the other texts.
+-- Returns the result of a lookup: the number of the first text with the key if this text is equal. If that first text differs, the
+-- result of a lookup is the entry stored for the text itself.
 abbrev pub found_at : List (List ℕ) → Option ℕ → Option ℕ → List ℕ → Option ℕ
 found_at texts None other text = None
 found_at texts (Some n) other text = if bytes_eq (get_or texts n []) text then Some n else other
@@ -33,6 +34,6 @@ found_at texts (Some n) other text = if bytes_eq (get_or texts n []) text then S
 pub record IsIndexOf (texts : List (List ℕ)) (first : ℕ → Option ℕ) (other : List ℕ → Option ℕ) : Type 0 where
   -- The number stored for a key is an index into the list of texts.
   pub within : (key : ℕ) → IfSome (first key) (λ n. n < length texts)
-  -- A text whose key is not stored is not among the other texts.
+  -- Texts whose key an earlier text has are stored apart. A text whose key is not stored is not among the texts stored apart.
   pub apart : (text : List ℕ) → first (key_of text) ≡ None → other text ≡ None
   pub found : (text : List ℕ) → found_at texts (first (key_of text)) (other text) text ≡ number_if texts text

@@ -1,4 +1,5 @@
--- The relation between a source position of the code and the bytes before it. (That columns count bytes is this project's own choice.)
+-- The relation between a source position in the compiler's representation and the bytes before it. (That columns count bytes is this
+-- project's own choice.)
 use Rattle.std.specs.Prelude.{◌≡◌, ℕ, List}
 use Rattle.cyc_words.specs.declared.span.Span.{Span}
 use Rattle.cyc_syntax.specs.TokenRule.{line_after, column_after}

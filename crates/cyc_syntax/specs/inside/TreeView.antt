@@ -1,4 +1,5 @@
--- The view of the code's syntax trees: each tree without its layout in memory. The form of the view is this project's own choice.
+-- The view of the syntax trees that the compiler builds: each tree without its layout in memory. The form of the view is this
+-- project's own choice.
 use Rattle.std.specs.Prelude.{List, [], ◌∷◌, map, Option, Some, None, option_map}
 use Rattle.std.specs.declared.vec.Vec.{Vec}
 use Rattle.std.specs.declared.alloc.Global.{Global as Heap}
@@ -97,7 +98,7 @@ abbrev mutual
   view_operations end_of-Operation = NoOperations
   view_operations (more_of-Operation o s e row) = ThenOperation o (place_of_span s) (view_expression e) (view_operations row)
 
--- Returns the view of a list of expressions, from the contents of a `Vec`.
+-- Returns the view of a list of expressions, from the elements of a `Vec`.
 
 abbrev pub expressions_of : List Expr → Expressions
 expressions_of [] = NoExpressions

@@ -50,7 +50,7 @@ both_counted : (s u : Statement) (t v : typed.Statement) → IsCounted s t → I
 both_counted s u t v (l, r) (m, n) =
     (length-append (declared_types t) (declared_types v) ∙ (ap (λ k. k + length (declared_types v)) l ∙ ap (λ k. locals_in s + k) m), ap (λ k. k + declared_regions v) r ∙ ap (λ k. regions_in s + k) n)
 
--- a catch clause that receives an int declares one local; a clause without an int declares none
+-- a catch clause that receives the int of an exception declares one local; a clause without an int declares none
 caught_counted : (v : Option Named) (n : ℕ) → length (caught_types (option_map (λ (y : Named). n) v)) ≡ counted v
 caught_counted None n = refl
 caught_counted (Some y) n = refl

@@ -1,4 +1,4 @@
--- If a tree satisfies one record of demands, it satisfies every record of demands that the first one implies.
+-- If a typed tree satisfies one set of requirements on its nodes, it satisfies every set of requirements that the first set implies.
 use Rattle.std.proofs.Common.{ℕ, List, [], ◌∷◌, Option, Some, None}
 use Rattle.cyc_types.specs.declared.typed.PointerOperator.{PointerOperator}
 use Rattle.cyc_types.specs.TypedTrees.{Expression, Number, Load, AddressOfCell, NumberOfElements, FreeUnique, FreeKey, Call, Unary, Binary, Assign, Store, New, Dereference, Target, Member, Element, Placement, OnHeap, AsUnique, ByHandle}
@@ -6,7 +6,7 @@ use Rattle.cyc_types.specs.TypedTrees.{Initial, Plain, Fields, Array, Converted,
 use Rattle.cyc_types.specs.TypedTrees.{Statement, Block, Evaluate, Swap, If, While, Return, Throw, Try, Items, NoItems, MoreItems, Execute, Declare, DeclareRegion, OpenRegion, DeclareAlias, DeclareKey, Clauses, NoClauses, Default, Case, Function}
 use Rattle.cyc_types.specs.Demands.{Demands, Meets, CellMeets, PlacementMeets, ObjectMeets, ConvertedMeets, ArgumentsMeet, OperationsMeet, SideMeets, ValueMeets, ThrownMeets, StatementMeets, ItemsMeet, ClausesMeet, FunctionsMeet}
 
--- says that one record of demands on tree nodes implies another
+-- says that one set of requirements on the nodes of typed trees implies another such set
 pub record Implies (d e : Demands) : Type 0 where
   pub number : (n : ℕ) → d.number n → e.number n
   pub fields : (cs : Arguments) → d.fields cs → e.fields cs

@@ -22,7 +22,7 @@ use Rattle.cyc_types.specs.typing.Programs.{check_of}
 abbrev at : ℕ → ℕ → Place
 at l c = record { line = l; column = c }
 
--- the identifier texts of the example programs, in the order of their numbers
+-- the texts of the identifiers in the example programs; an identifier's number is the index of its text in this list
 abbrev texts : List (List ℕ)
 texts = codes "main" ∷ codes "S" ∷ codes "p" ∷ codes "x" ∷ codes "y" ∷ codes "f" ∷ codes "a" ∷ codes "q" ∷ codes "L" ∷ codes "r" ∷ codes "g" ∷ codes "h" ∷ codes "H" ∷ codes "Div_zero" ∷ codes "A" ∷ codes "v" ∷ codes "n" ∷ codes "b" ∷ codes "s" ∷ codes "k" ∷ codes "U" ∷ codes "P" ∷ codes "i" ∷ codes "u" ∷ codes "id" ∷ codes "d" ∷ codes "keep" ∷ codes "B" ∷ codes "get" ∷ codes "is" ∷ []
 

@@ -62,7 +62,7 @@ pub aligned : (g : Scope) (es : Expressions) (as' : List typed.Expression) → D
 aligned g NoExpressions as' (u, eq) = subst (Aligned NoExpressions) (sym eq) tt
 aligned g (MoreExpressions e es) as' (a, h, (bs, hs, (u, eq))) = subst (Aligned (MoreExpressions e es)) (sym eq) (aligned g es bs hs)
 
--- if looking up a field by its name finds type t, looking up the field's number also finds type t
+-- if looking up a struct's field by its name finds type t, looking up the field's index also finds type t
 field_there : (fs : List Field) (x : ℕ) (t : Ty) → field_among fs x ≡ Some t → slice_get (map (λ (f : Field). f.of_type) fs) (field_number fs x) ≡ Some t
 field_there [] x t h = absurd (cc)
 field_there (f ∷ fs) x t h = go (nat_eq f.name x) h (field_there fs x t)
@@ -77,7 +77,7 @@ in_scope_of Ordinary v vs = record { number = v.number; of_type = v.of_type; reg
 in_scope_of OfRegion v vs = record { number = v.number; of_type = v.of_type; region = v.region; is_place = false } ∷ vs
 in_scope_of OfLoop v vs = vs
 
--- the locals in scope, without the counter variables of array `for` initializers
+-- the locals in scope, without the loop counters of array `for` initializers
 abbrev pub in_scope : List LocalVariable → List LocalInScope
 in_scope [] = []
 in_scope (v ∷ vs) = in_scope_of v.sort v (in_scope vs)
@@ -121,7 +121,8 @@ module _ (p : typed.Program) (h : typed.Function) where
   IsMeantCallee callees.Getchar s = s ≡ signature_of_ints []
   IsMeantCallee (callees.Function n) s = slice_get (map signature_of p.functions) n ≡ Some s
 
-  -- says that the meaning of a name is correct, given the locals in scope and the number of enclosing array `for`s
+  -- says that the variable, loop counter or function that a name denotes exists, given the locals in scope and the
+  -- number of enclosing array `for`s
   abbrev pub IsMeant : List LocalInScope → ℕ → Meaning → Type 0
   IsMeant vs n Unknown = Unit {0}
   IsMeant vs n (scopes.Variable (typed.Local q m) t home) = ((r : ℕ) × HasPlace vs m t r × (home ≡ regions.Variable r)) × (slice_get all_variables m ≡ Some t) × IsKeyOfVariable t
@@ -153,7 +154,8 @@ module _ (p : typed.Program) (h : typed.Function) where
   abbrev pub IsExceptionOf : ℕ → Bool → Type 0
   IsExceptionOf n has = ((1 ≤ n) × (n < 5) × (has ≡ false)) ⊎ ((m : ℕ) × (n ≡ 5 + m) × (slice_get p.exceptions m ≡ Some has))
 
-  -- says that a scope of the rules agrees with the typed program and function
+  -- says that the names, structs, fields, exceptions and result type in a scope of the typing rules
+  -- agree with those of the typed program and function
   pub record Fits (g : Scope) : Type 0 where
     pub locals : AreKnown g.counters g.locals
     pub program : (x : ℕ) → IsMeantDeclared (meaning_in g.program x)
@@ -254,7 +256,7 @@ module _ (p : typed.Program) (h : typed.Function) where
     abbrev pub IsWell : typed.Expression → Type 0
     IsWell a = WellTyped here a (type_of a)
 
-    -- says that an expression is well-typed or is a peek (a read of a unique pointer that leaves its local full)
+    -- says that an expression is well-typed, or only reads a unique pointer that stays in its local (a peek)
     abbrev pub IsSeen : typed.Expression → ValueType → Type 0
     IsSeen a v = WellTyped here a v ⊎ IsPeek here a v
 
@@ -278,7 +280,7 @@ module _ (p : typed.Program) (h : typed.Function) where
     pub int_served : (a : typed.Expression) → IsWell a → IsWell (as_int a)
     int_served a w = by_char a (is_char (type_of a)) refl w
 
-    -- an int conversion leaves a peek of a unique pointer unchanged
+    -- conversion to int does not change an expression that reads a unique pointer and leaves the pointer in its local
     peek_served : (q : Place) (n : ℕ) (t : Ty) → IsVariable here (typed.Local q n) t → is_unique t ≡ true → IsSeen (as_int (typed.Peek q n t)) (type_of (as_int (typed.Peek q n t)))
     peek_served q n (Pointer k t r) v u = inr (v, u, refl)
     peek_served q n t v u = absurd (cc)
@@ -357,7 +359,7 @@ module _ (p : typed.Program) (h : typed.Function) where
     seen_well (Bracketed q e) walked a w d = seen_well e walked a w d
     seen_well e walked a w d = inl (w a d)
 
-    -- an operand that is well-typed or a peek, and whose type is not a unique pointer, is well-typed
+    -- an operand that is well-typed or leaves a unique pointer in its local, and whose type is not a unique pointer, is well-typed
     plain_of : (a : typed.Expression) (v : ValueType) → IsSeen a v → is_value is_unique v ≡ false → WellTyped here a v
     plain_of a v (inl w) n = w
     plain_of (typed.Peek q m t) v (inr (k, u, e)) n = absurd (true≢false (sym u ∙ ap (is_value is_unique) (sym e) ∙ n))
@@ -379,7 +381,7 @@ module _ (p : typed.Program) (h : typed.Function) where
     place_well (Counter n) q o x k d = absurd d
     place_well (Routine f s) q o x k d = absurd d
 
-    -- says that a memory cell reached by an expression is well-typed if the demands of its access are satisfied
+    -- says that a memory cell reached by an expression is well-typed if the typing requirements on this access are satisfied
     abbrev IsReached : Reached → Type 0
     IsReached w = AllKept w.asked → IsCell here w.cell (type_of_place w.cell) w.region
 
@@ -453,7 +455,8 @@ module _ (p : typed.Program) (h : typed.Function) where
 
     -- ---- operators
 
-    -- says that an operand is well-typed; if the operator only peeks at the operand, the operand may be a peek
+    -- says that an operand is well-typed; if the operator only tests or compares it, it may also be a unique
+    -- pointer that stays in its local
     abbrev IsOperand : Bool → typed.Expression → Type 0
     IsOperand true a = IsSeen a (type_of a)
     IsOperand false a = IsWell a

@@ -1,4 +1,4 @@
--- The rules of expressions and lvalues derive only types whose regions are known in the scope.
+-- The rules of expressions and lvalues derive only types whose regions are built in or declared in the scope.
 use Rattle.std.proofs.Common.{◌≡◌, ℕ, zero, suc, ◌<◌, ◌≤◌, Bool, true, false, cond, nat_eq, List, [], ◌∷◌, ◌++◌, Option, Some, None, map, length, replicate, slice_get, refl, sym, ap, subst, ◌∙◌, arith}
 use Rattle.std.specs.Prelude.{unwrap_or, option_map, slice_index_or}
 use Rattle.std.proofs.lemmas.Bool.{and_parts, eqb-true, true≢false}
@@ -51,7 +51,7 @@ heaps_known : (n k : ℕ) → AllOf (IsKnown n) (replicate k regions.Heap)
 heaps_known n zero = tt
 heaps_known n (suc k) = (tt, heaps_known n k)
 
--- if all region arguments are known, substituting one of them for a region variable gives a known region
+-- if all region arguments are built in or declared, substituting one of them for a region variable gives a built-in or declared region
 known_at : (n : ℕ) (rs : List Region) (i : ℕ) (d : Region) → AllOf (IsKnown n) rs → i < length rs → IsKnown n (slice_index_or rs i d)
 known_at n [] i d k l = absurd (omega arith)
 known_at n (r ∷ rs) zero d (k, ks) l = k
@@ -194,7 +194,7 @@ abbrev pub IsFormedResult : List StructName → ℕ → Option Ty → Type 0
 IsFormedResult structs n None = Unit {0}
 IsFormedResult structs n (Some t) = IsFormed structs n t
 
--- says that the meaning of a name is well-formed: the types of a variable or function mention only known regions
+-- says that the meaning of a name is well-formed: the types of a variable or function mention only regions of the scope
 abbrev pub IsFormedMeaning : List StructName → ℕ → Meaning → Type 0
 IsFormedMeaning structs n Unknown = Unit {0}
 IsFormedMeaning structs n (scopes.Variable l t home) = IsFormed structs n t × IsKnown n home
@@ -294,7 +294,7 @@ module _ (g : Scope) (formed : IsFormedScope g) where
   abbrev pub IsFormedFound : Found → Type 0
   IsFormedFound x = IsFormed g.structs g.next_region (type_of_side x.side) × IsKnown g.next_region x.region
 
-  -- says that a memory cell's type and region are well-formed if the demands of its access are satisfied
+  -- says that a memory cell's type and region are well-formed if the typing requirements on the access to the cell are satisfied
   abbrev IsFormedReached : Reached → Type 0
   IsFormedReached w = AllKept w.asked → IsFormed g.structs g.next_region (type_of_place w.cell) × IsKnown g.next_region w.region
 
@@ -393,7 +393,7 @@ module _ (g : Scope) (formed : IsFormedScope g) where
   AreFormedHere [] = Unit {0}
   AreFormedHere (a ∷ as') = IsFormedHere a × AreFormedHere as'
 
-  -- says that every region that a call assigns to a region variable of the callee's signature is known
+  -- says that every region that a call assigns to a region variable of the callee's signature is built in or declared
   abbrev AreKnownPairs : List (Region × Region) → Type 0
   AreKnownPairs [] = Unit {0}
   AreKnownPairs (p ∷ ps) = IsKnown g.next_region p.1 × AreKnownPairs ps

@@ -126,7 +126,7 @@ initial_formed g formed w x (Some e) c kept (a, ka, (k, eq)) =
     subst (λ (z : Ty × Option Converted). IsFormed g.structs g.next_region z.0) (sym eq)
     (written_formed g.structs g.names g.next_region formed.names None (left_out_of (type_of a)) w (left_out_known g.structs g.next_region (type_of a) (formed_well g formed e a ka)) kept)
 
--- an item that opens a dynamic region by its key opens exactly the region that the source names
+-- a declaration that opens a dynamic region by its key opens exactly the region that the source names
 opened_formed : (g : Scope) (formed : IsFormedScope g) (r h : Named) (m : Meaning) (q : Place) (j : typed.Item) → Derives (opened g r h m q) j → (n k : ℕ) × (j ≡ typed.OpenRegion n g.next_local q k)
 opened_formed g formed r h Unknown q j d = absurd d
 opened_formed g formed r h (scopes.Variable l t home) q j (kept, eq) = (_, _, eq)
@@ -237,7 +237,7 @@ parameter_regions_known (q ∷ rs) n names known x r e = go (nat_eq q.name x) e 
     go true f rest = subst (λ (o : Option RegionCode). IsKnown (n + suc (length rs)) (unwrap_or o regions.Heap)) f (let l : n < n + suc (length rs) = omega arith in l)
     go false f rest = rest f
 
--- a written type with a pointer mark is not a key type
+-- a type written with a pointer sign (`*`, `@` or `?`) is not a key type
 no_key_after : (names : List RegionName) (d : RegionCode) (t : Ty) (m : Mark) (ms : List Mark) → is_key (pointers_written names d t (m ∷ ms)) ≡ false
 no_key_after names d t m [] = refl
 no_key_after names d t m (n ∷ ms) = no_key_after names d (types.Pointer m.kind t (region_or names (left_out_at d (n ∷ ms)) m.region)) n ms

@@ -26,7 +26,8 @@ use Rattle.cyc_types.proofs.typing.ExpressionLemmas.{IsKeyOfVariable}
 abbrev pub IsBase : List RegionName → Type 0
 IsBase names = (x : ℕ) → (region_among names x ≡ None) ⊎ ((region_among names x ≡ Some Heap) ⊎ (region_among names x ≡ Some Unique))
 
--- says that a name denotes the same region as before, or was undeclared and now denotes a region variable below `next`
+-- says that a name denotes the same region before and after some declarations, or was undeclared and now denotes a
+-- region variable below `next`
 abbrev IsOld : ℕ → (before now : Option Region) → Type 0
 IsOld next before now = (now ≡ before) ⊎ ((m : ℕ) × (now ≡ Some (Variable m)) × (1 ≤ m) × (m < next) × (before ≡ None))
 

@@ -219,7 +219,7 @@ parameters_known p h (m ∷ ms) [] n vs same i keys known = absurd (omega arith)
 parameters_known p h (m ∷ ms) (t ∷ ts) n vs same i (key, keys) known =
     parameters_known p h ms ts (suc n) _ (omega arith) (λ a b u e at_a. i (suc a) b u (omega arith) at_a) keys ((i 0 n t (omega arith) refl, key), known)
 
--- says that the declarations known while function bodies are checked agree with the typed program
+-- says that the global names, structs, fields and exceptions known while function bodies are checked agree with those of the typed program
 record Agrees (p : typed.Program) (q : Program) : Type 0 where
   pub base : IsBase q.known.regions
   pub program : (h : typed.Function) (x : ℕ) → IsMeantDeclared p h (meaning_in q.declared x)
@@ -282,7 +282,7 @@ module _ (p : typed.Program) (q : Program) (agrees : Agrees p q) where
 
 -- ---- main
 
--- builds a function's signature from the parts of its parameter list: members, effect and constraints
+-- builds a function's signature from its written parameters, its effect and its outlives constraints
 abbrev of_parts : Known → Option WrittenType → List Member → Option (List Named) → List Constraint → Signature
 of_parts k r ms e cs = signature_of k r (record { list = Listed ms; effect = e; constraints = cs })
 

@@ -243,7 +243,7 @@ module _ (p : typed.Program) (h : typed.Function) where
       subst (λ (z : Ty × Option Converted). IsInitial (at p h g) z.1 z.0 × IsKeyOfVariable z.0) (sym eq)
       (converted_well p h g fits a (local_type g (type_of a) w) (place_of e) (well p h g fits e a ka) kept, formed_key g.structs g.names _ w formed)
 
-  -- says that the item `open` of a key opens the region of that key
+  -- says that a declaration that opens a dynamic region by a key opens the region of that key
   abbrev IsOpened : Scope → Named → typed.Item → Place → Type 0
   IsOpened g r j q = (n k : ℕ) × (j ≡ typed.OpenRegion n g.next_local q k) × IsVariable (at p h g) (typed.Local q k) (Key (regions.Variable n)) × (formation.region_of g.names r ≡ regions.Variable n)
 

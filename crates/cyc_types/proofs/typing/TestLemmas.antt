@@ -1,4 +1,4 @@
--- Facts that the boolean tests on types decide.
+-- Lemmas about the facts that the boolean tests on types decide, such as the test for a unique pointer.
 use Rattle.std.proofs.Common.{◌≡◌, ◌≢◌, nat_eq, true, false, not, ◌&&◌, ◌||◌, List, [], ◌∷◌, ◌++◌, refl, sym, ap, subst, ◌∙◌}
 use Rattle.std.proofs.lemmas.Bool.{and_parts, eqb-true, true≢false, not-true}
 use Rattle.cyc_syntax.specs.declared.tree.PointerKind.{PointerKind}

@@ -1,5 +1,5 @@
--- The typed program of a source text satisfies the demands of `specs/Texts`, and its constants are words. By the typing rules, a typed
--- program satisfies these demands if its syntax tree satisfies the grammar and the limits.
+-- The typed program of a source text satisfies the requirements of `specs/Texts`, and its constants are 32-bit words. By the typing
+-- rules, a typed program satisfies the requirements of `specs/Texts` if its syntax tree satisfies the grammar and the limits.
 use Rattle.std.proofs.Common.{◌≡◌, ℕ, zero, suc, ◌+◌, ◌≤◌, ◌<◌, Bool, true, false, not, nat_eq, ◌&&◌, ◌||◌, cond, List, [], ◌∷◌, ◌++◌, map, Option, Some, None, length, slice_get, refl, sym, ap, subst, ◌∙◌, arith, length-append}
 use Rattle.std.specs.Prelude.{◌^◌, unwrap_or, if◌then◌else◌}
 use Rattle.std.specs.List.{AllByRecursion}
@@ -51,7 +51,7 @@ use Rattle.cyc_types.proofs.typing.DemandLemmas.{functions_meet}
 
 -- ---- the demands
 
--- The demands that typed trees of source texts satisfy: those of `specs/Texts`, and that each constant is a word.
+-- The requirements that typed trees of source texts satisfy: those of `specs/Texts`, and that each constant is a 32-bit word.
 abbrev pub tree_demands : Demands
 tree_demands = record {
   number = IsWord;
@@ -65,7 +65,7 @@ tree_demands = record {
 abbrev AreFewFields : List (List Field) → Type 0
 AreFewFields fss = AllByRecursion (λ (fs : List Field). length fs ≤ max_items) fss
 
--- says that structs have few fields, and that the numbers of exceptions are words
+-- says that each struct in scope has few fields, and that the number of each exception fits a 32-bit word
 abbrev KnowsFew : Scope → Type 0
 KnowsFew g = AreFewFields g.fields × (suc (length g.exceptions) < 2 ^ 32)
 
@@ -87,7 +87,7 @@ tag_word g x few = omega (arith, number_few g.exceptions x, few.1)
 
 -- ---- from the rules: names and places
 
--- says that each expression that a rule derives satisfies the demands on trees of source texts
+-- says that each expression that a typing rule derives satisfies the requirements on typed trees of source texts
 abbrev GivesText : Rule typed.Expression → Type 0
 GivesText r = (a : typed.Expression) → Derives r a → Meets tree_demands a
 
@@ -226,7 +226,7 @@ alone_after g p k left q a below o os put cs two w d h = tt
 
 -- ---- operators
 
--- says that adding an operation in front of a chain keeps the demands on trees of texts if the operand and the chain satisfy them
+-- says that an operation in front of a chain satisfies the requirements on trees of source texts if its operand and the chain satisfy them
 abbrev IsTextBefore : typed.Expression → Joined → Type 0
 IsTextBefore a j = (os : typed.Operations) → Meets tree_demands a → OperationsMeet tree_demands os → OperationsMeet tree_demands (j.0 os)
 
@@ -295,7 +295,7 @@ placement_text g p (UniqueRegion q) walked w h d = subst (λ (z : Placed). Place
 placement_text g p (Bracketed q e) walked w h d = placement_text g p e walked w h d
 placement_text g p e walked w h (a, ka, (u, eq)) = subst (λ (z : Placed). PlacementMeets tree_demands z.placement) (sym eq) (h a ka)
 
--- says that the initial contents of a new object satisfy the demands on trees of texts
+-- says that the initial values of a new object satisfy the requirements on typed trees of source texts
 abbrev IsTextObject : Made → Type 0
 IsTextObject m = AllKept m.asked → ObjectMeets tree_demands m.initial
 
@@ -439,7 +439,7 @@ module _ (g : Scope) (few : KnowsFew g) where
   condition_text : (e : Expression) → IsExpression assignment_level e → IsOfWordsWritten e → GivesText (rule_condition g e)
   condition_text e w words a (b, h, (k, eq)) = subst (Meets tree_demands) (sym eq) (served_text b (seen_text g e (rule g e) (λ c d. expression_text g few assignment_level e w words c d) b h))
 
--- declaring the local that receives a caught exception's int keeps the bounds on field counts and exception numbers
+-- declaring the local that receives a caught exception's int keeps the scope's bounds on field counts and exception numbers
 caught_few : (v : Option Named) (g : Scope) → KnowsFew g → KnowsFew (with_caught v g)
 caught_few None g few = few
 caught_few (Some x) g few = few
@@ -494,7 +494,7 @@ mutual
 
 -- ---- programs
 
--- says that the program's declarations have few fields per struct, and that exception numbers are words
+-- says that each struct of the program has few fields, and that the number of each exception fits a 32-bit word
 abbrev ProgramKnowsFew : Program → Type 0
 ProgramKnowsFew p = AreFewFields p.fields × (suc (length p.exceptions) < 2 ^ 32)
 
@@ -512,7 +512,7 @@ within_append : (xs ys : Yield) → AllByRecursion IsWithin (xs ++ ys) → AllBy
 within_append [] ys h = (tt, h)
 within_append (x ∷ xs) ys (w, h) = let (l, r) = within_append xs ys h in ((w, l), r)
 
--- if the leaves of a list item are within the limits, the item's number is at most the limit on list items
+-- if the leaf symbols of a list element are within the language's limits, the element's index is at most the limit on list lengths
 item_few : (i : ℕ) (leaves more : Yield) → 1 ≤ length leaves → AllByRecursion IsWithin (yields.item_number i leaves ++ more) → i ≤ max_items
 item_few i [] more some w = absurd (omega (arith, some))
 item_few i (leaf ∷ leaves) more some (w, ws) = w.item
@@ -557,7 +557,8 @@ exceptions_few (Exceptions cs ∷ tree) =
 exceptions_few (Global t x v ∷ tree) = omega (arith, exceptions_few tree)
 exceptions_few (Function r x ps b ∷ tree) = omega (arith, exceptions_few tree)
 
--- The typed tree of a short enough text within the limits, whose constants are words, satisfies all demands.
+-- The typed tree of a short enough text within the limits, whose constants are 32-bit words, satisfies all
+-- requirements on typed trees of source texts.
 pub program_meets : (texts : List (List ℕ)) (symbols : List Symbol) (tree : List Declaration) (p : typed.Program)
     → HasTree symbols tree → IsWithinLimits tree → AreOfWordsSymbols symbols → length symbols ≤ max_tokens → IsTypedProgram texts tree p → FunctionsMeet tree_demands p.functions
 program_meets texts symbols tree p has within words short (u, heads, (v, main, (fs, functions, (w, eq)))) =
@@ -567,6 +568,6 @@ program_meets texts symbols tree p has within words short (u, heads, (v, main, (
     let few : ProgramKnowsFew known = (fields_few known.known tree within, omega (arith, many, exceptions_few tree, weight, short)) in
     subst (λ (z : typed.Program). FunctionsMeet tree_demands z.functions) (sym eq) (functions_text known few tree has.formed (tree_constants symbols tree has words) fs functions)
 
--- a program whose functions satisfy the demands `tree_demands` satisfies the demands of `specs/Texts`
+-- a program whose functions satisfy the requirements `tree_demands` satisfies the requirements of `specs/Texts`
 pub of_text : (p : typed.Program) → FunctionsMeet tree_demands p.functions → IsOfTextProgram p
 of_text p = functions_meet tree_demands text_demands (record { number = λ n w. tt; fields = λ cs w. w; pointer = λ o os w. w; exception = λ n w. w }) p.functions

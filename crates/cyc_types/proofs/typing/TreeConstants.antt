@@ -1,4 +1,4 @@
--- The constants of an abstract syntax tree are words if the constants of the symbols that spell the tree are words.
+-- The constants of an abstract syntax tree are 32-bit words if the constants of the symbols that spell the tree are 32-bit words.
 use Rattle.std.proofs.Common.{ℕ, suc, List, [], ◌∷◌, ◌++◌, Option, Some, None, subst}
 use Rattle.cyc_words.specs.Word.{IsWord}
 use Rattle.cyc_syntax.specs.declared.tokens.Keyword.TheVariants as words

@@ -1,8 +1,8 @@
 -- Each flow rule of the whole language is a value (`Rules`). A flow rule computes the state of each local after a typed tree, or the code
--- and source position of the first fault. The file `Expressions` covers expressions. A flow rule takes the state before the tree, and the
--- list of locals with a pending peek. A local with a pending peek has been read, and must not change while the remaining operands are
--- evaluated. (Two rules are Cyclone's, Grossman et al. 2002: a variable is used only while it holds a value, and a use consumes a unique
--- pointer. Locks, peeks, codes and positions are this project's own choice.)
+-- and source position of the first fault. The file `Expressions` covers expressions. A flow rule takes the state of the locals before the
+-- tree, and the list of locals with a pending peek. A local with a pending peek has been read, and must not change while the remaining
+-- operands are evaluated. (Two rules are Cyclone's, Grossman et al. 2002: a variable is used only while it holds a value, and a use
+-- consumes a unique pointer. Locks, peeks, codes and positions are this project's own choice.)
 use Rattle.std.specs.Prelude.{ℕ, Bool, true, not, nat_eq, ◌&&◌, List, [], ◌∷◌, ◌++◌, Option, Some, None}
 use Rattle.std.specs.List.{list_any}
 use Rattle.cyc_words.specs.declared.fault.Code.TheVariants as codes
@@ -14,24 +14,25 @@ use Rattle.cyc_types.specs.flow.States.{State, Unreached, Reached, Vacant, Full,
 
 -- ---- variables
 
--- the demands on a use of a local: the local holds a value, and this value is not lent out
+-- the requirements on a use of a local: the local holds a value, and no enclosing block has borrowed this value
 abbrev pub full_demanded : Place → ℕ → State → List Demand
 full_demanded p n f = demand codes.EmptyVariable p (not (is_vacant (fullness f n))) ∷ demand codes.LockedVariable p (not (is_locked (fullness f n))) ∷ []
 
--- returns true if no peek of the local is pending
+-- returns true if no unfinished operation has read the local's unique pointer and left it in the local
 abbrev pub is_free : (waiting : List ℕ) → ℕ → State → Bool
 is_free q n Unreached = true
 is_free q n (Reached as') = not (list_any (λ m. nat_eq m n) q)
 
--- the demands on a use of a local, other than a peek
+-- the requirements on a use of a local, other than a read that leaves a unique pointer in the local
 abbrev pub use_demanded : (waiting : List ℕ) → Place → ℕ → State → List Demand
 use_demanded q p n f = full_demanded p n f ++ demand codes.LockedVariable p (is_free q n f) ∷ []
 
--- the demands on an assignment to a local: its value is not lent out, and no peek of the local is pending
+-- the requirements on an assignment to a local: no block has borrowed its value, and no unfinished
+-- operation has read its unique pointer early
 abbrev pub store_demanded : (waiting : List ℕ) → Place → ℕ → State → List Demand
 store_demanded q p n f = demand codes.LockedVariable p (not (is_locked (fullness f n)) && is_free q n f) ∷ []
 
--- the flow rule for a peek of a local; the local keeps its value
+-- the flow rule for reading a unique pointer that stays in its local (a peek); the local keeps its value
 abbrev pub looked : Place → ℕ → State → Rule State
 looked p n f = Own (full_demanded p n f) f
 
@@ -49,24 +50,24 @@ abbrev pub stored : (waiting : List ℕ) → Lvalue → State → Rule State
 stored q (Local p n) f = Own (store_demanded q p n f) (with_fullness Full f n)
 stored q (Global n) f = gives f
 
--- the list of pending peeks, extended by a local if one is given
+-- the list of locals whose unique pointer an unfinished operation has read early, extended by a local if one is given
 abbrev pub and_peeked : Option ℕ → List ℕ → List ℕ
 and_peeked None q = q
 and_peeked (Some n) q = q ++ (n ∷ [])
 
--- the local that an operand peeks at, or `None`
+-- the local whose unique pointer an operand reads without emptying the local, or `None`
 abbrev pub peek_of : Expression → Option ℕ
 peek_of (Peek p n t) = Some n
 peek_of a = None
 
--- the local at which an access to a memory cell peeks for its pointer, or `None`
+-- the local from which an access to a memory cell reads its unique pointer without emptying the local, or `None`
 abbrev pub peek_after : Dereference → Option ℕ
 peek_after (Target k a t) = peek_of a
 peek_after (Member k a s m t) = peek_of a
 peek_after (Element a i t) = peek_of a
 
--- The demand that no local is emptier at the end of a loop's body than at the loop's head. The source position is that of the
--- loop's keyword.
+-- The requirement that no local is emptier at the end of a loop's body than at the loop's head. The source position of this
+-- requirement is that of the loop's keyword.
 abbrev pub head_demanded : Place → (now head : State) → List Demand
 head_demanded p f head = demand codes.LoopEmptiesVariable p (is_at_least f head) ∷ []
 

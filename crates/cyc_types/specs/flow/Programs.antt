@@ -18,11 +18,11 @@ each_is a (t ∷ ts) = a ∷ each_is a ts
 abbrev pub start_of : Function → State
 start_of h = Reached (each_is Full h.parameters ++ each_is Vacant h.locals)
 
--- the surroundings of a function's body: no enclosing loop and no locked locals
+-- the surroundings of a function's body: no enclosing loop and no locals whose values are borrowed
 abbrev pub in_function : Around
 in_function = record { loop = None; locks = [] }
 
--- the demand that execution does not reach the end of a function with a result; its position is that of the closing brace
+-- the requirement that execution does not reach the end of a function with a result; its source position is that of the closing brace
 abbrev pub end_demanded : Option Ty → Place → State → List Demand
 end_demanded None p f = []
 end_demanded (Some t) p f = demand codes.MissingReturn p (not (is_reached f)) ∷ []

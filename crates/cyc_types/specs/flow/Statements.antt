@@ -16,13 +16,13 @@ pub record Loop : Type 0 where
   pub place : Place
   pub head : State
 
--- The surroundings of a statement: the innermost enclosing loop, if any, and the locals that items have locked since the body of that loop
--- began.
+-- The surroundings of a statement: the innermost enclosing loop, if any, and the locals whose values declarations have borrowed since the
+-- body of that loop began.
 pub record Around : Type 0 where
   pub loop : Option Loop
   pub locks : List ℕ
 
--- the state at a program point, and the meet of the states at all earlier `break`s of the enclosing loop
+-- the state of the locals at a program point, and the meet of their states at all earlier `break`s of the enclosing loop
 pub record Known : Type 0 where
   pub now : State
   pub breaks : State
@@ -40,17 +40,17 @@ abbrev pub rule_thrown : Option Expression → State → Rule State
 rule_thrown None f = gives f
 rule_thrown (Some a) f = rule [] a f
 
--- the flow rule that evaluates one side of a swap as an lvalue
+-- the flow rule that evaluates the left or right operand of a swap as an lvalue
 abbrev pub rule_side : (waiting : List ℕ) → Side → State → Rule State
 rule_side q (VariableSide l t) f = gives f
 rule_side q (CellSide d) f = rule_place q d f
 
--- the local at which the left side of a swap peeks for its pointer, or `None`
+-- the local from which the left operand of a swap reads its unique pointer without emptying the local, or `None`
 abbrev pub peeked_side : Side → Option ℕ
 peeked_side (VariableSide l t) = None
 peeked_side (CellSide d) = peek_after d
 
--- the demands on a side of a swap that is a variable; the variable is used after both sides have been evaluated
+-- the requirements on a swap operand that is a variable; the variable is used after both operands have been evaluated
 abbrev pub side_demanded : (waiting : List ℕ) → Side → State → List Demand
 side_demanded q (VariableSide (Local p n) t) f = use_demanded q p n f
 side_demanded q (VariableSide (Global n) t) f = []
@@ -66,7 +66,7 @@ rule_swapped x y f = Part (rule_side [] x f) (λ g. Part (rule_side (and_peeked 
 abbrev pub in_loop : Place → State → Around
 in_loop p head = record { loop = Some (record { place = p; head = head }); locks = [] }
 
--- the state after leaving a loop's body: the locals that the body's items locked hold their values again
+-- the state of the locals after leaving a loop's body: locals whose values the body's declarations borrowed hold these values again
 abbrev pub left_loop : Around → State → State
 left_loop c f = with_each Full c.locks f
 
@@ -80,7 +80,7 @@ after_loop p head exit breaks k = Own (head_demanded p k.now head) (record { now
 
 -- ---- items
 
--- the local that a block item locks to the end of its block, or an empty list
+-- the local whose value a declaration borrows to the end of its block, as a list of one element, or an empty list
 abbrev pub locked_by : Item → List ℕ
 locked_by (Execute s) = []
 locked_by (Declare n t v) = []
@@ -93,7 +93,7 @@ abbrev pub locks_of : Items → List ℕ
 locks_of NoItems = []
 locks_of (MoreItems j js) = locked_by j ++ locks_of js
 
--- the surroundings of the item that follows a given item
+-- the enclosing loop and the borrowed locals for the declaration or statement that follows a given one
 abbrev pub following_item : Item → Around → Around
 following_item j c = record c { locks = c.locks ++ locked_by j }
 
@@ -102,17 +102,18 @@ abbrev pub rule_declared : ℕ → Option Converted → State → Rule State
 rule_declared n None f = gives (with_fullness Vacant f n)
 rule_declared n (Some c) f = Part (rule_converted [] c f) (λ g. gives (with_fullness Full g n))
 
--- the flow rule for an item that declares one local and locks another; the position is that of the locked local's name
+-- the flow rule for a declaration of one local that borrows another's value; the source position is that of the borrowed local's name
 abbrev pub rule_locked : ℕ → Place → (locked : ℕ) → State → Rule State
 rule_locked n p m f = Own (full_demanded p m f) (with_fullness Full (with_fullness Locked f m) n)
 
--- the state at the end of a block: the locals that its items locked hold their values again
+-- the state of the locals at the end of a block: locals whose values the block's declarations borrowed hold these values again
 abbrev pub at_end : Items → Known → Known
 at_end js k = at (with_each Full (locks_of js) k.now) k
 
 -- ---- clauses
 
--- the state at the start of a catch clause, from the state at its `try`: a local that the body touches counts as empty
+-- the state at the start of a catch clause, from the state at its `try`: a local that the body consumes, assigns or
+-- lends out counts as empty
 abbrev pub caught : State → Statement → State
 caught f s = emptied (touched_statement s []) f
 
@@ -120,7 +121,7 @@ abbrev pub with_caught : Option ℕ → State → State
 with_caught None f = f
 with_caught (Some n) f = with_fullness Full f n
 
--- the state after a `try` with one more catch clause: the meet of the state before and the state at the end of the clause
+-- the state after a `try` with one more catch clause: the meet of the state without this clause and the state at its end
 abbrev pub or_clause : State → Items → Known → Known
 or_clause before js k = at (meet before (at_end js k).now) k
 

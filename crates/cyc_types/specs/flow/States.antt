@@ -1,13 +1,14 @@
--- The state of each local at a program point of a typed tree: full, lent out or empty. (The three states are this project's own choice.)
+-- The state of each local at a program point of a typed tree: full, borrowed by a block, or empty. (The three states are this project's
+-- own choice.)
 use Rattle.std.specs.Prelude.{ℕ, Bool, true, false, ◌&&◌, if◌then◌else◌, List, [], ◌∷◌, get_or, slice_set}
 
--- The fullness of a local, in rising order: the local may be empty, holds a value that is lent out, or holds a value.
+-- The state of a local, in rising order: the local may be empty, holds a value that a block has borrowed, or holds a free value.
 pub data Fullness : Type 0 where
   Vacant : Fullness
   Locked : Fullness
   Full : Fullness
 
--- the state at a program point: unreachable, or the fullness of each local, indexed by its number
+-- the state at a program point: unreachable, or the fullness (full, borrowed or perhaps empty) of each local, indexed by its number
 pub data State : Type 0 where
   Unreached : State
   Reached : List Fullness → State
@@ -24,7 +25,7 @@ lower_each [] bs = []
 lower_each (a ∷ as') [] = []
 lower_each (a ∷ as') (b ∷ bs) = lower a b ∷ lower_each as' bs
 
--- the meet of two states at a join of branches: for each local, the lower of its two fullnesses
+-- the meet of two states of the locals at a join of branches: for each local, the lower of its two fullnesses
 abbrev pub meet : State → State → State
 meet Unreached g = g
 meet (Reached as') Unreached = Reached as'
@@ -65,7 +66,7 @@ abbrev pub with_fullness : Fullness → State → ℕ → State
 with_fullness a Unreached n = Unreached
 with_fullness a (Reached as') n = Reached (slice_set as' n a)
 
--- returns the state with the given fullness for each local in the list
+-- returns the state in which each local in the list has the given fullness (full, borrowed or perhaps empty)
 abbrev pub with_each : Fullness → List ℕ → State → State
 with_each a [] f = f
 with_each a (n ∷ ns) f = with_each a ns (with_fullness a f n)
@@ -78,7 +79,7 @@ abbrev pub is_locked : Fullness → Bool
 is_locked Locked = true
 is_locked a = false
 
--- returns the state in which each local in the list is empty, except locked locals, which keep their fullness
+-- returns the state in which each local in the list is empty, except locals whose values are borrowed, which keep their fullness
 abbrev pub emptied : List ℕ → State → State
 emptied [] f = f
 emptied (n ∷ ns) f = emptied ns (if is_locked (fullness f n) then f else with_fullness Vacant f n)

@@ -1,7 +1,7 @@
--- The locals that a statement consumes, assigns or locks, executed or not, with repetitions. Only unique pointers and keys matter: no
--- other local is consumed or locked, and an assignment to any other local leaves it with a value. A local that is declared without a value
--- also counts as touched. Each function of this file takes the list of locals touched before and adds to it. The definition of touched
--- locals is this project's own choice.
+-- The locals that a statement consumes, assigns or lends out, executed or not, with repetitions. Only unique pointers and keys matter: no
+-- other local is consumed or lent out, and an assignment to any other local leaves it with a value. A local that is declared without a
+-- value also counts as touched. Each function of this file takes a list of touched locals and adds to it. The definition of touched locals
+-- is this project's own choice.
 use Rattle.std.specs.Prelude.{ℕ, List, [], ◌∷◌, ◌++◌, Option, Some, None}
 use Rattle.cyc_types.specs.Types.{ValueType, Void}
 use Rattle.cyc_types.specs.TypedTrees.{Lvalue, Local, Expression, Number, NullPointer, HeapRegion, Counter, Copy, Move, Peek, Load, AddressOf, AddressOfCell, NumberOfElements, FreeUnique, FreeKey, Call, Unary, Binary}
@@ -12,7 +12,7 @@ use Rattle.cyc_types.specs.TypedTrees.{Return, Break, Continue, Throw, Try, Item
 abbrev pub and_local : ℕ → List ℕ → List ℕ
 and_local n ns = ns ++ (n ∷ [])
 
--- an assignment touches its local if the assignment has no value, that is, if it assigns a unique pointer or a key
+-- an assignment counts its local as touched if it assigns a unique pointer or a key, that is, if the assignment has no value
 abbrev pub and_assigned : Lvalue → ValueType → List ℕ → List ℕ
 and_assigned (Local p n) Void ns = and_local n ns
 and_assigned l t ns = ns
@@ -80,7 +80,8 @@ abbrev pub touched_thrown : Option Expression → List ℕ → List ℕ
 touched_thrown None ns = ns
 touched_thrown (Some a) ns = touched a ns
 
--- a declaration without an initial value touches its local; with an initial value, it touches the locals that the value touches
+-- a declaration without an initial value counts its local as touched (perhaps emptied); a declaration with one counts the
+-- locals that the initial value touches
 abbrev pub touched_declaration : ℕ → Option Converted → List ℕ → List ℕ
 touched_declaration n None ns = and_local n ns
 touched_declaration n (Some c) ns = touched_converted c ns

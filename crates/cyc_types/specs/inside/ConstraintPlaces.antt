@@ -1,5 +1,5 @@
--- The position of the first constraint of each region; a table stores this position. The table of first constraints is this
--- project's own choice.
+-- A table stores, for each region, the index of the first outlives constraint that has it as longer-lived region. The table
+-- of first constraints is this project's own choice.
 use Rattle.std.specs.Prelude.{◌≡◌, ◌<◌, ℕ, List, get_or, length, Option, Some, None}
 use Rattle.cyc_types.specs.declared.region.Region.{Region}
 use Rattle.cyc_types.specs.declared.region.Region.TheVariants.{Heap, Unique, Variable}
@@ -13,7 +13,7 @@ place_of places Heap = places.heap
 place_of places Unique = places.unique
 place_of places (Variable n) = get_or places.variables.items n None
 
--- says that, among the last constraints, the region's first constraint is at the given index of the list of all constraints
+-- says that the first constraint of a region in the suffix `last` is at the given index of the whole constraint list, if any
 abbrev pub IsFirst : List Constraint → List Constraint → Region → Option ℕ → Type 0
 IsFirst all last a None = (b : Region) → table_leads last a b ≡ region_eq a b
 IsFirst all last a (Some k) =

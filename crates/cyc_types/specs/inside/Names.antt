@@ -9,7 +9,7 @@ use Rattle.cyc_types.specs.typing.Scopes.{RegionName, region_among}
 abbrev pub names_of : List Binding → List RegionName
 names_of bs = map (λ (b : Binding). record { name = b.name; region = b.region }) (reverse bs)
 
--- for each binding, the region that its name denoted before, if any
+-- for each binding of a region name, the region that the name denoted before this binding, if any
 abbrev pub hidden_by : List RegionName → List (Option Region)
 hidden_by [] = []
 hidden_by (n ∷ ns) = region_among ns n.name ∷ hidden_by ns

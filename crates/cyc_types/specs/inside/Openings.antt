@@ -1,6 +1,6 @@
--- The position of the oldest open scope of each region. If all scopes are in order, these positions decide the outlives relation without a
--- search. A scope is in order if its region is new whenever the live regions outlive the region. The use of scope positions is this
--- project's own choice.
+-- A table stores the index of the oldest open scope of each region. If all scopes are in order (`IsOrderly`), these indexes decide the
+-- outlives relation without a search. A scope is in order only if its region is new whenever the regions live at its opening outlive this
+-- region. The use of scope positions is this project's own choice.
 use Rattle.std.specs.Prelude.{◌≡◌, ◌⊎◌, ◌<◌, ◌≤◌, ℕ, true, false, List, get_or, take, reverse, length}
 use Rattle.cyc_types.specs.declared.region.Region.{Region}
 use Rattle.cyc_types.specs.declared.region.Region.TheVariants.{Heap, Unique, Variable}
@@ -24,19 +24,19 @@ scope_at scopes i = get_or scopes i (record { region = Heap; kind = Block })
 abbrev pub live_before : List Region → List Scope → ℕ → List Region
 live_before live scopes i = live_regions live (reverse (take i scopes))
 
--- says that the scope at the given index is in order, so that its region can be found without a search
+-- says that the table of opening indexes fits the scope at the given index, so that the scope's region is found without a search
 pub record IsOrderly (written : List (Region × Region)) (live : List Region) (openings : List ℕ) (scopes : List Scope) (i : ℕ) : Type 0 where
   -- the scope's region was live before any scope opened, or the table stores the index of the region's oldest scope
   pub found : (is_region_among (scope_at scopes i).region live ≡ true)
       ⊎ ((opening_of openings (scope_at scopes i).region ≤ i)
       × ((scope_at scopes (opening_of openings (scope_at scopes i).region)).region ≡ (scope_at scopes i).region))
-  -- if the live regions outlive the scope's region, no constraint makes the region outlive another, and the region was not live before
+  -- if live regions outlive the scope's region, it outlives no other region by a constraint, and it was not live before the scope opened
   pub alone : is_outlived_by_live (scope_at scopes i).kind ≡ true →
       (b : Region) → above written (scope_at scopes i).region b ≡ region_eq (scope_at scopes i).region b
   pub fresh : is_outlived_by_live (scope_at scopes i).kind ≡ true →
       is_region_among (scope_at scopes i).region (live_before live scopes i) ≡ false
 
--- says that the first `n` scopes are in order, as the table of opening positions requires
+-- says that the table of opening indexes fits each of the first `n` scopes
 pub record IsInOrder (written : List (Region × Region)) (live : List Region) (openings : List ℕ) (scopes : List Scope) (n : ℕ) : Type 0 where
   pub within : n ≤ length scopes
   pub each : (i : ℕ) → i < n → IsOrderly written live openings scopes i

@@ -1,4 +1,4 @@
--- The mathematical view of the code's signatures; the view omits the memory layout.
+-- The mathematical view of the compiler's data type for function signatures; the view omits the memory layout.
 use Rattle.std.specs.Prelude.{List, map, option_map}
 use Rattle.cyc_types.specs.declared.region.Region.{Region}
 use Rattle.cyc_types.specs.declared.signature.Signature.{Signature as SignatureCode}

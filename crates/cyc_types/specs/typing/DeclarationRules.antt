@@ -21,7 +21,7 @@ use Rattle.cyc_types.specs.typing.Formation.{Naming, region_of, type_written, ty
 
 -- ---- the entities that signatures declare
 
--- the declarations known in the whole text: the built-in regions, the structs by number, and the number of the name `main`
+-- the declarations known in the whole text: the built-in regions, the structs by number, and the number of the identifier `main`
 pub record Known : Type 0 where
   pub regions : List RegionName
   pub structs : List StructName
@@ -81,13 +81,13 @@ abbrev pub and_result : List Ty → Option Ty → List Ty
 and_result ts None = ts
 and_result ts (Some t) = t ∷ ts
 
--- the list of `count` region variables from number `from` on, without those that have a key among the types
+-- the list of `count` region variables from number `from` on, without those whose key is among the given types
 abbrev pub without_keys : List Ty → (count from : ℕ) → List Region
 without_keys ts zero n = []
 without_keys ts (suc m) n = if has_key ts (Variable n) then without_keys ts m (suc n) else Variable n ∷ without_keys ts m (suc n)
 
--- An omitted effect consists of all regions in the types of the parameters and of the result, except regions with a key. (Each region
--- variable occurs in a parameter's type, and the heap is live everywhere.)
+-- An omitted effect consists of all regions in the types of the parameters and of the result, except regions whose key is among these
+-- types. (Each region variable occurs in a parameter's type, and the heap is live everywhere.)
 abbrev pub effect_of : List RegionName → List Ty → (variables : ℕ) → Option (List Named) → List Region
 effect_of names ts n None = without_keys ts n 1
 effect_of names ts n (Some rs) = map (region_of names) rs
@@ -118,7 +118,7 @@ declared_from k n m (Function r x ps b ∷ ds) = record { name = x.name; meaning
 abbrev pub is_among : ℕ → List ℕ → Bool
 is_among x known = list_any (nat_eq x) known
 
--- the demands that names in a list differ from each other and from the names declared earlier
+-- the requirements that names in a list differ from each other and from the names declared earlier
 abbrev pub distinct_demanded : List ℕ → List Named → List Demand
 distinct_demanded known [] = []
 distinct_demanded known (x ∷ xs) = demand codes.DeclaredTwice x.place (not (is_among x.name known)) ∷ distinct_demanded (x.name ∷ known) xs
@@ -142,8 +142,8 @@ rule_struct k before s rs ms =
 abbrev pub constructor_names : List Constructor → List Named
 constructor_names cs = map (λ (c : Constructor). c.name) cs
 
--- An int or a char is initialized by a number or a character, a pointer by `NULL`. A global without an initial value is 0 or null; its
--- fault has the source position of the type.
+-- An int or a char is initialized by a number or a character, a pointer by `NULL`. A global without an initial value is 0 or null; if
+-- its type forbids null, the fault is at the type's source position.
 abbrev pub value_demanded : Ty → Place → Option GlobalValue → List Demand
 value_demanded t q None = demand codes.NullForNonNull q (not (is_non_null t)) ∷ []
 value_demanded t q (Some (Positive p n)) = demand codes.TypeMismatch p (is_number t) ∷ []
@@ -151,7 +151,7 @@ value_demanded t q (Some (Negative p n)) = demand codes.TypeMismatch p (is_numbe
 value_demanded t q (Some (Byte p c)) = demand codes.TypeMismatch p (is_number t) ∷ []
 value_demanded t q (Some (NullPointer p)) = demand codes.TypeMismatch p (is_pointer t) ∷ demand codes.NullForNonNull p (not (is_non_null t)) ∷ []
 
--- the demands on a declared name: it is new, and it is not `main` unless the declaration may define `main`
+-- the requirements on a declared name: it is new, and it is not `main` unless the declaration may define `main`
 abbrev pub head_demanded : Place → (is_new is_no_main : Bool) → List Demand
 head_demanded p is_new is_no_main = demand codes.DeclaredTwice p is_new ∷ demand codes.BadMain p is_no_main ∷ []
 
@@ -182,7 +182,7 @@ abbrev pub result_demanded : Known → List RegionName → Option WrittenType �
 result_demanded k names None = []
 result_demanded k names (Some w) = type_demanded k.structs names None w
 
--- the demands on each region of a written effect: it is declared, is not the unique region, and has no key among the types
+-- the requirements on each region of a written effect: it is declared, is not the unique region, and none of the listed types is its key
 abbrev pub effect_demanded : List RegionName → List Ty → List Named → List Demand
 effect_demanded names ts [] = []
 effect_demanded names ts (r ∷ rs) =
@@ -214,7 +214,7 @@ rule_function_head k before r x ps =
     (λ w. Part (rule_effect (parameter_naming k ps).names (and_result (parameter_types k ps) (result_written k (parameter_naming k ps).names r)) ps.effect)
     (λ y. demands (constraints_demanded (parameter_naming k ps).names ps.constraints)))))
 
--- the names declared before a signature, in each name space
+-- the names declared before a signature, in each name space (structs, exceptions, functions with globals)
 pub record Before : Type 0 where
   pub structs : List ℕ
   pub exceptions : List ℕ

@@ -1,9 +1,9 @@
 -- Each typing rule of the whole language is a value (`Rules`). A typing rule derives the typed tree of a syntax tree, or rejects with the
--- first violated demand's code and source position. The file `Expressions` covers expressions and lvalues. The rule of a tree is defined by
--- one recursion; the demands of each form are a named function. Operands are checked first, in the order of evaluation, then the
--- expression's own demands. Of the expression's own demands that fail, the one with the lowest code is reported. (Names, types, regions and
--- effects are Cyclone's, Grossman et al. 2002. Codes, positions, the order, and the numbers of locals and regions are this project's own
--- choice.)
+-- code and source position of the first violated requirement. The file `Expressions` covers expressions and lvalues. The rule of a syntax
+-- tree is defined by one recursion; a named function states the requirements of each form of expression. Operands are checked first, in the
+-- order of evaluation, then the requirements of the expression itself. Of the expression's own requirements that fail, the one with the
+-- lowest fault code is reported. (Names, types, regions and effects are Cyclone's, Grossman et al. 2002. Codes, positions, the order, and
+-- the numbers of locals and regions are this project's own choice.)
 use Rattle.std.specs.Prelude.{ℕ, zero, suc, Bool, true, false, not, nat_eq, ◌&&◌, ◌||◌, if◌then◌else◌, List, [], ◌∷◌, ◌++◌, map, length, slice_get, Option, Some, None, is_some, unwrap_or, option_map}
 use Rattle.std.specs.List.{list_any}
 use Rattle.cyc_words.specs.declared.fault.Code.TheVariants as codes
@@ -40,7 +40,7 @@ use Rattle.cyc_types.specs.typing.Formation.{struct_number, parameters_among, ar
 
 -- ---- conversions
 
--- returns true if a value of the first type can be converted to the second; the regions of the outermost pointer marks are not compared
+-- returns true if a value of the first type can be converted to the second; the regions of the outermost pointers are not compared
 abbrev pub is_convertible : Ty → Ty → Bool
 is_convertible Int Int = true
 -- an int is converted to a char by taking its low byte, and a char to an int by keeping its value
@@ -65,7 +65,7 @@ abbrev pub is_outlived : RegionContext → ValueType → Ty → Bool
 is_outlived c (Value (Pointer k t r)) (Pointer l u s) = is_outliving c r s
 is_outlived c v t = true
 
--- The demands on converting an expression to a type. The expression may have no value, or be the null pointer.
+-- The requirements on converting an expression to a type. The expression to convert may have no value, or be the null pointer.
 abbrev pub conversion : RegionContext → ValueType → Ty → Place → List Demand
 conversion c v t p =
     demand codes.TypeMismatch p (is_alike v t) ∷ demand codes.NullForNonNull p (is_null_allowed v t) ∷ demand codes.NotOutlived p (is_outlived c v t) ∷ []
@@ -91,7 +91,7 @@ as_int a = if is_char (type_of a) then typed.Unary unary.Widen a else a
 abbrev pub int_wanted : ValueType → Place → Demand
 int_wanted t p = demand codes.TypeMismatch p (is_int t)
 
--- the demand that a condition is an int or a pointer, which is tested against zero or null
+-- the requirement that a condition is an int or a pointer, which is tested against zero or null
 abbrev pub test_wanted : ValueType → Place → Demand
 test_wanted t p = demand codes.TypeMismatch p (is_tested t)
 
@@ -112,7 +112,7 @@ abbrev pub variable_read : Lvalue → Ty → typed.Expression
 variable_read (Local p n) t = if is_moved t then typed.Move p n t else typed.Copy (Local p n) t
 variable_read (Global n) t = typed.Copy (Global n) t
 
--- the expression that peeks at a variable; a variable that holds a unique pointer keeps it
+-- the expression that reads a variable only to test, compare or dereference its value; a unique pointer stays in the variable
 abbrev pub variable_looked : Lvalue → Ty → typed.Expression
 variable_looked (Local p n) t = if is_unique t then typed.Peek p n t else variable_read (Local p n) t
 variable_looked (Global n) t = typed.Copy (Global n) t
@@ -129,8 +129,8 @@ abbrev pub looked : Meaning → Place → Rule typed.Expression
 looked (scopes.Variable l t home) p = Own (demand codes.UniqueShared p (is_readable l t) ∷ []) (variable_looked l t)
 looked m p = read m p
 
--- The rule for an operand that is only peeked at. If the operand is a variable (parentheses do not matter), the rule is a peek. For any
--- other operand it is the rule `walked`.
+-- The rule for an operand whose value is only tested, compared or dereferenced. If such an operand is a variable (parentheses do not
+-- matter), a unique pointer in the variable stays there. For an operand that is not a variable, the typing rule is the argument `walked`.
 abbrev pub rule_looked : Scope → Expression → (walked : Rule typed.Expression) → Rule typed.Expression
 rule_looked g (Variable x) walked = looked (meaning_of g x) x.place
 rule_looked g (Bracketed p e) walked = rule_looked g e walked
@@ -147,7 +147,7 @@ abbrev pub type_of_side : Side → Ty
 type_of_side (VariableSide l t) = t
 type_of_side (CellSide d) = type_of_place d
 
--- the rule for the lvalue that a name denotes; `p` is the position of the name, `q` the start of the whole expression
+-- the rule for the lvalue that a name denotes; `p` is the source position of the name, `q` that of the whole expression's first token
 abbrev pub place_meant : Meaning → Place → Place → Rule Found
 place_meant Unknown p q = Refused (fault_at codes.UnknownName p)
 place_meant (scopes.Variable l t home) p q = gives (record { side = VariableSide l t; region = home })
@@ -155,18 +155,18 @@ place_meant (Fixed l t) p q = Refused (fault_at codes.NotAPlace q)
 place_meant (Counter n) p q = Refused (fault_at codes.NotAPlace q)
 place_meant (Routine f s) p q = Refused (fault_at codes.NotAPlace q)
 
--- A memory cell reached through a pointer, with the demands on using the cell as an lvalue. Reading the cell has
--- further demands (`loaded`).
+-- A memory cell reached through a pointer, with the requirements on using the cell as an lvalue. Reading the
+-- value of a memory cell has further requirements (`loaded`).
 pub record Reached : Type 0 where
   pub asked : List Demand
   pub cell : Dereference
   pub region : Region
 
--- the demand that the region of a pointer is live; p is the pointer's source position
+-- the requirement that the region of a pointer is live; p is the pointer's source position
 abbrev pub live_wanted : Scope → ValueType → Place → Demand
 live_wanted g t p = demand codes.RegionNotLive p (is_live g (region_of (value_of t)))
 
--- the memory cell `*e`, for the operand e at position p
+-- the memory cell `*e`, for the operand e at source position p
 abbrev pub pointed : Scope → Place → typed.Expression → Reached
 pointed g p a = record {
   asked = demand codes.TypeMismatch p (is_value is_pointer (type_of a)) ∷ live_wanted g (type_of a) p ∷ [];
@@ -174,7 +174,7 @@ pointed g p a = record {
   region = region_of (value_of (type_of a));
 }
 
--- the memory cell `e[i]`, for operands at positions p and q
+-- the memory cell `e[i]`, for operands at source positions p and q
 abbrev pub indexed : Scope → Place → typed.Expression → Place → typed.Expression → Reached
 indexed g p a q b = record {
   asked = demand codes.TypeMismatch p (is_value is_fat (type_of a)) ∷ int_wanted (type_of b) q ∷ live_wanted g (type_of a) p ∷ [];
@@ -202,7 +202,7 @@ field_among (f ∷ fs) x = if nat_eq f.name x then Some f.of_type else field_amo
 abbrev pub field_type : List Region → Option Ty → Ty
 field_type rs t = substituted_ty rs (unwrap_or t Int)
 
--- The memory cell `e->f`, for the operand e at position p. If the operand is not a pointer to a struct, its fields are unknown.
+-- The memory cell `e->f`, for the operand e at source position p. If the operand e is not a pointer to a struct, its fields are unknown.
 abbrev pub selected : Scope → Place → typed.Expression → Named → Reached
 selected g p a f = record {
   asked = demand codes.TypeMismatch p (is_value has_members (type_of a))
@@ -214,12 +214,12 @@ selected g p a f = record {
   region = region_of (value_of (type_of a));
 }
 
--- The demands on reading a memory cell: it holds neither a whole struct nor a unique pointer. A unique pointer in a
--- cell may be reachable by others.
+-- The requirements on reading a memory cell: it holds neither a whole struct nor a unique pointer. A unique pointer
+-- in a memory cell may be reachable by other pointers.
 abbrev pub content_demanded : Ty → Place → List Demand
 content_demanded t p = demand codes.TypeMismatch p (not (is_struct t)) ∷ demand codes.UniqueShared p (not (is_unique t)) ∷ []
 
--- the rule for reading a memory cell; the cell's expression is at position p
+-- the typing rule for reading the value of a memory cell; the cell's expression is at source position p
 abbrev pub loaded : Place → Reached → Rule typed.Expression
 loaded p w = Own (w.asked ++ content_demanded (type_of_place w.cell) p) (typed.Load w.cell)
 
@@ -239,8 +239,8 @@ abbrev pub address_of : Side → Ty → typed.Expression
 address_of (VariableSide l t) u = typed.AddressOf l u
 address_of (CellSide d) u = typed.AddressOfCell d u
 
--- The demands on taking the address of an lvalue: it holds neither a key nor a unique pointer, and lies in no unique object. Without
--- these demands, the address could outlive a freed object or a change of owner.
+-- The requirements on taking the address of an lvalue: it holds neither a key nor a unique pointer, and lies in no unique object.
+-- Without these requirements on `&`, the address could outlive a freed object or a change of the object's owner.
 abbrev pub address_demanded : Found → Place → List Demand
 address_demanded x p =
     demand codes.RegionOrKeyMisused p (not (is_key (type_of_side x.side)))
@@ -264,8 +264,8 @@ assigned c x p b = Own (conversion c (type_of b) (type_of_side x.side) p) (assig
 
 -- ---- unary operators
 
--- The rule for a prefix operator at position p and its operand at position q. The rule takes the operand's rule for each of its uses: as
--- a value, as a peek, and as an lvalue.
+-- The rule for a prefix operator at source position p and its operand at source position q. The typing rule of a prefix operator takes
+-- three rules of its operand: as a value, as a pointer left in its local, and as an lvalue.
 abbrev pub prefixed : Scope → PrefixOperator → Place → Place → (inside : Place) → (used seen : Rule typed.Expression) → Rule Found → Rule typed.Expression
 prefixed g prefixes.Negate p q inside used seen place = Part used (λ a. Own (int_wanted (type_of (as_int a)) q ∷ []) (typed.Unary unary.Negate (as_int a)))
 prefixed g prefixes.Not p q inside used seen place = Part seen (λ a. Own (test_wanted (type_of (as_int a)) q ∷ []) (typed.Unary unary.Not (as_int a)))
@@ -273,14 +273,14 @@ prefixed g prefixes.Complement p q inside used seen place = Part used (λ a. Own
 prefixed g prefixes.Dereference p q inside used seen place = Part seen (λ a. loaded p (pointed g q a))
 prefixed g prefixes.AddressOf p q inside used seen place = Part place (λ x. addressed inside x)
 
--- the rule for a prefixed expression as an lvalue; the whole expression begins at position p
+-- the rule for a prefix operator with its operand, used as an lvalue; the whole expression begins at source position p
 abbrev pub place_prefixed : Scope → PrefixOperator → Place → Place → (walked seen : Rule typed.Expression) → Rule Found
 place_prefixed g prefixes.Dereference p q walked seen = Part seen (λ a. reached (pointed g q a))
 place_prefixed g o p q walked seen = Part walked (λ a. Refused (fault_at codes.NotAPlace p))
 
 -- ---- binary operators
 
--- returns true for operators that only peek at their operands
+-- returns true for operators that only test or compare their operands, so that a unique pointer stays in its local
 abbrev pub is_looking : BinaryOperator → Bool
 is_looking operators.OrElse = true
 is_looking operators.AndThen = true
@@ -300,17 +300,18 @@ operand false used seen = used
 abbrev pub Joined : Type 0
 Joined = (typed.Operations → typed.Operations) × Ty
 
--- the local that a left operand peeks at, or `None`
+-- the local whose unique pointer a left operand reads without emptying the local, or `None`
 abbrev pub peeked_local : typed.Expression → Option ℕ
 peeked_local (typed.Peek p n t) = Some n
 peeked_local a = None
 
--- puts an operation on a pointer or `NULL` in front of a chain of operations; its left operand may be a peek
+-- puts an operation on a pointer or `NULL` in front of a chain of operations; its left operand may be a
+-- unique pointer that stays in its local
 abbrev pub then_pointer : Option ℕ → PointerOperator → typed.Expression → typed.Operations → typed.Operations
 then_pointer None o a = typed.ThenPointer o a
 then_pointer (Some n) o a = typed.ThenPointerPeek n o a
 
--- In the following definitions, p is the source position of the left operand's chain, and q that of the right operand.
+-- In the following definitions, p is the source position where the chain with the left operand begins, and q that of the right operand.
 
 abbrev pub ints_joined : Place → ValueType → Operator → Place → typed.Expression → Rule Joined
 ints_joined p left o q a = Own (int_wanted left p ∷ int_wanted (type_of a) q ∷ []) (typed.ThenCompute o a, Int)
@@ -413,9 +414,9 @@ abbrev pub all_paired : List Region → List Region → List (Region × Region)
 all_paired (r ∷ rs) (s ∷ ss) = (r, s) ∷ all_paired rs ss
 all_paired rs ss = []
 
--- The regions of a parameter's type, each paired with the region at the same position in an argument's type. The order is: a struct's
--- arguments or the region of a handle or key, then the pointer marks from the left. If the types have different shapes, no conversion
--- exists.
+-- The regions of a parameter's type, each paired with the region at the same position in an argument's type. The order of these pairs
+-- is: a struct's arguments or the region of a handle or key, then the pointer signs from the left. If a parameter's and an argument's
+-- types have different shapes, no conversion exists.
 abbrev pub paired : Ty → Ty → List (Region × Region)
 paired (Pointer k t r) (Pointer l u s) = paired t u ++ (r, s) ∷ []
 paired (Handle r) (Handle s) = (r, s) ∷ []
@@ -437,7 +438,7 @@ abbrev pub first_place : List (Region × Region) → ℕ → Region
 first_place [] n = regions.Heap
 first_place (p ∷ ps) n = if region_eq p.0 (regions.Variable n) then p.1 else first_place ps n
 
--- lists, for `count` region variables from number `from` on, the region first paired with each
+-- lists, for `count` region variables from number `from` on, the region that is first paired with each of these variables
 abbrev pub first_places : List (Region × Region) → (count from : ℕ) → List Region
 first_places ps zero n = []
 first_places ps (suc k) n = first_place ps n ∷ first_places ps k (suc n)
@@ -460,8 +461,8 @@ abbrev pub is_unique_for_variable : Region × Region → Bool
 is_unique_for_variable (regions.Variable n, s) = region_eq s regions.Unique
 is_unique_for_variable (r, s) = false
 
--- The demands that no region variable of a callee is instantiated with the unique region. If the unique region is paired with a
--- later occurrence of a variable, a conversion fails instead.
+-- The requirements that no region variable of a callee is instantiated with the unique region. If the unique region is paired
+-- with a later occurrence of a variable, a conversion of an argument fails instead.
 abbrev pub variables_demanded : Expressions → List typed.Expression → List Ty → List Demand
 variables_demanded (MoreExpressions e es) (a ∷ as') (t ∷ ts) =
     demand codes.RegionOrKeyMisused (place_of e) (not (list_any is_unique_for_variable (paired_argument t (type_of a)))) ∷ variables_demanded es as' ts
@@ -475,8 +476,8 @@ abbrev pub effect_demanded : Scope → Place → List Region → List Demand
 effect_demanded g p [] = []
 effect_demanded g p (r ∷ rs) = demand codes.EffectNotCovered p (is_live g r) ∷ effect_demanded g p rs
 
--- The demands of a call, from the signature as declared and as instantiated. The number of arguments is right, each argument is
--- converted, the constraints hold, and the effect is live.
+-- The requirements on a call, from the callee's signature as declared and as instantiated. The number of arguments of a call is
+-- right, each is converted, the callee's constraints hold, and the regions of its effect are live.
 abbrev pub call_demanded : Scope → Place → Expressions → List typed.Expression → (s called : Signature) → List Demand
 call_demanded g p es as' s called =
     demand codes.TypeMismatch p (nat_eq (length as') (length s.parameters))
@@ -486,7 +487,7 @@ call_demanded g p es as' s called =
 abbrev pub called_by : Scope → Callee → Place → Expressions → List typed.Expression → (s called : Signature) → Rule typed.Expression
 called_by g f p es as' s called = Own (call_demanded g p es as' s called) (typed.Call f (passed as' called.parameters) (result_type called.result))
 
--- the rule for a call of the function that a name denotes; the name is at position p
+-- the typing rule for a call of the function that a name denotes; the name is at source position p
 abbrev pub called : Scope → Meaning → Place → Expressions → List typed.Expression → Rule typed.Expression
 called g Unknown p es as' = Refused (fault_at codes.UnknownName p)
 called g (scopes.Variable l t home) p es as' = Refused (fault_at codes.TypeMismatch p)
@@ -496,12 +497,12 @@ called g (Routine f s) p es as' = called_by g f p es as' s (instantiated (instan
 
 -- ---- keys and unique objects
 
--- the rule for `ufree` applied to a unique pointer; the operand is at position p
+-- the typing rule for `ufree` applied to a unique pointer; the operand is at source position p
 abbrev pub freed : Place → typed.Expression → Rule typed.Expression
 freed p a =
     Own (demand codes.TypeMismatch p (not (is_void (type_of a))) ∷ demand codes.RegionOrKeyMisused p (is_value is_unique (type_of a)) ∷ []) (typed.FreeUnique a)
 
--- the rule for `free_ukey` applied to the key that a name denotes; the name is at position p
+-- the typing rule for `free_ukey` applied to the key that a name denotes; the name is at source position p
 abbrev pub key_freed : Meaning → Place → Rule typed.Expression
 key_freed Unknown p = Refused (fault_at codes.UnknownName p)
 key_freed (scopes.Variable (Local q n) t home) p = Own (demand codes.RegionOrKeyMisused p (is_key t) ∷ []) (typed.FreeKey (typed.Move q n t))
@@ -510,13 +511,14 @@ key_freed m p = Refused (fault_at codes.RegionOrKeyMisused p)
 
 -- ---- new objects
 
--- the placement of a new object: the demands on it, the placement node, and the region
+-- the choice of the region for a new object: the requirements on it, the placement node of the typed tree, and the region
 pub record Placed : Type 0 where
   pub asked : List Demand
   pub placement : Placement
   pub region : Region
 
--- the contents of a new object: the demands on them, the node, the type of the target, and the mark of the resulting pointer
+-- the initial values of a new object: their requirements, their typed node, the pointer's target type, and the pointer's
+-- kind (`*`, `@` or `?`)
 pub record Made : Type 0 where
   pub asked : List Demand
   pub initial : typed.Initial
@@ -529,7 +531,7 @@ on_heap = record { asked = []; placement = OnHeap; region = regions.Heap }
 abbrev pub as_unique : Placed
 as_unique = record { asked = []; placement = AsUnique; region = regions.Unique }
 
--- the placement of a new object by a region handle; the handle's region must be live
+-- the placement of a new object in the region of a handle; the handle's region must be live
 abbrev pub by_handle : Scope → Place → typed.Expression → Placed
 by_handle g p a = record {
   asked = demand codes.TypeMismatch p (is_value is_handle (type_of a)) ∷ live_wanted g (type_of a) p ∷ [];
@@ -543,7 +545,7 @@ rule_placement g p (UniqueRegion q) walked = gives as_unique
 rule_placement g p (Bracketed q e) walked = rule_placement g p e walked
 rule_placement g p e walked = Part walked (λ a. gives (by_handle g p a))
 
--- the demands on the initial content of a memory cell: it has a value, and the value is no key
+-- the requirements on the initial value of a memory cell: the expression has a value, and the value is no key
 abbrev pub element_demanded : ValueType → Place → List Demand
 element_demanded t p = value_wanted t p ∷ demand codes.RegionOrKeyMisused p (not (is_value is_key t)) ∷ []
 
@@ -555,7 +557,7 @@ plain_made p a = record {
   mark = marks.NonNull;
 }
 
--- the contents `{for x < n : e}` of a new array, from the positions of `for`, n and e
+-- the initial values `{for x < n : e}` of a new array, from the source positions of `for`, n and e
 abbrev pub array_made : (level : ℕ) → Place → Place → typed.Expression → Place → typed.Expression → Made
 array_made level o p a q b = record {
   asked = int_wanted (type_of a) p ∷ element_demanded (type_of b) q;
@@ -617,8 +619,9 @@ abbrev mutual
   rule_all g NoExpressions = gives []
   rule_all g (MoreExpressions e es) = Part (rule g e) (λ a. Part (rule_all g es) (λ as'. gives (a ∷ as')))
 
-  -- The rule for the operators of a chain that begins at position p, after a left operand of the given type, possibly a peek. The rule
-  -- derives the typed operations of the chain and the type of the chain's value.
+  -- The rule for the operators of a chain that begins at source position p, after a left operand of the given type. The left operand
+  -- of a chain may be a unique pointer that stays in its local. The rule of a chain derives the chain's typed operations and the type
+  -- of its value.
   pub rule_chain : Scope → Place → Option ℕ → ValueType → Operations → Rule (typed.Operations × Ty)
   rule_chain g p k left NoOperations = Own (value_wanted left p ∷ []) (typed.NoOperations, value_of left)
   rule_chain g p k left (ThenOperation o q e os) =
@@ -634,19 +637,20 @@ abbrev mutual
   rule_place g p (Chained e ps) walked = Part (rule_postfixed g (place_of e) (rule_looked g e (rule g e)) ps) (λ w. reached w)
   rule_place g p e walked = Part walked (λ a. Refused (fault_at codes.NotAPlace p))
 
-  -- The rule for the memory cell that an operand with postfixes denotes. (A tree of a source text has at least one postfix.)
+  -- The rule for the memory cell that an operand with postfixes (`[i]` or `->f`) denotes. (A tree of a source text has at
+  -- least one postfix.)
   pub rule_postfixed : Scope → Place → (first : Rule typed.Expression) → Postfixes → Rule Reached
   rule_postfixed g p first NoPostfixes = Refused (fault_at codes.NotAPlace p)
   rule_postfixed g p first (ThenIndex i ps) = Part first (λ a. Part (rule g i) (λ b. rule_further g p (indexed g p a (place_of i) (as_int b)) ps))
   rule_postfixed g p first (ThenField f ps) = Part first (λ a. rule_further g p (selected g p a f) ps)
 
-  -- the rule for the postfixes after a memory cell; if there is a further postfix, the cell is read first
+  -- the rule for the postfixes (`[i]` or `->f`) after a memory cell; if there is a further postfix, the cell is read first
   pub rule_further : Scope → Place → Reached → Postfixes → Rule Reached
   rule_further g p w NoPostfixes = gives w
   rule_further g p w (ThenIndex i ps) = Part (loaded p w) (λ a. Part (rule g i) (λ b. rule_further g p (indexed g p a (place_of i) (as_int b)) ps))
   rule_further g p w (ThenField f ps) = Part (loaded p w) (λ a. rule_further g p (selected g p a f) ps)
 
-  -- the rule for the contents of a new object
+  -- the typing rule for the initial values of a new object
   pub rule_made : Scope → Initial → Rule Made
   rule_made g (Plain e) = Part (rule g e) (λ a. gives (plain_made (place_of e) a))
   rule_made g (Fields s rs es) = Part (rule_all g es) (λ as'. gives (fields_made g s rs es as'))

@@ -1,6 +1,6 @@
--- A type as written in the source is mapped to a type by total functions, with defaults for omitted parts and unknown names. The faults of
--- a written type are demands, stated separately. (That a region may be omitted is Cyclone's, Grossman et al. 2002; the defaults, the codes
--- and their order are this project's own choice.)
+-- A type as written in the source is mapped to a type by total functions, with defaults for omitted regions and unknown names. The faults
+-- of a written type are requirements that are stated separately from this mapping. (That a region may be omitted is Cyclone's, Grossman et
+-- al. 2002; the defaults, the codes and their order are this project's own choice.)
 use Rattle.std.specs.Prelude.{ℕ, suc, Bool, true, false, nat_eq, not, ◌||◌, if◌then◌else◌, List, [], ◌∷◌, ◌++◌, map, replicate, length, Option, None, Some, is_some, unwrap_or}
 use Rattle.cyc_words.specs.declared.fault.Code.TheVariants as codes
 use Rattle.cyc_syntax.specs.declared.tree.PointerKind.{PointerKind}
@@ -32,7 +32,7 @@ parameters_among (s ∷ structs) x = if nat_eq s.name x then Some s.parameters e
 abbrev pub region_of : List RegionName → Named → Region
 region_of names r = unwrap_or (region_among names r.name) Heap
 
--- the region of a pointer mark, or the default region if the mark has none
+-- the region written after a pointer sign (`*`, `@`, `?`), or the default region if none is written
 abbrev pub region_or : List RegionName → Region → Option Named → Region
 region_or names left_out None = left_out
 region_or names left_out (Some r) = region_of names r
@@ -52,7 +52,7 @@ base_written structs names (Struct s rs) = struct_written structs names s rs
 base_written structs names (Handle r) = types.Handle (region_of names r)
 base_written structs names (Key r) = types.Key (region_of names r)
 
--- the default for an omitted region: `outermost` for the outermost (last) pointer mark, the heap for all other marks
+-- the default for an omitted region: `outermost` for the outermost (last) pointer sign of a type, the heap for all other pointer signs
 abbrev pub left_out_at : Region → List Pointer → Region
 left_out_at outermost [] = outermost
 left_out_at outermost (m ∷ ms) = Heap
@@ -61,7 +61,7 @@ abbrev pub pointers_written : List RegionName → Region → Ty → List Pointer
 pointers_written names outermost t [] = t
 pointers_written names outermost t (m ∷ ms) = pointers_written names outermost (types.Pointer m.kind t (region_or names (left_out_at outermost ms) m.region)) ms
 
--- the type denoted by a written type; an omitted region is `outermost` at the outermost pointer mark, and the heap elsewhere
+-- the type denoted by a written type; an omitted region is `outermost` at the outermost pointer sign, and the heap elsewhere
 abbrev pub type_written : List StructName → List RegionName → (outermost : Region) → WrittenType → Ty
 type_written structs names outermost w = pointers_written names outermost (base_written structs names w.base) w.marks
 
@@ -154,13 +154,13 @@ is_name_of names region r = stands_for (region_among names r.name)
 abbrev pub is_known : List RegionName → Named → Bool
 is_known names r = is_some (region_among names r.name)
 
--- The demand on a region name: outside a parameter the name is declared. A parameter may declare the name, but not with the name of the
--- function's own region.
+-- The requirement on a region name: outside a parameter the name is declared. A parameter's type may declare a new region name, unless
+-- that name is the one of the function's own region.
 abbrev pub name_demanded : List RegionName → (own : Option ℕ) → Named → Demand
 name_demanded names None r = demand codes.UnknownName r.place (is_known names r)
 name_demanded names (Some own) r = demand codes.DeclaredTwice r.place (not (nat_eq r.name own))
 
--- the demand that a region name does not denote the unique region, which is allowed only after a pointer mark; the heap has no key
+-- the requirement that a region name does not denote the unique region, which is allowed only after a pointer sign; the heap has no key
 abbrev pub no_unique_demanded : List RegionName → Named → Demand
 no_unique_demanded names r = demand codes.RegionOrKeyMisused r.place (not (is_name_of names Unique r))
 
@@ -176,7 +176,7 @@ abbrev pub is_count : Option ℕ → List Named → Bool
 is_count None rs = true
 is_count (Some n) rs = is_empty rs || nat_eq (length rs) n
 
--- the demands on a struct name and its region arguments, in a written type that begins at position p
+-- the requirements on a struct name and its region arguments, in a written type that begins at source position p
 abbrev pub struct_demanded : List StructName → List RegionName → (own : Option ℕ) → Place → Named → List Named → List Demand
 struct_demanded structs names own p s rs =
     demand codes.UnknownName s.place (is_some (parameters_among structs s.name))
@@ -220,7 +220,7 @@ abbrev pub is_key_base : BaseType → Bool
 is_key_base (Key r) = true
 is_key_base b = false
 
--- the demands on the type of a field; a field is not a key
+-- the requirements on the type of a struct's field; a field is not a key
 abbrev pub field_demanded : List StructName → List RegionName → WrittenType → List Demand
 field_demanded structs names w = type_demanded structs names None w ++ demand codes.RegionOrKeyMisused w.place (not (is_key_base w.base)) ∷ []
 

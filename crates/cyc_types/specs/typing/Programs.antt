@@ -76,12 +76,12 @@ parameter_locals ms ts n vs = vs
 abbrev pub body_names : Known → Named → Parameters → List RegionName
 body_names k x ps = record { name = x.name; region = regions.Variable 0 } ∷ (parameter_naming k ps).names
 
--- The region context of a function's body: the body's own region opens while the regions of the effect are live.
+-- The region context of a function's body: the body's own region opens after the regions of the function's effect, which are live already.
 abbrev pub body_regions : Signature → RegionContext
 body_regions s =
     with_scope kinds.Block (regions.Variable 0) (record { written = s.constraints; live = regions.Heap ∷ regions.Unique ∷ s.effect; opened = [] })
 
--- the scope of a function's body; the parameters belong to the same scope
+-- the scope of a function's body; the parameters belong to the same scope as the outermost locals of the body
 abbrev pub body_scope : Program → Signature → Named → Parameters → Scope
 body_scope p s x ps = record {
   structs = p.known.structs;
@@ -129,7 +129,7 @@ rule_functions p (Function r x ps b ∷ tree) =
 
 -- ---- programs
 
--- the word that a global holds if it is initialized by a number; a char keeps only the low byte
+-- the 32-bit word that a global holds if it is initialized by a number; a char keeps only the low byte
 abbrev pub word_of : Ty → ℕ → ℕ
 word_of Char n = n % 256
 word_of t n = n

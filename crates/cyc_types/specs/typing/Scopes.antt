@@ -36,14 +36,15 @@ pub record Exception : Type 0 where
   pub name : ℕ
   pub has_int : Bool
 
--- the meaning of a name: unknown, a variable, a fixed variable, a counter or a function
+-- the meaning of a name: unknown, an assignable variable, a region handle (not assignable), the
+-- loop counter of an array `for`, or a function
 pub data Meaning : Type 0 where
   Unknown : Meaning
-  -- a name that denotes a variable that may be assigned; `home` is the region that contains it
+  -- a name that denotes a variable that may be assigned; `home` is the region that contains the variable
   Variable : Lvalue → Ty → (home : RegionCode) → Meaning
-  -- a name that denotes the handle declared by a `region` item, which may not be assigned
+  -- a name that denotes the handle declared by a `region` declaration, which may not be assigned
   Fixed : Lvalue → Ty → Meaning
-  -- a name that denotes the counter of an array `for`, numbered by the number of enclosing `for`s; a counter may not be assigned
+  -- a name that denotes the loop counter of an array `for`, numbered by the number of enclosing `for`s; a loop counter may not be assigned
   Counter : (level : ℕ) → Meaning
   Routine : Callee → Signature → Meaning
 
@@ -59,18 +60,18 @@ signature_of_ints ts = record { variables = 0; parameters = ts; result = Some In
 -- the kind of construct that declares a local
 pub data Sort : Type 0 where
   Ordinary : Sort
-  -- the local is declared by a `region` item
+  -- the local is the handle that a `region` declaration declares
   OfRegion : Sort
-  -- the local is declared by an array `for`
+  -- the local is the loop counter that an array `for` declares
   OfLoop : Sort
 
--- a local variable or a parameter, or the counter of an array `for`
+-- a local variable or a parameter, or the loop counter of an array `for`
 pub record LocalVariable : Type 0 where
   pub name : ℕ
-  -- the number of the local in its function; for the counter of a `for`, its level
+  -- the index of the local in its function; for the loop counter of an array `for`, the number of enclosing array `for`s
   pub number : ℕ
   pub of_type : Ty
-  -- the number of the region of the block that declares the local
+  -- the index, among the function's regions, of the region of the block that declares the local
   pub region : ℕ
   pub sort : Sort
 
@@ -87,7 +88,7 @@ pub record Scope : Type 0 where
   pub names : List RegionName
   -- the region names that the function has declared so far, including those no longer in scope
   pub taken : List ℕ
-  -- the live regions and the outlives constraints at this program point
+  -- the live regions and the outlives constraints at the program point that is checked
   pub regions : RegionContext
   -- the locals in scope, newest first
   pub locals : List LocalVariable
@@ -171,8 +172,8 @@ abbrev mutual
   clause_locals (Default is) = item_locals is
   clause_locals (Case x v is cs) = counted v + item_locals is + clause_locals cs
 
--- The number of regions that a statement declares. Each block, labelled or not, declares one region; so do the items of a clause.
--- Opening a dynamic region declares none, because the region is counted where its key is declared.
+-- The number of regions that a statement declares. Each block, labelled or not, declares one region; so does the body of each
+-- catch clause. Opening a dynamic region declares none, because the region is counted where its key is declared.
 abbrev mutual
   pub regions_in : Statement → ℕ
   regions_in (Block b) = suc (body_regions b)
@@ -236,7 +237,8 @@ abbrev mutual
 
 -- ---- scopes
 
--- the scope after a statement: the statement's declarations are out of scope, their numbers are used, and their region names are taken
+-- the scope after a statement: its declarations are out of scope, and the numbers of its locals and regions and its region names are
+-- not reused
 abbrev pub following : Scope → Statement → Scope
 following g s = record g { next_local = g.next_local + locals_in s; next_region = g.next_region + regions_in s; taken = names_in s ++ g.taken }
 
@@ -244,11 +246,11 @@ following g s = record g { next_local = g.next_local + locals_in s; next_region 
 abbrev pub with_scope : Kind → RegionCode → RegionContext → RegionContext
 with_scope k r c = record c { opened = record { region = r; kind = k } ∷ c.opened }
 
--- the scope inside a block of the given scope
+-- the scope inside a block that begins in the given scope
 abbrev pub in_block : Scope → Scope
 in_block g = record g { region = g.next_region; next_region = suc g.next_region; regions = with_scope kinds.Block (regions.Variable g.next_region) g.regions }
 
--- the scope in which the next region number has the given name
+-- the scope in which the given name denotes the region with the next free number
 abbrev pub with_name : Named → Scope → Scope
 with_name r g = record g { names = record { name = r.name; region = regions.Variable g.next_region } ∷ g.names; taken = r.name ∷ g.taken }
 
@@ -274,14 +276,14 @@ with_counter x g = record g {
   counters = suc g.counters;
 }
 
--- the scope after an item that declares a region with a name and opens it
+-- the scope after a declaration that declares a region with a name and opens it
 abbrev pub with_opened : Kind → Named → Scope → Scope
 with_opened k r g = record (with_name r g) { next_region = suc g.next_region; regions = with_scope k (regions.Variable g.next_region) g.regions }
 
--- the scope after an item that declares a region with a name without opening it
+-- the scope after a declaration that declares a region with a name without opening it
 abbrev pub with_region : Named → Scope → Scope
 with_region r g = record (with_name r g) { next_region = suc g.next_region }
 
--- the scope after an item that opens the region of a key
+-- the scope after a declaration that opens the region of a key
 abbrev pub with_key_opened : RegionCode → Scope → Scope
 with_key_opened r g = record g { regions = with_scope kinds.Dynamic r g.regions }

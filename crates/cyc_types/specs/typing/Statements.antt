@@ -1,6 +1,6 @@
--- The typing rules of statements, of block items and of catch clauses. Statements are checked in order, and the parts of an item in the
--- order of the source. The initial value of a local is checked before the local's name. (Lexical and dynamic regions and aliases are
--- Cyclone's, Grossman et al. 2002 and the User's Manual, 1.0. Codes, positions and their order are this project's own choice.)
+-- The typing rules of statements, of declarations in blocks and of catch clauses. Statements are checked in order, and the parts of a
+-- declaration in the order of the source. The initial value of a local is checked before the local's name. (Lexical and dynamic regions and
+-- aliases are Cyclone's, Grossman et al. 2002 and the User's Manual, 1.0. Codes, positions and their order are this project's own choice.)
 use Rattle.std.specs.Prelude.{ℕ, suc, ◌+◌, Bool, true, false, not, nat_eq, ◌&&◌, ◌||◌, if◌then◌else◌, List, [], ◌∷◌, ◌++◌, Option, Some, None, is_some, option_map}
 use Rattle.std.specs.List.{list_any}
 use Rattle.cyc_words.specs.declared.fault.Code.TheVariants as codes
@@ -39,8 +39,8 @@ rule_returned g p (Some e) = Part (rule g e) (λ a. returned g g.result p (place
 abbrev pub in_loop_alone : Scope → Place → typed.Statement → Rule typed.Statement
 in_loop_alone g p s = Own (demand codes.OutsideLoop p g.in_loop ∷ []) s
 
--- The rule for a swap: both sides have the same type, which is not a struct type. A fault of the swap has the position where the
--- first side begins.
+-- The rule for a swap: its left and right operands have the same type, which is not a struct type. A fault of the swap has the
+-- source position where the left operand begins.
 abbrev pub swapped : Place → Found → Found → Rule typed.Statement
 swapped p x y =
     Own (demand codes.TypeMismatch p (ty_eq (type_of_side x.side) (type_of_side y.side) && not (is_struct (type_of_side x.side))) ∷ []) (typed.Swap x.side y.side)
@@ -64,7 +64,7 @@ abbrev pub rule_thrown : Scope → Option Expression → Rule (Option typed.Expr
 rule_thrown g None = gives None
 rule_thrown g (Some e) = Part (rule g e) (λ a. gives (Some (as_int a)))
 
--- the demand that a thrown exception has an int in parentheses exactly if it is declared with one
+-- the requirement that a thrown exception has an int in parentheses exactly if it is declared with one
 abbrev pub thrown_demanded : (has_int : Bool) → Place → Option Expression → Option typed.Expression → List Demand
 thrown_demanded has p (Some e) (Some a) = demand codes.TypeMismatch p has ∷ demand codes.TypeMismatch (place_of e) (is_int (type_of a)) ∷ []
 thrown_demanded has p v a = demand codes.TypeMismatch p (not has) ∷ []
@@ -81,7 +81,7 @@ caught g (Some has) before x v =
     Own (demand codes.DeclaredTwice x.place (not (list_any (nat_eq x.name) before)) ∷ demand codes.TypeMismatch x.place (is_given has (is_some v)) ∷ [])
     (exception_number g.exceptions x.name)
 
--- the scope inside the items of a catch clause: a block with the local that receives the exception's int
+-- the scope inside the body of a catch clause: a block with the local that receives the exception's int, if any
 abbrev pub with_caught : Option Named → Scope → Scope
 with_caught None g = g
 with_caught (Some v) g = with_local Ordinary v Int g
@@ -92,7 +92,7 @@ after_clause g n is = record g { next_local = g.next_local + (n + item_locals is
 
 -- ---- items
 
--- the demand that the name of a new local is not yet declared in its block
+-- the requirement that the name of a new local is not yet declared in its block
 abbrev pub new_demanded : Scope → Named → Demand
 new_demanded g x = demand codes.DeclaredTwice x.place (not (is_declared g x))
 
@@ -138,8 +138,8 @@ abbrev pub local_number : Lvalue → ℕ
 local_number (typed.Local p n) = n
 local_number (Global n) = 0
 
--- The demands on opening a region r by the variable that a name denotes: the variable is a key, and r is the key's region. If the
--- variable is not a key, the key's region is not checked.
+-- The requirements on opening a region r by the variable that a name denotes: the variable is a key, and r is the key's region.
+-- If the variable is not a key, the key's region is not checked.
 abbrev pub open_demanded : Scope → (r h : Named) → Place → Ty → List Demand
 open_demanded g r h p t =
     new_demanded g h
@@ -167,8 +167,8 @@ abbrev pub is_local : Lvalue → Bool
 is_local (typed.Local p n) = true
 is_local (Global n) = false
 
--- The demands on an alias: a local of the written type shares a variable of the same type, except for the new region. If the alias's type
--- omits its region, the region is that of the shared value.
+-- The requirements on an alias: its written type is that of the variable whose object it shares, except for the new region. If the
+-- alias's type omits its region, the region is that of the shared value.
 abbrev pub alias_demanded : Scope → Named → WrittenType → (written : Ty) → (is_shared : Bool) → Ty → Place → List Demand
 alias_demanded g x w u shared t p =
     new_demanded g x
@@ -193,14 +193,14 @@ rule_alias g r w x y =
     Part (demands (new_name_demanded g r ∷ []))
     (λ u. Part (demands (type_demanded g.structs (with_name r g).names None w)) (λ v. aliased g r x w (meaning_of g y) y.place))
 
--- the type of the local that a typed block item declares
+-- the type of the local that a typed declaration in a block declares
 abbrev pub declared_type : typed.Item → Ty
 declared_type (typed.Declare n t v) = t
 declared_type (typed.DeclareAlias r n t p m) = t
 declared_type i = Int
 
--- The scope after an item of a block, from the item's typed tree. A local that the item declares is in scope. A region that the item
--- declares is open, unless it is the region of a new key.
+-- The scope after a declaration or statement of a block, from its typed tree. A local that a block's declaration declares is in
+-- scope after it. A region that a declaration declares is open after it, unless it is the region of a new key.
 abbrev pub following_item : Scope → Item → typed.Item → Scope
 following_item g (Execute s) j = following g s
 following_item g (Local w x v) j = with_local Ordinary x (declared_type j) g

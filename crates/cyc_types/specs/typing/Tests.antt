@@ -153,7 +153,7 @@ kind_of_mark Nullable = kinds.Nullable
 kind_of_mark NonNull = kinds.NonNull
 kind_of_mark Fat = kinds.Fat
 
--- the kind of a memory cell with the given type; no cell has a struct type
+-- the representation kind (int, char, pointer, ..) of a memory cell with the given type; no cell has a struct type
 abbrev pub kind_of : Ty → Kind
 kind_of Int = kinds.Int
 kind_of Char = kinds.Char
@@ -162,7 +162,8 @@ kind_of (Handle r) = kinds.Handle
 kind_of (Key r) = kinds.Key
 kind_of (Struct n rs) = kinds.Int
 
--- the kind of an expression's value; for an expression without a value, the kind is arbitrary and never used
+-- the representation kind (int, char, pointer, ..) of an expression's value; for an expression without a
+-- value, the kind is arbitrary and never used
 abbrev pub kind_of_value : ValueType → Kind
 kind_of_value Void = kinds.Int
 kind_of_value Null = kinds.Nullable

@@ -1,8 +1,8 @@
 -- The typing judgement on typed trees of the whole language: a tree is well-typed in its context, whether or not it comes from a source
--- text. The judgement also applies to the remaining parts of a chain, of arguments or of a block in the states of an execution. The typing
--- rules derive only well-typed trees. The judgement contains all facts that a proof about executions needs. The rules ensure some of these
--- facts without a demand: declared numbers are fresh, and a variable's own region is live at its declaration. (Typing, regions, effects
--- and outlives are those of Grossman et al. 2002. The form of the judgement is this project's own choice.)
+-- text. The typing judgement also applies to the unevaluated rest of a chain, of arguments or of a block in the states of an execution. The
+-- typing rules derive only well-typed trees. The typing judgement contains all facts that a proof about executions needs. The typing rules
+-- ensure some of these facts without a requirement: declared numbers are fresh, and a variable's own region is live at its declaration.
+-- (Typing, regions, effects and outlives are those of Grossman et al. 2002. The form of the judgement is this project's own choice.)
 use Rattle.std.specs.Prelude.{◌≡◌, ◌≢◌, ◌⊎◌, ℕ, suc, ◌+◌, ◌<◌, ◌≤◌, Bool, true, false, List, [], ◌∷◌, ◌++◌, Option, Some, None, Contains, length, map, slice_get}
 use Rattle.cyc_syntax.specs.declared.tree.PointerKind.{PointerKind}
 use Rattle.cyc_syntax.specs.declared.tree.PointerKind.TheVariants as marks
@@ -37,7 +37,7 @@ pub record LocalInScope : Type 0 where
   pub of_type : Ty
   -- the number of the region of the block that declares the local
   pub region : ℕ
-  -- true if the local may be assigned; the handle of a `region` item may not be assigned
+  -- true if the local may be assigned; the handle of a `region` declaration may not be assigned
   pub is_place : Bool
 
 pub record Context : Type 0 where
@@ -57,7 +57,7 @@ pub record Context : Type 0 where
   pub next_region : ℕ
   -- the number of the region of the innermost enclosing block
   pub region : ℕ
-  -- the live regions and the outlives constraints at this program point
+  -- the live regions and the outlives constraints at the program point that is checked
   pub regions : RegionContext
   pub in_loop : Bool
   -- the number of enclosing array `for`s
@@ -123,18 +123,18 @@ Converts c (Value (Key r)) (Key s) = r ≡ s
 Converts c Null (Pointer k t r) = is_non_null (Pointer k t r) ≡ false
 Converts c v t = ⊥
 
--- says that an expression is a peek of a local that holds a unique pointer
+-- says that an expression reads the unique pointer in a local and leaves it there (a peek)
 abbrev pub IsPeek : Context → Expression → ValueType → Type 0
 IsPeek c (Peek p n u) t = IsVariable c (Local p n) u × (is_unique u ≡ true) × (t ≡ Value u)
 IsPeek c a t = ⊥
 
--- says that an expression is a peek of the local with number n
+-- says that an expression reads the unique pointer in the local with number n and leaves it there
 abbrev pub IsPeekOf : ℕ → Expression → Type 0
 IsPeekOf n (Peek p m u) = n ≡ m
 IsPeekOf n a = ⊥
 
--- The typing of pointer operators relates the types of the operands to the type of the result. The right operand is peeked at, unless it
--- is an int or `NULL`.
+-- The typing of pointer operators relates the types of the operands to the type of the result. The right operand of a pointer operator
+-- is read without emptying its local, unless it is an int or `NULL`.
 pub data PointerOperation (c : Context) : PointerOperator → (left right result : ValueType) → Type 0 where
   adds : (t : Ty) (r : Region) → r ≢ regions.Unique → PointerOperation c pointers.AddFat (Value (Pointer marks.Fat t r)) (Value Int) (Value (Pointer marks.Fat t r))
   subtracts : (t : Ty) (r : Region) → r ≢ regions.Unique → PointerOperation c pointers.SubtractFat (Value (Pointer marks.Fat t r)) (Value Int) (Value (Pointer marks.Fat t r))
@@ -150,7 +150,7 @@ pub data PointerOperation (c : Context) : PointerOperator → (left right result
   null_is : (k : PointerKind) (t : Ty) (r : Region) → PointerOperation c pointers.NullIs Null (Value (Pointer k t r)) (Value Int)
   null_is_not : (k : PointerKind) (t : Ty) (r : Region) → PointerOperation c pointers.NullIsNot Null (Value (Pointer k t r)) (Value Int)
 
--- the typing of the left operand of a chain; the operand is a peek only if the next operator merely looks at it
+-- the typing of the left operand of a chain; a unique pointer may stay in its local only if the next operator merely tests or compares it
 abbrev pub IsLeft : (well : Type 0) → Context → Expression → ValueType → Operations → Type 0
 IsLeft well c a v (ThenTest o b os) = well ⊎ IsPeek c a v
 IsLeft well c a v (ThenPointerPeek n o b os) = IsPeek c a v × IsPeekOf n a
@@ -171,7 +171,7 @@ abbrev mutual
   WellTyped c (Counter l) t = (l < c.counters) × (t ≡ Value Int)
   WellTyped c (Copy l u) t = IsVariable c l u × (is_moved u ≡ false) × (t ≡ Value u)
   WellTyped c (Move p n u) t = IsVariable c (Local p n) u × (is_moved u ≡ true) × (t ≡ Value u)
-  -- a peek is not well-typed as a used value; it occurs only where a value is only looked at
+  -- a read that leaves a unique pointer in its local is well-typed only where the pointer is merely tested, compared or dereferenced
   WellTyped c (Peek p n u) t = ⊥
   -- a read of a memory cell is well-typed only if the cell holds neither a whole struct nor a unique pointer
   WellTyped c (Load d) t = (u : Ty) × (r : Region) × IsCell c d u r × (is_struct u ≡ false) × (is_unique u ≡ false) × (t ≡ Value u)
@@ -181,7 +181,7 @@ abbrev mutual
   WellTyped c (NumberOfElements a) t = (u : Ty) × (r : Region) × (WellTyped c a (Value (Pointer marks.Fat u r)) ⊎ IsPeek c a (Value (Pointer marks.Fat u r))) × (t ≡ Value Int)
   WellTyped c (FreeUnique a) t = (k : PointerKind) × (u : Ty) × WellTyped c a (Value (Pointer k u regions.Unique)) × (t ≡ Void)
   WellTyped c (FreeKey a) t = (r : Region) × WellTyped c a (Value (Key r)) × (t ≡ Void)
-  -- a call is well-typed only if the effect of the callee is live and its constraints hold
+  -- a call is well-typed only if the regions of the callee's effect are live and the callee's outlives constraints hold
   WellTyped c (Call f ds u) t =
       (s : Signature) × (m : List Region) × IsCallee c f s × (length m ≡ suc s.variables) × AreNotUnique m × ArePassed c (instantiated m s).parameters ds
       × AreLive c (instantiated m s).effect × AreOutliving c (instantiated m s).constraints × (u ≡ result_type (instantiated m s).result) × (t ≡ u)
@@ -219,7 +219,7 @@ abbrev mutual
   IsPlacement c AsUnique r = r ≡ regions.Unique
   IsPlacement c (ByHandle a) r = WellTyped c a (Value (Handle r)) × IsLive c r
 
-  -- says that a new object's initial contents have type t, and that the pointer to the object has mark m
+  -- says that a new object's initial values have type t, and that the pointer to the object has pointer kind m (`*`, `@` or `?`)
   pub IsMade : Context → Initial → PointerKind → Ty → Type 0
   IsMade c (Plain k a) m t = WellTyped c a (Value t) × (is_key t ≡ false) × (k ≡ kind_of t) × (m ≡ marks.NonNull)
   IsMade c (Fields ds) m t =
@@ -242,7 +242,7 @@ IsCondition c a = (v : ValueType) × (WellTyped c a v ⊎ IsPeek c a v) × (is_t
 
 -- ---- the context of later trees
 
--- the context after a statement: the statement's declarations are out of scope, and their numbers are used
+-- the context after a statement: the statement's declarations are out of scope, and the numbers of its locals and regions are not reused
 abbrev pub following : Context → Statement → Context
 following c s = record c { next_local = c.next_local + length (declared_types s); next_region = c.next_region + declared_regions s }
 
@@ -256,7 +256,7 @@ in_body c = record c { in_loop = true }
 abbrev pub with_local : Bool → Ty → Context → Context
 with_local b t c = record c { locals = record { number = c.next_local; of_type = t; region = c.region; is_place = b } ∷ c.locals; next_local = suc c.next_local }
 
--- the context after the next region has been declared; a second definition also opens it
+-- the typing context after the next region has been declared; a second definition in this file also opens that region
 abbrev pub with_region : Context → Context
 with_region c = record c { next_region = suc c.next_region }
 
@@ -278,7 +278,7 @@ IsReturned c None None = Unit {0}
 IsReturned c (Some t) (Some d) = IsConverted c d t
 IsReturned c r v = ⊥
 
--- says that one side of a swap has type t
+-- says that the left or right operand of a swap has type t
 abbrev pub IsSide : Context → Side → Ty → Type 0
 IsSide c (VariableSide l u) t = (r : Region) × IsPlace c l u r × (t ≡ u)
 IsSide c (CellSide d) t = (r : Region) × IsCell c d t r
@@ -315,11 +315,11 @@ IsNextRegion c r = (r ≡ c.next_region) × (r < c.region_count)
 
 abbrev mutual
   pub WellTypedStatement : Context → Statement → Type 0
-  -- a block is well-typed if its number is that of the next region, and its items are well-typed
+  -- a block is well-typed if its region has the next free number, and all its declarations and statements are well-typed
   WellTypedStatement c (Block r js) = IsNextRegion c r × WellTypedItems (in_block c) js
   WellTypedStatement c Empty = Unit {0}
   WellTypedStatement c (Evaluate a) = (t : ValueType) × WellTyped c a t
-  -- a swap is well-typed if both sides have the same type, which is not a struct type
+  -- a swap is well-typed if its left and right operands have the same type, which is not a struct type
   WellTypedStatement c (Swap x y) = (t : Ty) × IsSide c x t × IsSide c y t × (is_struct t ≡ false)
   WellTypedStatement c (If a s t) = IsCondition c a × WellTypedStatement c s × WellTypedStatement (following c s) t
   WellTypedStatement c (While p a s) = IsCondition c a × WellTypedStatement (in_body c) s
@@ -336,7 +336,7 @@ abbrev mutual
   -- a lexical region stays open to the end of the block
   WellTypedItems c (MoreItems (DeclareRegion r n) js) =
       IsNextRegion c r × IsDeclared c n (Handle (regions.Variable r)) × WellTypedItems (with_local false (Handle (regions.Variable r)) (with_opened scopes.Lexical c)) js
-  -- the region that an item opens by a key stays open to the end of the block; no live region outlives it
+  -- a dynamic region that a declaration opens by a key stays open to the end of the block; opening it makes no live region outlive it
   WellTypedItems c (MoreItems (OpenRegion r n p k) js) =
       IsVariable c (Local p k) (Key (regions.Variable r)) × IsDeclared c n (Handle (regions.Variable r)) × WellTypedItems (with_local false (Handle (regions.Variable r)) (with_key_opened r c)) js
   -- an alias has the type of the unique pointer that it shares, except for the region, which is new
@@ -425,8 +425,8 @@ abbrev pub AreKeyless : List Region → List Ty → Type 0
 AreKeyless [] ts = Unit {0}
 AreKeyless (r ∷ rs) ts = ((r ≢ regions.Unique) × IsKeyless r ts) × AreKeyless rs ts
 
--- Says that a function's body is well-typed in the scope of its parameters. The function declares exactly its numbered locals and
--- regions. The types of the function mention only the regions of the parameters.
+-- Says that a function's body is well-typed in the scope of its parameters. A well-typed function declares exactly the locals and
+-- regions that it counts. The types of a well-typed function mention only the regions of its parameters.
 pub record IsWellTypedFunction (p : Program) (h : Function) : Type 0 where
   pub body : WellTypedItems (body_context p h) h.body
   pub own : h.region ≡ 0

@@ -4,7 +4,7 @@ use Rattle.cyc_types.specs.typing.Expressions.{then_pointer}
 use Rattle.cyc_typing.specs.declared.comparisons.Comparison.{Comparison}
 use Rattle.cyc_typing.specs.declared.comparisons.Comparison.TheVariants as comparison
 
--- adds a comparison with its right operand in front of the rest of its chain
+-- puts a comparison and its right operand before the remaining operations of a chain of operators
 abbrev pub then_comparison : Comparison → typed.Expression → typed.Operations → typed.Operations
 then_comparison (comparison.OfInts o) = typed.ThenCompute o
 then_comparison (comparison.OfPointers k o) = then_pointer k o

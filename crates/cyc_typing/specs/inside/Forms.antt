@@ -23,7 +23,7 @@ use Rattle.cyc_operands.specs.declared.made.Made.{Made as MadeCode}
 use Rattle.cyc_typing.specs.declared.places.Reached.{Reached as ReachedCode}
 use Rattle.cyc_typing.specs.declared.objects.Placed.{Placed as PlacedCode}
 
--- adds an operation in front of the rest of its chain
+-- puts an operation before the remaining operations of a chain of operators
 abbrev pub put_operation : Operation → typed.Operations → typed.Operations
 put_operation (operation.Compute s o e) = typed.ThenCompute o (view.view_expression e)
 put_operation (operation.Test o e) = typed.ThenTest o (view.view_expression e)
@@ -32,7 +32,7 @@ put_operation (operation.PointerPeek n o e) = typed.ThenPointerPeek n o (view.vi
 
 -- ---- values that are passed between parts
 
--- Says that the code's result represents a reached memory cell, whose demands are already settled.
+-- Says that the code's result represents a memory cell reached through a pointer, whose requirements are already checked.
 pub record IsReached (r : Box ReachedCode Global) (w : Reached) : Type 0 where
   pub asked : r.value.settled.known ≡ settled None w.asked
   pub cell : view.view_dereference r.value.cell.value ≡ w.cell
@@ -51,7 +51,7 @@ loaded_after known p d = unless (settled known (content_demanded (type_of_place 
 abbrev pub reached_after : Option Fault → typed.Dereference → Region → Checked Found
 reached_after known d r = unless known (record { side = typed.CellSide d; region = r })
 
--- the fault of two lists of demands that were settled separately
+-- the fault of two lists of requirements that were checked separately
 abbrev pub merged : Option Fault → Option Fault → Option Fault
 merged known None = known
 merged known (Some f) = lesser known f
@@ -66,7 +66,7 @@ abbrev pub stored_in : typed.Side → typed.Converted → ValueType → typed.Ex
 stored_in (typed.VariableSide l t) c u = typed.Assign l c u
 stored_in (typed.CellSide d) c u = typed.Store d c u
 
--- Says that one operation was added at the end of the list, and that the function returns the type of the operation's result.
+-- Says that one operation was added at the end of a chain's operations, and that the function returns the type of the operation's result.
 abbrev pub Joins : (old new : List Operation) → Result TyCode Stop → Checked Joined → Type 0
 Joins old new (Ok t) checked = (o : Operation) × (new ≡ old ++ o ∷ []) × (checked ≡ Ok (put_operation o, view_ty t))
 Joins old new (Err e) checked = Stops e checked

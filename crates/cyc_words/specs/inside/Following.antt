@@ -3,8 +3,8 @@
 --
 -- A state of the lower machine is matched with a state of the upper machine. A step of the upper machine is matched by a sequence of
 -- steps of the lower machine at code positions that the upper step owns, each visited at most once. For any price of positions, the
--- matching sequence costs at most the sum over the positions that the upper step owns, through any number of passes. If each word of text
--- has the price one, then this sum bounds the number of instructions.
+-- matching sequence costs at most the sum over the positions that the upper step owns, through any number of passes. If each machine word
+-- of the code has the price one, then this sum bounds the number of instructions.
 use Rattle.std.specs.Prelude.{◌≡◌, ℕ, ◌+◌, ◌≤◌, ◌<◌, ◌⊎◌, List, [], ◌∷◌, length, sum_by, Contains}
 use Rattle.std.specs.List.{AllByRecursion}
 use Rattle.cyc_words.specs.Distinct.{IsDistinct}
@@ -29,7 +29,7 @@ MayShow m start seen = (n : ℕ) × (s : m.State) × Run m n start s × (seen �
 
 -- ---- the statement that a pass proves
 
--- Says that the lower machine's run, which has visited the positions `met`, is in the middle of a step of an upper machine's run.
+-- Says that the lower machine's run, which has visited the code positions `met`, is in the middle of a step of an upper machine's run.
 -- `before` lists the positions visited before the first step; `own` maps each position of the upper machine to the positions of its step
 -- in the lower machine.
 pub record IsUnderWay (above below : Machine) (before : List below.Place) (own : above.Place → List below.Place) (start : above.State) (met : List below.Place) (now : below.State) : Type 0 where

@@ -1,4 +1,4 @@
--- Invariant of the loop: the bytes before the index are written.
+-- Invariant of the loop: the bytes before the loop's index are written to the output.
 use Rattle.std.proofs.Common.{take, flat_map}
 use Rattle.std.specs.Fmt.{HasWritten, IsPlainFormatter}
 use Rattle.cyc_cli.specs.inside.Excerpt.{shown_byte}

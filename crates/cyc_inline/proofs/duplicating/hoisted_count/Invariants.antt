@@ -3,7 +3,7 @@ use Rattle.std.specs.Prelude.{filter}
 use Rattle.cyc_inline.specs.inside.Emission.{may_hoisted}
 use Rattle.cyc_inline.proofs.duplicating.hoisted_count.Given as goal
 
--- Invariant: the count equals the number of wanted instructions visited so far that may be hoisted.
+-- Invariant: the count says how many of the instructions requested for hoisting and visited so far may indeed be hoisted.
 abbrev pub invariant-loop-hoisted : goal.invariant-loop-hoisted
 invariant-loop-hoisted l = record {
   value : l.count ≡ length (filter (may_hoisted l.globals l.given_slots l.slots) (take l.hoisted-index l.wanted));

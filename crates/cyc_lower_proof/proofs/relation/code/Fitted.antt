@@ -45,7 +45,7 @@ use Rattle.cyc_lower_proof.proofs.relation.code.GivenTypes.{kinds_same, kind_mov
 -- ---- properties of a well-typed tree
 
 module _ (b : Numbering) (types : Types) where
-  -- Says that a typing context agrees with a function that has these bounds and types of locals.
+  -- Says that a typing context agrees with a function whose indices have these bounds and whose locals have these types.
   record Suits (c : Context) : Type 0 where
     functions : c.functions ≡ b.functions
     structs : c.structs ≡ types.structs
@@ -61,7 +61,7 @@ module _ (b : Numbering) (types : Types) where
   room_in c n t kind suits at same =
       omega (arith, words-there types.locals n t (ap (λ (ts : List Ty). slice_get ts n) (sym suits.variables) ∙ at), type_words t, ap words_of_kind same)
 
-  -- The number of a declared local is within the bounds.
+  -- The index of a declared local is below the number of locals that the bounds allow.
   low_in : (c : Context) (n : ℕ) (t : Ty) → Suits c → slice_get c.variables n ≡ Some t → n < b.locals
   low_in c n t suits at = omega (arith, slice_get_within c.variables n t at, suits.locals)
 
@@ -73,7 +73,7 @@ module _ (b : Numbering) (types : Types) where
   global_in c n t kind suits at same =
       omega (arith, words-there types.globals n t (ap (λ (ts : List Ty). slice_get ts n) (sym suits.globals) ∙ at), type_words t, ap words_of_kind same)
 
-  -- A variable has the kind that a pointer to it has as its target kind.
+  -- The representation kind of a variable is the kind that a pointer to this variable has for its target.
   pointed_kind : (mark : PointerKind) (t : Ty) (r : Region) (pointer : Ty) → pointer ≡ type_forms.Pointer mark t r → kind_after pointer ≡ kind_of t
   pointed_kind mark type_forms.Int r pointer is = ap kind_after is
   pointed_kind mark type_forms.Char r pointer is = ap kind_after is
@@ -134,7 +134,7 @@ module _ (b : Numbering) (types : Types) where
   looked_fits a c v suits met well_fits (inr peek) = absurd peek
 
 module _ (b : Numbering) where
-  -- The elements of an array are evaluated in a context with one more counter.
+  -- The elements of an array are evaluated in a context with one more loop counter, the one that counts these elements.
   suits_inside : (types : Types) (c : Context) (slot : ℕ) → Suits b types c → Suits b (counted types slot) (with_counter c)
   suits_inside types c slot suits = record {
     functions = suits.functions;

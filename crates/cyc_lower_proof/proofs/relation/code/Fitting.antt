@@ -1,5 +1,5 @@
--- This file states the requirements of lowering on a tree: each of its numbers denotes an existing thing, and each value has
--- room at its destination.
+-- This file states the requirements of lowering on a tree: each index in the tree denotes an existing thing, and each
+-- destination has enough words for its value.
 use Rattle.std.proofs.Common.{◌≡◌, ℕ, ◌≤◌, ◌<◌, Bool, true, false, List, [], ◌∷◌, length, Option, None, Some, slice_get}
 use Rattle.cyc_words.specs.Word.{IsWord}
 use Rattle.cyc_types.specs.declared.typed.Kind.{Kind}
@@ -26,7 +26,7 @@ use Rattle.cyc_lower_proof.proofs.slots.Widths.{given, HasRoom, HasGlobal, HasFi
 -- ---- the demands
 
 module _ (b : Numbering) (types : Types) where
-  -- Says that a variable exists and has room for a value of this kind, which is read from it or stored in it.
+  -- Says that a variable exists and has enough words for a value of this kind, which is read from the variable or stored in it.
   abbrev pub FitsPlace : Lvalue → Kind → Type 0
   FitsPlace (Local p n) kind = (n < b.locals) × HasRoom types n kind
   FitsPlace (Global n) kind = HasGlobal types n kind
@@ -69,7 +69,7 @@ module _ (b : Numbering) where
     FitsCell types (Target k a t) = (is_pointer k ≡ true) × (k ≡ given b.functions a) × (words_of_kind k ≤ operand_words (type_of a)) × Fits types a
     FitsCell types (Member k a s f t) = (is_thin k ≡ true) × HasField types s f × Fits types a
 
-    -- Says that the initial content of a new object meets the requirements of lowering.
+    -- Says that the initial values of a new object meet the requirements of lowering.
     pub FitsObject : (types : Types) → Initial → Type 0
     FitsObject types (Plain kind a) = (kind ≡ given b.functions a) × Fits types a
     FitsObject types (Fields cs) = (1 ≤ argument_count cs) × (all_passed cs ≤ MOST_BLOCK_WORDS) × FitArguments types cs
@@ -83,7 +83,7 @@ module _ (b : Numbering) where
     FitArguments types NoArguments = Unit {0}
     FitArguments types (MoreArguments c cs) = FitsConverted types c × FitArguments types cs
 
-    -- Says that the operators after a left operand with `left` words meet the requirements of lowering in a chain of type t.
+    -- Says that the operators after a left operand of `left` machine words meet the requirements of lowering in a chain of type t.
     pub FitOperations : (types : Types) → (left : ℕ) → Ty → Operations → Type 0
     FitOperations types left t NoOperations = Unit {0}
     FitOperations types left t (ThenCompute o a os) = Fits types a × FitOperations types (words_of t) t os
@@ -96,7 +96,7 @@ abbrev pub IsCounting : (scopes : Option ℕ) → Type 0
 IsCounting scopes = (place : ℕ) × (scopes ≡ Some place)
 
 module _ (b : Numbering) (types : Types) where
-  -- Says that one side of a swap of values of this kind meets the requirements of lowering.
+  -- Says that one operand of a swap of values of this kind meets the requirements of lowering.
   abbrev pub FitsSide : Side → Kind → Type 0
   FitsSide (VariableSide l t) kind = FitsPlace b types l kind
   FitsSide (CellSide x) kind = FitsCell b types x

@@ -1,5 +1,5 @@
--- While a value is passed to a waiting evaluation step, as many arrays are being filled as there are slots for counters. After a statement
--- no array is being filled.
+-- While a value is passed to a waiting evaluation step, as many arrays are being filled as there are slots for their loop counters. After
+-- a statement no array is being filled.
 use Rattle.std.proofs.Common.{length-append, ◌≡◌, ℕ, ◌+◌, Bool, true, false, List, [], ◌∷◌, length, Option, refl, arith, inl, inr}
 use Rattle.std.specs.Prelude.{option_map, not}
 use Rattle.cyc_types.specs.declared.typed.Kind.{Kind}

@@ -42,7 +42,7 @@ module _ (source : Program) where
   like_same [] = tt
   like_same (f ∷ frames) = ((f.caller.slots, refl, (λ n least. refl)), like_same frames)
 
-  -- Writing a word of a local leaves the waiting calls alike.
+  -- Writing a word of a local leaves the waiting calls equal except for the words in the slots of their locals.
   pub like_set : (frames : List Frame) (i : ℕ) (f : Frame) (slot word : ℕ) → slice_get frames i ≡ Some f → slot < base_of source f.caller.function → Like frames (set frames i (with_slot_of f slot word))
   like_set [] i f slot word at below = absurd (none-some f at)
   like_set (h ∷ frames) zero f slot word at below =
@@ -58,7 +58,7 @@ module _ (source : Program) where
       )
   like_set (h ∷ frames) (suc i) f slot word at below = ((h.caller.slots, refl, (λ n least. refl)), like_set frames i f slot word at below)
 
-  -- Writing several words of a local leaves the waiting calls alike.
+  -- Writing several words of a local leaves the waiting calls equal except for the words in the slots of their locals.
   pub like_slots : (frames : List Frame) (i : ℕ) (f : Frame) (slots : Words) → slice_get frames i ≡ Some f → ((n : ℕ) → base_of source f.caller.function ≤ n → slots n ≡ f.caller.slots n)
       → Like frames (set frames i (record f { caller = record f.caller { slots = slots } }))
   like_slots [] i f slots at same = absurd (none-some f at)

@@ -1,5 +1,5 @@
--- This file says where the code of expressions and conditions is in the code of a function. The positions between the parts of a
--- construct are existentially quantified.
+-- This file says where the code of expressions and conditions is in the code of a function. The code positions at which the
+-- pieces of code of a construct begin are existentially quantified.
 use Rattle.std.proofs.Common.{◌≡◌, ℕ, suc, ◌+◌, ◌<◌, Bool, true, false, List, [], ◌∷◌, length, Option, None, Some, zero, ◌≤◌, max, slice_get, ◌⊎◌}
 use Rattle.std.specs.Prelude.{◌==◌}
 use Rattle.cyc_types.specs.declared.typed.Kind.{Kind}
@@ -40,7 +40,8 @@ use Rattle.cyc_lower_proof.proofs.slots.Widths.{given, HasRoom, HasField, HasGlo
 use Rattle.cyc_types.specs.declared.typed.UnaryOperator.TheVariants as unary
 use Rattle.cyc_meaning.specs.FrameCount.{words_of_all}
 
--- Holds if the code at p has one instruction for each of the words, with the word's number in the globals and its slot.
+-- Holds if the code at p has one instruction for each word of a value. The instruction names the word's index among the
+-- words of the globals, and the word's slot.
 abbrev pub EachAt : (code : List Instruction) → (each : (global slot : ℕ) → Instruction) → (words first slot p q : ℕ) → Type 0
 EachAt code each zero first slot p q = p ≡ q
 EachAt code each (suc words) first slot p q = At code p (each first slot) × EachAt code each words (suc first) (suc slot) (p + 1) q
@@ -76,7 +77,8 @@ module _ (code : List Instruction) where
   abbrev pub LoadedAt : Kind → Operand → (bytes d t p q : ℕ) → Type 0
   LoadedAt kind o bytes d t p q = LoadedBy (words_of_kind kind == 1) kind o bytes d t p q
 
-  -- Holds if the code at p turns the address of the first word of a variable into the address of the variable.
+  -- Holds if the code at p turns the address of a variable's first word into the variable's address. A char
+  -- has the address of its word's last byte.
   abbrev pub LastByteAt : Kind → (d p q : ℕ) → Type 0
   LastByteAt kinds.Char d p q = At code p (instructions.Binary plain_binary.Add d (operands.Slot d) (operands.Word 3)) × (p + 1 ≡ q)
   LastByteAt kind d p q = p ≡ q
@@ -90,7 +92,7 @@ module _ (code : List Instruction) where
   BlankAt kinds.Char slot p q = At code p (instructions.Move slot (operands.Word 0)) × (p + 1 ≡ q)
   BlankAt kind slot p q = p ≡ q
 
--- Says what the code from p to q is, in a function with these bounds and types of locals, whose temporaries begin at slot t.
+-- Says which code is from p to q, in a function with these bounds on indices, these local types, and temporaries from slot t on.
 module _ (code : List Instruction) (bounds : Numbering) (types : Types) where
   -- The first proposition if the flag is true, otherwise the second proposition.
   abbrev pub EitherBy : Bool → (there otherwise : Type 0) → Type 0
@@ -271,8 +273,8 @@ module _ (code : List Instruction) (bounds : Numbering) (types : Types) where
       × At code m (instructions.Binary plain_binary.Add (t + 2) (operands.Slot (t + 2)) (operands.Word 1))
       × At code (m + 1) (instructions.Jump head) × (m + 2 ≡ q)
 
-  -- Says that the code at h fills the elements of an array. The code from h to r tests the counter, and the code from r to s evaluates
-  -- an element. The code at s runs after the last element.
+  -- Says that the code at h fills the elements of an array. The code from h to r tests the loop counter of the array, and the code
+  -- from r to s evaluates an element. The code at s runs after the last element.
   abbrev pub ElementsBy : (evaluated : Type 0) → Kind → (t d h r s q : ℕ) → Type 0
   ElementsBy evaluated kind t d h r s q =
       At code h (instructions.Branch comparisons.Equal (operands.Slot (t + 2)) (operands.Slot (t + 1)) s) × (h < s) × evaluated × FilledAt kind t h r s
@@ -352,7 +354,7 @@ module _ (code : List Instruction) (bounds : Numbering) where
         × At code m (instructions.Ask (requests.CloseDynamic o)) × (m + 1 ≡ q)
     ExpressionAt types (New OnHeap i ty) d t p q = MadeAt types i (operands.Word HEAP) d t p q
     ExpressionAt types (New AsUnique i ty) d t p q = MadeAt types i (operands.Word UNIQUE) d t p q
-    -- The region handle stays in slot t while the initial content of the new object is evaluated.
+    -- The region handle stays in slot t while the initial values of the new object are evaluated.
     ExpressionAt types (New (ByHandle a) i ty) d t p q = (m : ℕ) × ExpressionAt types a t t p m × MadeAt types i (operands.Slot t) d (suc t) m q
     ExpressionAt types (AddressOf (Local w n) ty) d t p q =
         (v : Ty) × (slice_get types.locals n ≡ Some v) × At code p (instructions.AddressOf d (slot_of (starts_of types) n) (words_of v)) × LastByteAt code (kind_of v) d (p + 1) q
@@ -510,8 +512,8 @@ module _ (code : List Instruction) (bounds : Numbering) (types : Types) where
         (f : ℕ) × (h : ℕ) × BranchesAt b f h t p × TestsAt os true t f goes × TestsAt os false t h goes
     TestsAt os fails t p goes = ⊥
 
-  -- Says that a loop with these exits and a body at position `body` is entered correctly. The loop is entered through its condition, or
-  -- by a jump to the condition after the body.
+  -- Says that a loop with these targets of `break` and `continue`, and with a body at position `body`, is entered correctly. The loop
+  -- is entered through its condition, or by a jump to the condition after the body.
   abbrev pub EntryAt : Expression → Exits → (body t test : ℕ) → Type 0
   EntryAt a exits body t test =
       BranchesAt a exits.leaving body t (continue_target exits)

@@ -1,5 +1,5 @@
--- This file says where the code of statements is in the code of a function. The positions between the parts of a statement are
--- existentially quantified.
+-- This file says where the code of statements is in the code of a function. The code positions at which the pieces of code of
+-- a statement begin are existentially quantified.
 use Rattle.std.proofs.Common.{◌≡◌, ℕ, ◌+◌, ◌<◌, List, Option, None, Some}
 use Rattle.cyc_words.specs.Word.{IsWord}
 use Rattle.cyc_types.specs.declared.typed.Kind.{Kind}
@@ -28,33 +28,33 @@ use Rattle.cyc_lower_proof.specs.inside.Lowering.{results_of}
 use Rattle.cyc_lower_proof.proofs.slots.Widths.{kind_of_result, HasRoom, HasGlobal, HasLocal}
 use Rattle.cyc_lower_proof.proofs.relation.code.Stands.{EachAt, GlobalAt, AddressAt, OverAt, BlankAt, OperandBy, ReturnedAt, ConversionAt, LoadAt, StoresAt, ExpressionAt, PlaceAt, InitialAt, PrintedAt, BroughtAt, ValueAt, BranchesAt, EntryAt, AssignmentAt, StoredAt}
 
--- Says what the code from p to q is, in a function with these bounds and types of locals, whose temporaries begin at slot t.
+-- Says which code is from p to q, in a function with these bounds on indices, these local types, and temporaries from slot t on.
 module _ (code : List Instruction) (bounds : Numbering) (types : Types) where
   -- ---- swaps
 
-  -- Holds if one side of a swap has room for a value of this kind.
+  -- Holds if one operand of a swap has enough words for a value of this kind.
   abbrev pub HasSide : Side → Kind → Type 0
   HasSide (VariableSide (Local w n) ty) kind = HasRoom types n kind
   HasSide (VariableSide (Global n) ty) kind = HasGlobal types n kind
   HasSide (CellSide x) kind = Unit {0}
 
-  -- Holds if the code at p moves the address of one side of a swap to slot t, if this side is a cell.
+  -- Holds if the code at p moves the address of one operand of a swap to slot t, if this operand is a cell.
   abbrev pub SideAt : Side → (t p q : ℕ) → Type 0
   SideAt (VariableSide l ty) t p q = p ≡ q
   SideAt (CellSide x) t p q = (o : Operand) × (c : ℕ) × (m : ℕ) × PlaceAt code bounds types x o c t p m × AddressAt code o c t m q
 
-  -- Holds if the code at p loads the words of one side of a swap into slots from d on.
+  -- Holds if the code at p loads the words of one operand of a swap into slots from d on.
   abbrev pub ReadAt : Side → Kind → (s d p q : ℕ) → Type 0
   ReadAt (VariableSide l ty) kind s d p q = LoadAt code bounds types (words_of_kind kind) l d p q
   ReadAt (CellSide x) kind s d p q = EachAt code (load_at kind s) (words_of_kind kind) 0 d p q
 
-  -- Holds if the code at p stores the words in the slots from v on in one side of a swap.
+  -- Holds if the code at p stores the words in the slots from v on in one operand of a swap.
   abbrev pub WriteAt : Side → Kind → (s v p q : ℕ) → Type 0
   WriteAt (VariableSide (Local w n) ty) kind s v p q = At code p (move_of (words_of_kind kind) (slot_of (starts_of types) n) (operands.Slot v)) × (p + 1 ≡ q)
   WriteAt (VariableSide (Global n) ty) kind s v p q = GlobalAt code (words_of_kind kind) (global_of (starts_of types) n) (operands.Slot v) p q
   WriteAt (CellSide x) kind s v p q = StoresAt code bounds types kind (words_of_kind kind) s 0 v p q
 
-  -- Holds if the code at p reads both sides of a swap, the left side first, and then writes both sides.
+  -- Holds if the code at p reads both operands of a swap, the left operand first, and then writes both operands.
   abbrev pub ExchangeAt : Kind → (left right : Side) → (t p q : ℕ) → Type 0
   ExchangeAt kind a b t p q =
       (m : ℕ) × (r : ℕ) × (s : ℕ) × ReadAt a kind t (t + 2) p m × ReadAt b kind (right_slot a t) (t + 2 + words_of_kind kind) m r
@@ -134,7 +134,7 @@ module _ (code : List Instruction) (bounds : Numbering) (types : Types) where
       × At code (p + 1) (instructions.Move t (operands.Slot (t + 2)))
       × NamedAt n kinds.Handle (operands.Slot (t + 1)) (p + 1 + 1) q
 
-  -- Says that the code of statements with these exits is at p.
+  -- Says that the code of statements is at p, given the targets of `break` and `continue` and what an exit must close.
   abbrev mutual
     pub StatementAt : Statement → Exits → (t p q : ℕ) → Type 0
     StatementAt (Block r js) exits t p q = ItemsAt js exits t p q

@@ -1,4 +1,5 @@
--- This file is about the counters of arrays that are being filled: each counter is in the slot for the index of the pointer to its array.
+-- This file is about the loop counters of arrays that are being filled: each counter is in the slot for the index of the fat pointer to
+-- its array.
 use Rattle.std.proofs.Common.{◌≡◌, ◌≢◌, ℕ, ◌+◌, ◌≤◌, Bool, List, [], ◌∷◌, length, Option, Some, slice_get, refl, ap, ◌∙◌, arith, inl, inr, length-append}
 use Rattle.std.specs.Prelude.{◌==◌, if◌then◌else◌}
 use Rattle.std.proofs.lemmas.Bool.{eqb-true, false_from_ne_true}
@@ -11,7 +12,7 @@ use Rattle.cyc_memory_relation.specs.inside.Tables.{Tables}
 use Rattle.cyc_lower_proof.proofs.relation.contents.HeldValues.{height, Holds, held, counters_of, arrays_in, AreCounted}
 use Rattle.cyc_lower_proof.proofs.relation.contents.Data.{Holds-rest, height-append}
 
--- The number of counters does not depend on the slot at which the locals end.
+-- The number of loop counters of arrays that are being filled does not depend on the slot at which the locals end.
 pub counters-many : (base : ℕ) (k : List Entry) → length (counters_of base k) ≡ length (counters_of 0 k)
 counters-many base [] = refl
 counters-many base (Needs (ConvertTo from to target) ∷ k) = counters-many base k
@@ -42,7 +43,7 @@ counters-many base (NeedsPlace TakeAddress ∷ k) = counters-many base k
 counters-many base (NeedsPlace (StoreTo peek c) ∷ k) = counters-many base k
 counters-many base (entry ∷ k) = refl
 
--- The slot of each counter comes before the first free slot.
+-- The slot of each loop counter that fills an array comes before the first free slot.
 pub counters_low : (base : ℕ) (k : List Entry) (level slot : ℕ) → slice_get (counters_of base k) level ≡ Some slot → slot ≤ height base (held k)
 counters_low base [] level slot found = absurd (none-some slot found)
 counters_low base (Needs (ConvertTo from to target) ∷ k) level slot found = counters_low base k level slot found
@@ -75,7 +76,7 @@ counters_low base (NeedsPlace TakeAddress ∷ k) level slot found = counters_low
 counters_low base (NeedsPlace (StoreTo peek c) ∷ k) level slot found = counters_low base k level slot found
 counters_low base (entry ∷ k) level slot found = absurd (none-some slot found)
 
--- Says that each array counter is in its slot.
+-- Says that each loop counter that fills an array is in its slot.
 abbrev pub CountersHold : (counters : ℕ → Option ℕ) → Words → (base : ℕ) → List Entry → Type 0
 CountersHold counters slots base k =
     (level slot : ℕ) → slice_get (counters_of base k) level ≡ Some slot → (index : ℕ) × (counters level ≡ Some index) × (slots slot ≡ index)
@@ -113,7 +114,7 @@ counters_hold t counters slots base (NeedsPlace TakeAddress ∷ k) count holds l
 counters_hold t counters slots base (NeedsPlace (StoreTo peek c) ∷ k) count holds level slot found = counters_hold t counters slots base k count holds level slot found
 counters_hold t counters slots base (entry ∷ k) count holds level slot found = absurd (none-some slot found)
 
--- If a counter of another level changes, then a counter keeps its value.
+-- If the loop counter of one array changes, then the counter of an array at another nesting level keeps its value.
 counter_other : (counters : ℕ → Option ℕ) (level index other : ℕ) → other ≢ level → (if other == level then Some index else counters other) ≡ counters other
 counter_other counters level index other apart =
     ap (λ (b : Bool). if b then Some index else counters other) (false_from_ne_true (other == level) (λ h. absurd (apart (eqb-true other level h))))
@@ -127,7 +128,7 @@ counted_before counters level index (Needs (FillElement object many at inner kin
 counted_before counters level index (Caller e ∷ k) few count = count
 counted_before counters level index (entry ∷ k) few count = counted_before counters level index k few count
 
--- If the newest stack entry is removed, then the facts about counters still hold.
+-- If the newest continuation frame is removed, then the facts about the loop counters of arrays still hold.
 pub counted_less : (counters : ℕ → Option ℕ) (a : Awaiting) (k : List Entry) → AreCounted counters (Needs a ∷ k) → AreCounted counters k
 counted_less counters (FillElement object many at inner kind b) k (now, count) = count
 counted_less counters a k count = count

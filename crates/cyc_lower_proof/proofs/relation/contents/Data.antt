@@ -56,7 +56,7 @@ contents_made objects x o below = ap content_of (slice_get_before objects x o be
 pub contents_new : (objects : List Object) (x : Object) → contents (objects ++ x ∷ []) (length objects) ≡ content_of (Some x)
 contents_new objects x = ap content_of (slice_get_last objects x)
 
--- Holds if the objects with numbers in a range contain equal values in both worlds.
+-- Holds if the objects whose indices are in a range contain equal values in both lists of objects.
 abbrev pub SameBetween : (low high : ℕ) (objects others : List Object) → Type 0
 SameBetween low high objects others = (o : ℕ) → low ≤ o → o < high → contents others o ≡ contents objects o
 
@@ -70,7 +70,7 @@ other_outside types n number many m inside there other few from to = elim (slot-
   | inr following ↦ inr (omega (arith, following, from, few))
 ]
 
--- A lookup of the number that was entered last yields its new entry.
+-- A lookup of the index that was added to a map last yields the value that was added with it.
 pub newest_there : (given : ℕ → Option ℕ) (number new : ℕ) → (if number == number then Some new else given number) ≡ Some new
 newest_there given number new = ap (λ (b : Bool). if b then Some new else given number) (eq-eqb number number refl)
 
@@ -134,7 +134,7 @@ module _ (t : Tables) where
   pub Is-same : (kind : Kind) (v : Value) (words other : Words) (p q : ℕ) → ((i : ℕ) → i < words_of_kind kind → other (q + i) ≡ words (p + i)) → Is t kind v words p → Is t kind v other q
   Is-same kind v words other p q same is = words_same t kind v words other p q same is
 
-  -- If two slot maps are equal below a height, then they hold equal values below this height.
+  -- If two maps from slots to words are equal below a height, then they hold equal values below this height.
   pub Holds-same : (slots other : Words) (base : ℕ) (vs : List Operand) → ((n : ℕ) → n < height base vs → other n ≡ slots n) → Holds t slots base vs → Holds t other base vs
   Holds-same slots other base [] same holds = tt
   Holds-same slots other base (v ∷ vs) same (is, holds) = (
@@ -142,7 +142,7 @@ module _ (t : Tables) where
     Holds-same slots other base vs (λ n below. same n (omega (arith, below))) holds,
   )
 
-  -- If two slot maps are equal from the end of the locals on, then they hold equal values there.
+  -- If two maps from slots to words are equal from the end of the locals on, then they hold equal values there.
   pub Holds-above : (slots other : Words) (base : ℕ) (vs : List Operand) → ((n : ℕ) → base ≤ n → other n ≡ slots n) → Holds t slots base vs → Holds t other base vs
   Holds-above slots other base [] same holds = tt
   Holds-above slots other base (v ∷ vs) same (is, holds) = (
@@ -196,7 +196,7 @@ module _ (t : Tables) where
     small = hold.small;
   }
 
-  -- If two slot maps are equal in the slot of a local of type char, then the word of the char is below 256 in both.
+  -- If two maps from slots to words are equal in the slot of a char local, then the char is below 256 in both.
   small_same : (types : Types) (slots other : Words) (number : ℕ) (kind : Kind) → HasRoom types number kind
       → ((m : ℕ) → slot_of (starts_of types) number ≤ m → m < slot_of (starts_of types) number + words_in types.locals number → other m ≡ slots m)
       → slots (slot_of (starts_of types) number) < 256 → other (slot_of (starts_of types) number) < 256
@@ -204,7 +204,7 @@ module _ (t : Tables) where
       let slot = slot_of (starts_of types) number in
       subst (λ (w : ℕ). w < 256) (sym (same slot (omega arith) (omega (arith, room, kind_positive kind)))) low
 
-  -- If two slot maps are equal in the slots of a local, then the local has its value in both.
+  -- If two maps from slots to words are equal in the slots of a local, then the local has its value in both.
   local_same : (types : Types) (slots other : Words) (number : ℕ) (v : Operand) → number < length types.locals → HasRoom types number v.kind
       → ((m : ℕ) → slot_of (starts_of types) number ≤ m → m < slot_of (starts_of types) number + words_in types.locals number → other m ≡ slots m)
       → Is t v.kind v.value slots (slot_of (starts_of types) number) → Is t v.kind v.value other (slot_of (starts_of types) number)
@@ -384,7 +384,7 @@ module _ (t : Tables) where
     data_same g base objects locals outer slots other globals frames same (low, below, hold, waiting, words) =
         (low, below, locals_same_slots (types_at source g) (call_slots source g base) objects locals low (length objects) slots other same hold, waiting, words)
 
-    -- Writing words after the locals preserves the data of the call.
+    -- Writing words after the slots of the locals preserves the facts about the data of the call.
     pub data_above : (g base : ℕ) (objects : List Object) (locals : ℕ → Option ℕ) (outer : List Waiting) (slots after globals : Words) (frames : List Frame) (n many : ℕ)
         → base_of source g ≤ n → ((m : ℕ) → Outside n many m → after m ≡ slots m) → DataAt source t g base objects locals outer slots globals frames → DataAt source t g base objects locals outer after globals frames
     data_above g base objects locals outer slots after globals frames n many above same facts =
@@ -468,7 +468,7 @@ module _ (t : Tables) where
               ),
         )
 
-    -- Writing words after all globals preserves the data.
+    -- Writing words after all globals preserves the facts about the data of all calls.
     pub data_after : (g base : ℕ) (objects : List Object) (locals : ℕ → Option ℕ) (outer : List Waiting) (slots globals after : Words) (frames : List Frame)
         → ((m : ℕ) → m < words_of_all (global_types source.globals) → after m ≡ globals m)
         → DataAt source t g base objects locals outer slots globals frames → DataAt source t g base objects locals outer slots after frames
@@ -539,7 +539,7 @@ module _ (t : Tables) where
       words,
     )
 
-    -- The caller still holds its values when a call returns.
+    -- When a call returns, the caller still holds in slots the intermediate values that it had computed before the call.
     pub held_by_caller : (g base : ℕ) (objects : List Object) (locals : ℕ → Option ℕ) (e : Waiting) (outer : List Waiting) (slots globals : Words) (f : Frame) (frames : List Frame)
         → DataAt source t g base objects locals (e ∷ outer) slots globals (f ∷ frames) → Holds t f.caller.slots (e.temporaries (scopes_of source) (base_of source f.caller.function)) e.values
     held_by_caller g base objects locals e outer slots globals f frames (low, below, hold, (under, less, (waits, values), waiting), words) = values

@@ -58,7 +58,7 @@ module _ (t u : Tables) (grows : Grows t u) where
     frames_grow source objects low frames outer rest,
   )
 
-  -- If the tables of objects grow, then all data are preserved.
+  -- If the tables of objects grow, then the facts about the data of all calls still hold.
   pub data_grows : (source : Program) (g base : ℕ) (objects : List Object) (locals : ℕ → Option ℕ) (outer : List Waiting) (slots globals : Words) (frames : List Frame)
       → DataAt source t g base objects locals outer slots globals frames → DataAt source u g base objects locals outer slots globals frames
   data_grows source g base objects locals outer slots globals frames (low, below, hold, waiting, words) = (

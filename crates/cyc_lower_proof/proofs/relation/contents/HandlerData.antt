@@ -20,7 +20,7 @@ record-least : (scopes : Option ℕ) (slot : ℕ) → slot + RECORD_WORDS ≤ af
 record-least None slot = omega arith
 record-least (Some place) slot = omega arith
 
--- Temporaries begin after the locals and after the tag slot.
+-- Temporaries begin after the locals and after the slot for the tag of an exception.
 following-above : (k : List Entry) (scopes : Option ℕ) (slot : ℕ) → slot < after_records k scopes slot
 following-above [] scopes slot = omega arith
 following-above (Handler handler ∷ k) scopes slot = omega (arith, following-above k scopes slot, record-least scopes (after_records k scopes slot))
@@ -48,7 +48,7 @@ record_kept None slots other slot many same kept = tt
 record_kept (Some place) slots other slot many same kept = same (omega arith) ∙ kept
 
 module _ (source : Program) where
-  -- If two slot maps are equal from the tag slot up to the temporaries, then they contain equal handler records.
+  -- If two slot maps are equal from the slot for exception tags up to the temporaries, then they contain equal handler records.
   handlers_above : (g : ℕ) (slots other : Words) (handlers : List plain.Handler) (frames : List Frame) (k : List Entry)
       → ((n : ℕ) → base_of source g < n → n < floor source g k → other n ≡ slots n) → HandlersStand source g slots handlers frames k → HandlersStand source g other handlers frames k
   handlers_above g slots other handlers frames [] same stand = absurd stand
@@ -84,7 +84,7 @@ module _ (source : Program) where
   handlers_beside g slots after handlers frames k n many below same stand =
       handlers_same g slots after handlers frames k (λ m from to. same m (inr (omega (arith, below, from)))) stand
 
-  -- Writing words after the handler records preserves the data.
+  -- Writing words after the handler records preserves the facts about the data of all calls.
   pub data_written : (t : Tables) (g base : ℕ) (objects : List Object) (locals : ℕ → Option ℕ) (k : List Entry) (slots after : Words) (handlers : List plain.Handler) (globals : Words) (frames : List Frame) (n many : ℕ)
       → floor source g k ≤ n → ((m : ℕ) → Outside n many m → after m ≡ slots m)
       → DataAt source t g base objects locals (callers k) slots globals frames × HandlersStand source g slots handlers frames k
@@ -94,7 +94,7 @@ module _ (source : Program) where
     handlers_same g slots after handlers frames k (λ m from to. same m (inl (omega (arith, to, above)))) stand,
   )
 
-  -- Writing the tag slot preserves the data.
+  -- Writing the slot for the tag of an exception preserves the facts about the data of all calls.
   pub data_reported : (t : Tables) (g base : ℕ) (objects : List Object) (locals : ℕ → Option ℕ) (k : List Entry) (slots after : Words) (handlers : List plain.Handler) (globals : Words) (frames : List Frame)
       → ((m : ℕ) → Outside (base_of source g) 1 m → after m ≡ slots m)
       → DataAt source t g base objects locals (callers k) slots globals frames × HandlersStand source g slots handlers frames k
@@ -118,7 +118,7 @@ module _ (source : Program) where
   calls_counted g slots handlers frames (CloseLexical region ∷ k) (marked, stand) = calls_counted g slots handlers frames k stand
   calls_counted g slots handlers frames (entry ∷ k) stand = calls_counted g slots handlers frames k stand
 
--- Leaving stack entries of one call does not change the number of active calls.
+-- Popping continuation frames of one call does not change the number of active calls.
 pub calls_left : (loop : Bool) (k : List Entry) → calls_in (left_by loop k) ≡ calls_in k
 calls_left loop [] = refl
 calls_left true (Loop condition body ∷ k) = refl

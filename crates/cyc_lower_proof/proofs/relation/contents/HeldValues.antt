@@ -1,4 +1,4 @@
--- This file says how slots and memory represent the state of a source run: values, objects, locals, globals and stack entries.
+-- This file says how slots and memory represent the state of a source run: values, objects, locals, globals and continuation frames.
 use Rattle.std.proofs.Common.{◌≡◌, ℕ, suc, ◌+◌, ◌*◌, ◌≤◌, ◌<◌, true, List, [], ◌∷◌, ◌++◌, length, Option, None, Some, slice_get, false, Bool}
 use Rattle.std.specs.Prelude.{◌==◌, ◌&&◌, nat_le, if◌then◌else◌}
 use Rattle.cyc_types.specs.declared.typed.Kind.{Kind}
@@ -49,7 +49,7 @@ abbrev pub words_held : List Kinded → ℕ
 words_held [] = 0
 words_held (v ∷ vs) = words_held vs + words_of_kind v.kind
 
--- The slot after a list of values; the last value of the list is in the first slots.
+-- The slot after the slots of a list of values; the last value of the list is in the first of these slots.
 abbrev pub height : ℕ → List Kinded → ℕ
 height base [] = base
 height base (v ∷ vs) = height base vs + words_of_kind v.kind
@@ -63,7 +63,7 @@ abbrev pub HoldsFrom : Tables → Words → ℕ → List Kinded → Type 0
 HoldsFrom t slots first [] = Unit {0}
 HoldsFrom t slots first (v ∷ vs) = Is t v.kind v.value slots first × HoldsFrom t slots (first + words_of_kind v.kind) vs
 
--- The values that the stack entries of the running call hold.
+-- The intermediate values that the continuation frames of the running call hold.
 abbrev pub held : List Entry → List Kinded
 held [] = []
 held (Needs (ConvertTo from to target) ∷ k) = held k
@@ -78,7 +78,7 @@ held (Needs (Store place) ∷ k) = held k
 held (Needs (StoreCell peek place) ∷ k) = record { kind = kinds.NonNull; value = place } ∷ held k
 held (Needs (Pass callee before rest) ∷ k) = before ++ held k
 held (Needs (PlaceBy initial) ∷ k) = held k
--- The region handle is held while the initial content of the new object is evaluated.
+-- The region handle is held while the initial values of the new object are evaluated.
 held (Needs (BesideHandle region) ∷ k) = record { kind = kinds.Handle; value = Handle region } ∷ held k
 held (Needs (MakePlain owner kind) ∷ k) = held k
 held (Needs (MakeFields owner before fields) ∷ k) = before ++ held k
@@ -100,13 +100,14 @@ held (NeedsPlace (SwapRight kind peek true left) ∷ k) = record { kind = kinds.
 held (NeedsPlace a ∷ k) = held k
 held (entry ∷ k) = []
 
--- The values that are still held when a value is passed on: all except a region handle that only the new object needed.
+-- The intermediate values that are still held when a value is passed to the next evaluation step: all except a region
+-- handle that only the new object needed.
 abbrev pub kept : List Entry → List Kinded
 kept (Needs (BesideHandle region) ∷ k) = kept k
 kept k = held k
 
--- The slots of the array counters of the running call, outermost first: each counter is in the slot for the index of
--- the pointer to its array.
+-- The slots of the loop counters with which the running call fills arrays, outermost first: each counter is in the
+-- slot for the index of the pointer to its array.
 abbrev pub counters_of : (base : ℕ) → List Entry → List ℕ
 counters_of base [] = []
 counters_of base (Needs (ConvertTo from to target) ∷ k) = counters_of base k
@@ -143,8 +144,7 @@ arrays_in (Needs (FillElement object count index level kind element) ∷ k) = su
 arrays_in (Caller e ∷ k) = 0
 arrays_in (entry ∷ k) = arrays_in k
 
--- Holds if the counter of each array that is being filled is found under the level of the array, for the running call and all
--- waiting calls.
+-- Holds if each array that is being filled has its loop counter under the array's nesting level, in the running call and all waiting calls.
 abbrev pub AreCounted : (ℕ → Option ℕ) → List Entry → Type 0
 AreCounted counters [] = Unit {0}
 AreCounted counters (Needs (FillElement object count index level kind element) ∷ k) =
@@ -155,7 +155,7 @@ AreCounted counters (entry ∷ k) = AreCounted counters k
 -- ---- new objects
 
 -- Says that `handle` is the handle of the region in which an object with this owner is allocated. The handle is a constant, or it is in the
--- slot before t if the newest stack entry holds it.
+-- slot before t if the newest continuation frame holds it.
 abbrev pub IsHandleOf : Owner → (handle : Operand) → (t : ℕ) → List Entry → Type 0
 IsHandleOf (InRegion region) (operands.Word n) t k = (region ≡ heap_number) × (n ≡ HEAP)
 IsHandleOf (InRegion region) (operands.Slot n) t (Needs (BesideHandle beside) ∷ k) = (region ≡ beside) × (suc n ≡ t)
@@ -188,7 +188,7 @@ abbrev pub content_of : Option Object → Option Kinded
 content_of None = None
 content_of (Some x) = content_of_cell (slice_get x.cells 0)
 
--- The value of the variable whose object has this number.
+-- The value of the variable whose object has this index in the list of objects.
 abbrev pub contents : List Object → ℕ → Option Kinded
 contents objects number = content_of (slice_get objects number)
 
@@ -197,25 +197,25 @@ pub record CallSlots : Type 0 where
   pub code : List Instruction
   pub base : ℕ
 
--- The table row of a variable of this kind in the slots from `slot` on. The variable has an address if the code takes its address. The
--- address of a char is that of the last byte of its word.
+-- The row of a variable of this kind in the table of objects; the variable is in the slots from `slot` on. The variable has an address
+-- if the code takes its address. The address of a char is that of the last byte of its word.
 abbrev pub row_of : CallSlots → (slot : ℕ) → Kind → Row
 row_of s slot kind = if is_pinned s.code slot && nat_le slots_base s.base then Placed (s.base + 4 * slot + variable_bytes kind) (kind ∷ []) else Variable
 
--- Holds if the object with this number is a char that has an address.
+-- Holds if the object with this index is a char that has an address.
 abbrev pub IsCharAt : Tables → (object : ℕ) → Type 0
 IsCharAt t object = (address : ℕ) × (slice_get t.rows object ≡ Some (Placed address (kinds.Char ∷ [])))
 
--- The table row of a local, which has the kind of the local's type and whose words have room in the local's slots.
+-- The facts about the row of a local in the table of objects: it has the kind of the local's type, and its words fit in the local's slots.
 pub record IsLocalRow (t : Tables) (types : Types) (s : CallSlots) (number object : ℕ) : Type 0 where
   pub kind : Kind
   pub room : HasRoom types number kind
   pub of_type : kind_in types.locals number ≡ kind
   pub row : slice_get t.rows object ≡ Some (row_of s (slot_of (starts_of types) number) kind)
 
--- The slots hold the locals of a call, which have these types, and whose objects are from `low` up to `high`. Each local has room in its
--- slots and has its value there. If the local has an address, then its slots are the words of its object. A char with an address has a word
--- below 256 even without a value, because a byte store keeps the other bytes of the word.
+-- The slots hold the locals of a call, which have these types, and whose objects have indices from `low` up to `high`. Each local has
+-- enough slots and has its value there. If the local has an address, then its slots are the words of its object. A char with an address has
+-- a word below 256 even without a value, because a byte store keeps the other bytes of the word.
 pub record LocalsHold (t : Tables) (types : Types) (s : CallSlots) (objects : List Object) (locals : ℕ → Option ℕ) (low high : ℕ) (slots : Words) : Type 0 where
   pub within : (number object : ℕ) → locals number ≡ Some object → (number < length types.locals) × (low ≤ object) × (object < high)
   pub apart : (number other object : ℕ) → locals number ≡ Some object → locals other ≡ Some object → number ≡ other
@@ -224,7 +224,7 @@ pub record LocalsHold (t : Tables) (types : Types) (s : CallSlots) (objects : Li
       → Is t v.kind v.value slots (slot_of (starts_of types) number) × HasRoom types number v.kind
   pub small : (number object : ℕ) → locals number ≡ Some object → IsCharAt t object → slots (slot_of (starts_of types) number) < 256
 
--- The globals have these types, and each global has room for its words and has its value in them. The words belong to the object of the
+-- The globals have these types, and each global has enough words and has its value in them. The words belong to the object of the
 -- global. The word of a char is below 256.
 abbrev pub GlobalsHold : Tables → Types → List Object → Words → Type 0
 GlobalsHold t types objects words =
@@ -263,7 +263,7 @@ callers [] = []
 callers (Caller e ∷ k) = record { locals = e.locals; temporaries = after_records k; values = held k } ∷ callers k
 callers (entry ∷ k) = callers k
 
--- Says that the property `P` holds of the newest open handler.
+-- Says that the property `P` holds of the newest open exception handler.
 abbrev pub Newest : List plain.Handler → ((index first : ℕ) → Words → List plain.Handler → Type 0) → Type 0
 Newest [] P = ⊥
 Newest (plain.Caught ∷ handlers) P = ⊥
@@ -279,7 +279,8 @@ abbrev pub IsKept : (scopes : Option ℕ) → Words → (slot many : ℕ) → Ty
 IsKept None slots slot many = Unit {0}
 IsKept (Some place) slots slot many = slots slot ≡ many
 
--- The stack entries that remain after a loop or the function is left. The handlers of these entries are the ones that stay open.
+-- The continuation frames that remain after a loop or the function is left. The exception handlers of these frames are the ones
+-- that stay open.
 abbrev pub left_by : (loop : Bool) → List Entry → List Entry
 left_by loop [] = []
 left_by loop (Loop condition body ∷ k) = if loop then k else left_by loop k
@@ -287,14 +288,14 @@ left_by loop (Caller e ∷ k) = Caller e ∷ k
 left_by loop (Main ∷ k) = Main ∷ k
 left_by loop (entry ∷ k) = left_by loop k
 
--- The stack entries without the handlers that the plain program closes at once.
+-- The continuation frames without the exception handlers that the plain program closes at once.
 abbrev pub handling : Focus → List Entry → List Entry
 handling Breaking k = left_by true k
 handling Continuing k = left_by true k
 handling (Returning v) k = left_by false k
 handling focus k = k
 
--- The numbers of the regions of variables that the stack entries name.
+-- The indices of the regions of variables that the continuation frames name.
 abbrev pub homes : List Entry → List ℕ
 homes [] = []
 homes (CloseRegion region home ∷ k) = region ∷ home ∷ homes k

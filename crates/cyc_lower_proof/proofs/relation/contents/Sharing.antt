@@ -1,5 +1,5 @@
--- This file proves that the shared state is preserved while variables are declared and assigned, and while regions of variables open and
--- close. The tables get a row or an entry, and the store is unchanged.
+-- This file proves that declaring and assigning variables, and opening and closing their regions, preserves the invariant that source
+-- run and lowered run share. The tables of objects get a row or an entry, and the heap store is unchanged.
 use Rattle.std.proofs.Common.{◌≡◌, ℕ, List, ◌∷◌, length, Option, None, Some, slice_get, ◌≤◌, refl, sym, ap, subst, ◌∙◌, arith}
 use Rattle.cyc_words.proofs.Lists.{slice_get_last}
 use Rattle.cyc_types.specs.declared.typed.Kind.{Kind}
@@ -26,7 +26,7 @@ use Rattle.cyc_lower_proof.proofs.relation.places.Known.{IsVariableRow, row-away
 use Rattle.cyc_lower_proof.specs.inside.Slots.{global_types}
 
 module _ (source : Program) (pages calls : ℕ) (k : List Entry) (e : Environment) (w : World) (c : Configuration) (s : SharedAt source pages calls k e w c) where
-  -- The shared state is preserved when a variable is declared with this table row.
+  -- The invariant that source run and lowered run share is preserved when a variable is declared with this row in the table of objects.
   abbrev pub shared_declared : (n : ℕ) (r : Region) (kind : Kind) (content : Option Value) (row : Row) → slice_get w.regions e.home ≡ Some r → HasKinds (variable e.home kind content).cells row → IsOfVariable row
       → SharedAt source pages calls k (with_local e n (length w.objects)) (made w (variable e.home kind content)) c
   shared_declared n r kind content row there fits outside = record {
@@ -42,11 +42,11 @@ module _ (source : Program) (pages calls : ℕ) (k : List Entry) (e : Environmen
     counters = s.counters;
   }
 
-  -- After a declaration, the row of the declared variable is the last row of the table.
+  -- After a declaration, the row of the declared variable is the last row of the table of objects.
   pub row_declared : (row : Row) → slice_get (with_row s.tables row).rows (length w.objects) ≡ Some row
   row_declared row = ap (slice_get (with_row s.tables row).rows) (sym s.related.rows) ∙ slice_get_last s.tables.rows row
 
-  -- The shared state is preserved when a variable is assigned.
+  -- The invariant that source run and lowered run share is preserved when a variable is assigned.
   abbrev pub shared_written : (object : ℕ) (at : Located) (v : Value) → slice_get w.objects object ≡ Some at.object → slice_get at.object.cells 0 ≡ Some at.cell
       → IsVariableRow s.tables (global_types source.globals) object → SharedAt source pages calls k e (written w object 0 at v) c
   shared_written object at v there cell row = record {
@@ -62,7 +62,7 @@ module _ (source : Program) (pages calls : ℕ) (k : List Entry) (e : Environmen
     counters = s.counters;
   }
 
-  -- The shared state is preserved when a global is written.
+  -- The invariant that source run and lowered run share is preserved when a global is written.
   abbrev pub shared_beside : (globals : Words) → SharedAt source pages calls k e w (record c { globals = globals })
   shared_beside globals = record {
     tables = s.tables;
@@ -77,7 +77,8 @@ module _ (source : Program) (pages calls : ℕ) (k : List Entry) (e : Environmen
     counters = s.counters;
   }
 
-  -- The shared state is preserved when a block opens its region and pushes the stack entry that closes the region.
+  -- The invariant that source run and lowered run share is preserved when a block opens its region and pushes the
+  -- continuation frame that closes it.
   abbrev pub shared_opened : SharedAt source pages calls (region_end e w ∷ k) (inside e w) (opened w) c
   shared_opened = record {
     tables = with_handle s.tables None;
@@ -118,7 +119,7 @@ shared_closed source closing pages calls k e w c number home r there s = record 
     same : scopes w.regions ≡ scopes (closed w number r).regions
     same = sym (scopes-same s.related.regions) ∙ scopes-same after.regions
 
--- When lexical regions are about to be left, the source may close them one by one, and the store still has them.
+-- When lexical regions are about to be left, the source run may close them one by one while the heap store still has them open.
 abbrev pub shared_ahead : (source : Program) (closing : Option ℕ) (pages calls : ℕ) (k : List Entry) (e : Environment) (w : World) (c : Configuration)
     → ((mark : ℕ) → closing ≡ Some mark → HasScopes (scopes_of source)) → SharedAt source pages calls k e w c → SharedBy source closing pages calls k e w c
 shared_ahead source closing pages calls k e w c known s = record {
@@ -150,7 +151,7 @@ shared_ahead source closing pages calls k e w c known s = record {
     counted None there = s.counters.1
     counted (Some mark) there = (there mark refl, s.related.sound, omega (arith, scopes-same s.related.regions))
 
--- The shared state is preserved when an exception leaves a call.
+-- The invariant that source run and lowered run share is preserved when an exception leaves a call.
 abbrev pub shared_left : (source : Program) (closing : Option ℕ) (pages calls : ℕ) (k : List Entry) (e outer : Environment) (w : World) (c : Configuration) → SharedBy source closing pages calls (Caller outer ∷ k) e w c
     → SharedBy source closing pages calls k outer w c
 shared_left source closing pages calls k e outer w c s = record {
@@ -166,7 +167,7 @@ shared_left source closing pages calls k e outer w c s = record {
   counters = s.counters;
 }
 
--- The shared state is preserved when a stack entry is removed.
+-- The invariant that source run and lowered run share is preserved when a continuation frame is removed.
 abbrev pub shared_less : (source : Program) (closing : Option ℕ) (pages calls : ℕ) (a : Awaiting) (k : List Entry) (e : Environment) (w : World) (c : Configuration) → SharedBy source closing pages calls (Needs a ∷ k) e w c
     → SharedBy source closing pages calls k e w c
 shared_less source closing pages calls a k e w c s = record {

@@ -1,4 +1,4 @@
--- No memory word belongs to two live variables: globals and the locals of active calls do not overlap.
+-- No memory word belongs to two live variables, because globals and the locals of active calls do not overlap.
 use Rattle.std.proofs.Common.{◌≡◌, ◌≢◌, ℕ, zero, suc, ◌+◌, ◌*◌, ◌<◌, ◌≤◌, true, List, [], ◌∷◌, length, Option, None, Some, slice_get, sym, ap, subst, ◌∙◌, arith, inl, inr}
 use Rattle.std.proofs.lemmas.Bool.{cases_eq, cases_lt}
 use Rattle.std.proofs.lemmas.Option.{same_Some, none-some}
@@ -98,7 +98,7 @@ module _ (source : Program) {t : Tables} {w : World} {store : StoreState} {local
   above_other i j f h slot other bytes more low at there less pinned same =
       absurd (omega (arith, same, low, frames_below lowered g base frames i j f h names.lie at there less, pinned-inside lowered names.well f.caller.function slot pinned))
 
-  -- Globals are at lower addresses than the store, and slots are at higher addresses.
+  -- Globals are at lower addresses than the heap store, and the slots of calls are at higher addresses.
   before_slots : (i : ℕ) (f : Frame) → slice_get frames i ≡ Some f → slots_base ≤ f.caller.base
   before_slots i f at = omega (arith, below-waiting lowered g base frames i f names.lie at, low)
 

@@ -1,4 +1,4 @@
--- This file says where globals are: one after the other, at lower addresses than the store.
+-- This file says where globals are in memory: one after the other, at lower addresses than the heap store.
 use Rattle.std.proofs.Common.{◌≡◌, ℕ, zero, suc, ◌+◌, ◌*◌, ◌<◌, ◌≤◌, List, [], ◌∷◌, length, None, Some, refl, ap, inl, arith}
 use Rattle.std.specs.Prelude.{slice_get, unwrap_or}
 use Rattle.std.proofs.lemmas.List.{length-map}
@@ -21,7 +21,7 @@ use Rattle.cyc_lower_proof.proofs.slots.Slots.{global-room}
 use Rattle.cyc_lower_proof.proofs.relation.places.Known.{IsGlobalRow, first_word}
 use Rattle.cyc_lower_proof.specs.inside.ValueCode.{variable_bytes}
 
--- The table rows of globals whose words begin at word `first`.
+-- The rows of globals in the table of objects, if the words of these globals begin at word `first`.
 abbrev pub rows_from : (first : ℕ) → List GlobalVariable → List Row
 rows_from first [] = []
 rows_from first (g ∷ globals) = Placed (GLOBALS_BASE + 4 * first + variable_bytes (kind_of g.of_type)) (kind_of g.of_type ∷ []) ∷ rows_from (first + words_of g.of_type) globals
@@ -53,7 +53,7 @@ module _ (source : Program) (few : words_of_all (global_types source.globals) �
   types_many : length (global_types source.globals) ≡ length source.globals
   types_many = length-map source.globals (λ (g : GlobalVariable). g.of_type)
 
-  -- the words of a global end before the store begins
+  -- the words of a global end at lower addresses than the heap store
   before_store : (number : ℕ) (g : GlobalVariable) → slice_get source.globals number ≡ Some g
       → GLOBALS_BASE + 4 * (first_word (global_types source.globals) number + words_of_kind (kind_of g.of_type)) ≤ 536870912
   before_store number g there =

@@ -1,5 +1,5 @@
--- This file is about the targets of pointers. Each object with an address belongs to the store or is a global, and its words are
--- consecutive from one address on.
+-- This file is about the targets of pointers. Each object with an address belongs to the heap store or is a global, and its
+-- words are consecutive from one address on.
 use Rattle.std.proofs.Common.{◌≡◌, ℕ, ◌+◌, ◌*◌, ◌<◌, ◌≤◌, List, [], ◌∷◌, length, Some, sym, ap, subst, ◌∙◌, inl, inr, arith}
 use Rattle.std.specs.Prelude.{◌⊎◌, slice_get, unwrap_or, ◌%◌, ◌^◌}
 use Rattle.cyc_types.specs.declared.typed.Kind.{Kind}
@@ -24,11 +24,11 @@ use Rattle.cyc_words.proofs.Options.{same_from_some}
 use Rattle.cyc_words.proofs.Items.{below_from_slice_get}
 use Rattle.cyc_lower_proof.specs.inside.ValueCode.{address_of_global, variable_bytes}
 
--- The number of the first word of a global, given the types of all globals.
+-- The index of the first word of a global among the words of all globals, given the types of all globals.
 abbrev pub first_word : List Ty → (number : ℕ) → ℕ
 first_word globals number = unwrap_or (slice_get (starts_from 0 globals) number) 0
 
--- The table row of a global, whose words end before the store begins.
+-- The row of a global in the table of objects; the words of the global end before the heap store begins.
 pub record IsGlobalRow (t : Tables) (globals : List Ty) (number : ℕ) : Type 0 where
   pub kind : Kind
   pub row : slice_get t.rows number ≡ Some (Placed (GLOBALS_BASE + 4 * first_word globals number + variable_bytes kind) (kind ∷ []))
@@ -39,19 +39,19 @@ pub record IsGlobalRow (t : Tables) (globals : List Ty) (number : ℕ) : Type 0 
 pub global-row_grows : (t u : Tables) → Grows t u → (globals : List Ty) (number : ℕ) → IsGlobalRow t globals number → IsGlobalRow u globals number
 global-row_grows t u grows globals number r = record { kind = r.kind; row = grows.rows number (Placed (GLOBALS_BASE + 4 * first_word globals number + variable_bytes r.kind) (r.kind ∷ [])) r.row; room = r.room; of_type = r.of_type; low = r.low }
 
--- The table row of a variable in a slot, at a higher address than the store.
+-- The row, in the table of objects, of a variable that is in a slot, at a higher address than the heap store.
 pub record IsSlotRow (t : Tables) (number : ℕ) : Type 0 where
   pub address : ℕ
   pub kind : Kind
   pub row : slice_get t.rows number ≡ Some (Placed address (kind ∷ []))
   pub following : slots_base ≤ address
 
--- Says that a table row is that of a variable: a global, a local, or a variable without an address.
+-- Says that a row of the table of objects is that of a variable: a global, a local, or a variable without an address.
 abbrev pub IsVariableRow : Tables → (globals : List Ty) → (number : ℕ) → Type 0
 IsVariableRow t globals number = (slice_get t.rows number ≡ Some Variable) ⊎ (IsGlobalRow t globals number ⊎ IsSlotRow t number)
 
 module _ {t : Tables} {w : World} {s : StoreState} (related : Related t w s) (globals : List Ty) where
-  -- An object whose table row is that of a variable was created.
+  -- An object whose row in the table of objects is that of a variable has been created.
   pub row-made_there : (number : ℕ) → IsVariableRow t globals number → number < length w.objects
   row-made_there number (inl row) = subst (λ n. number < n) related.rows (below_from_slice_get t.rows number Variable row)
   row-made_there number (inr (inr r)) = subst (λ n. number < n) related.rows (below_from_slice_get t.rows number (Placed r.address (r.kind ∷ [])) r.row)

@@ -1,4 +1,4 @@
--- This file is about the targets of pointers: a cell that exists belongs to the store, to a global, or to a local of an active call.
+-- This file is about the targets of pointers: a cell that exists belongs to the heap store, to a global, or to a local of an active call.
 use Rattle.std.proofs.Common.{◌≡◌, ℕ, ◌+◌, ◌<◌, true, List, length, Option, Some, slice_get, inl, inr}
 use Rattle.cyc_types.specs.TypedTrees.{Program}
 use Rattle.cyc_store.specs.State.{StoreState}
@@ -17,7 +17,7 @@ use Rattle.cyc_lower_proof.proofs.relation.contents.HeldValues.{Waiting}
 use Rattle.cyc_lower_proof.proofs.relation.simulation.Stacks.{code_of, types_at}
 use Rattle.cyc_lower_proof.proofs.relation.simulation.Shared.{silent}
 
--- Says that an object is a live variable: a global, or a local of the running call or of a waiting call.
+-- Says that an object is the object of a live variable: a global, or a local of the running call or of a waiting call.
 pub data IsNamed (globals : ℕ) (locals : ℕ → Option ℕ) (outer : List Waiting) (object : ℕ) : Type 0 where
   is_global : object < globals → IsNamed globals locals outer object
   is_local : (number : ℕ) → locals number ≡ Some object → IsNamed globals locals outer object
@@ -29,11 +29,11 @@ pub record AreNamed (source : Program) (locals : ℕ → Option ℕ) (outer : Li
   pub named : (t : Tables) → objects.Related t (silent w) store → (object : ℕ) (x : Object) → LiveVariable t (silent w) object x → IsNamed (length (global_types source.globals)) locals outer object
   pub lie : AreBelow (lower_program source) g base frames
   pub well : IsWellFormed (lower_program source)
-  -- If the first slot of a local has an address, then each slot of the local has an address.
+  -- If the code takes the address of the first slot of a local, then each slot of the local has an address.
   pub whole : (n number j : ℕ) → number < length (types_at source n).locals → j < words_in (types_at source n).locals number → is_pinned (code_of source n) (slot_of (starts_of (types_at source n)) number) ≡ true
       → is_pinned (code_of source n) (slot_of (starts_of (types_at source n)) number + j) ≡ true
 
--- The memory to which a pointer points: the store, a global or a local of an active call.
+-- The memory to which a pointer points: the heap store, a global or a local of an active call.
 pub data Leads (source : Program) (t : Tables) (w : World) (locals : ℕ → Option ℕ) (outer : List Waiting) (object : ℕ) (x : Object) : Type 0 where
   to_store : (h : ℕ) → Alive t (silent w) object h x → Leads source t w locals outer object x
   to_variable : IsNamed (length (global_types source.globals)) locals outer object → Leads source t w locals outer object x

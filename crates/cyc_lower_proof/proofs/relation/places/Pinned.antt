@@ -1,5 +1,5 @@
--- The slots whose addresses are taken are those of whole locals: no temporary, handler record, saved region count or counter
--- has an address.
+-- The slots whose addresses are taken are those of complete locals. No temporary, handler record, saved region count or loop
+-- counter of an array has an address.
 use Rattle.std.proofs.Common.{◌≡◌, ℕ, zero, suc, ◌+◌, ◌<◌, ◌≤◌, true, false, List, [], ◌∷◌, map, Some, slice_get, sym, ap, ◌∙◌, arith, inl, inr}
 use Rattle.std.specs.Prelude.{◌&&◌, nat_le, nat_lt, slice_index_or}
 use Rattle.std.specs.List.{AllByRecursion}

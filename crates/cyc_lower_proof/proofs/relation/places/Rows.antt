@@ -1,5 +1,5 @@
--- This file is about the table rows of locals. If the code takes the address of a local, then the local is at the address
--- of its slots, which is higher than the store.
+-- This file is about the rows of locals in the table of objects. If the code takes the address of a local, then the local
+-- is at the address of its slots, which is higher than the store.
 use Rattle.std.proofs.Common.{◌≡◌, ℕ, ◌+◌, ◌*◌, ◌<◌, ◌≤◌, Bool, true, false, List, [], ◌∷◌, length, Option, Some, refl, sym, ap, subst, ◌∙◌, inl, inr, arith}
 use Rattle.std.specs.Prelude.{◌&&◌, nat_le, slice_get}
 use Rattle.std.proofs.lemmas.Bool.{cond-true, cond-false, and_parts, and_from, leb-true, le-leb}
@@ -54,7 +54,7 @@ module _ (s : CallSlots) (slot : ℕ) (kind : Kind) where
       go true is = subst IsOfVariable (sym (row-stands is)) (inr (omega (arith, following is)))
       go false is = subst IsOfVariable (sym (row-nowhere is)) tt
 
--- If a table row is that of a char with an address, then the kind of the local is `Char`.
+-- If a row of the table of objects is that of a char with an address, then the kind of the local is `Char`.
 pub char_row : (t : Tables) (s : CallSlots) (slot : ℕ) (kind : Kind) (object : ℕ) → slice_get t.rows object ≡ Some (row_of s slot kind) → IsCharAt t object → kind ≡ kinds.Char
 char_row t s slot kind object there (address, is) = go (stands_in s slot) refl
   where
@@ -78,7 +78,7 @@ char_cell related object x c there cell (address, row) =
     let kinds : kinds.Char ∷ [] ≡ kinds_of x.cells = related.shapes object address (kinds.Char ∷ []) x there row in
     same_from_some (sym (slice_get-map (λ (z : Cell). z.kind) x.cells 0 c cell) ∙ ap (λ (ks : List Kind). slice_get ks 0) (sym kinds))
 
--- The table row of a local is the row of a variable.
+-- The row of a local in the table of objects is the row of a variable.
 pub local-row : {t : Tables} {types : Types} {s : CallSlots} {number object : ℕ} (globals : List Ty) → IsLocalRow t types s number object → IsVariableRow t globals object
 local-row {t} {types} {s} {number} {object} globals r = go (stands_in s slot) refl
   where
@@ -126,7 +126,7 @@ module _ {t : Tables} {types : Types} {s : CallSlots} {number object offset word
       let address : ℕ = s.base + 4 * slot + variable_bytes r.kind in
       (address, placed ∙ ap (λ (i : Kind). Some (Placed address (i ∷ []))) char)
 
-  -- The kind in a local's table row is the kind of the local's cell.
+  -- The kind in a local's row of the table of objects is the kind of the local's cell.
   pub local-kind : {kind : Kind} → slice_get points.kinds offset ≡ Some kind → r.kind ≡ kind
   local-kind {kind} there =
       let (address, kinds) = same-row points.row placed in

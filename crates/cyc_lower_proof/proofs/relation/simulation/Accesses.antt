@@ -18,7 +18,7 @@ use Rattle.cyc_lower_proof.proofs.relation.contents.HeldValues.{with_kind, conte
 abbrev pub IsWell : State → Type 0
 IsWell s = status_in (status_of s) ≡ Failed → ⊥
 
--- A check in a step without a fault has succeeded.
+-- If a step that makes a check ends without a fault, then the check has succeeded.
 pub is_fitting : (fits : Bool) (s : State) (w : World) → IsWell (if fits then s else wrong w) → fits ≡ true
 is_fitting true s w well = refl
 is_fitting false s w well = absurd (well refl)
@@ -100,7 +100,7 @@ is_stored number v focus stack e w well =
     let (at, object_there, cell_there, same, gives) = store_into (slice_get w.objects number) number v focus stack e w well in
     record { at = at; object_there = object_there; cell_there = cell_there; same = same; gives = gives }
 
--- The contents of the objects after a variable has been written.
+-- The values stored in the objects after a variable has been written.
 module _ (w : World) (number : ℕ) (at : Located) (v : Value) (object_there : slice_get w.objects number ≡ Some at.object) (cell_there : slice_get at.object.cells 0 ≡ Some at.cell) where
   pub written_here : (kind : Kind) → at.cell.kind ≡ kind → contents (written w number 0 at v).objects number ≡ Some (record { kind = kind; value = v })
   written_here kind same =

@@ -1,4 +1,4 @@
--- This file says how a step of the source is matched, as far as all cases have it in common.
+-- This file says how the plain program matches a step of the source, as far as all kinds of steps have it in common.
 use Rattle.std.proofs.Common.{◌≡◌, ◌≢◌, ℕ, suc, ◌≤◌, ◌<◌, Bool, true, false, List, [], ◌∷◌, length, Option, None, Some, slice_get, refl, sym, ap, subst, ◌∙◌, arith}
 use Rattle.std.specs.Prelude.{Contains, if◌then◌else◌}
 use Rattle.std.specs.List.{AllByRecursion}
@@ -58,7 +58,8 @@ module _ (source : Program) where
   by_prints (prints_only stack) first second = first stack
   by_prints (gives_byte d at stack) first second = second d stack
 
-  -- Says that both machines have equal output and input and that the plain machine is within the limits of pages and calls.
+  -- Says that source machine and plain machine have equal output and input, and that the plain machine is within the limits
+  -- of pages and calls.
   abbrev pub Inside : (pages calls : ℕ) → World → Configuration → Type 0
   Inside pages calls w c = (showing c.output c.input ≡ seen_in w) × (demand c.store ≤ pages) × (suc (length c.frames) ≤ calls) × (demand_of (counted w.regions) w.classes ≤ pages)
 
@@ -83,7 +84,7 @@ module _ (source : Program) where
 
   -- ---- active calls
 
-  -- The open handlers determine the number of calls, frame by frame.
+  -- The open exception handlers determine the number of calls, continuation frame by continuation frame.
   counted_in : (t : Tables) (slots : Words) (handled k : List Entry) (e : Environment) (w : World) (c : Configuration) → calls_in handled ≡ calls_in k → DataFor source t slots handled k e w c → calls_in k ≡ suc (length c.frames)
   counted_in t slots handled k e w c same facts = sym same ∙ calls_counted source c.active.function slots c.active.handlers c.frames handled facts.1
 
@@ -153,7 +154,7 @@ module _ (source : Program) (pages calls : ℕ) where
   limited_by true x y e = refl
   limited_by false x y e = absurd (let f : false ≡ true = e in cc)
 
-  -- A step that leads to a matched state stays within the limits of pages and calls.
+  -- A source step that leads to a state which a plain state matches stays within the limits of pages and calls.
   pub steps_to : (s next : State) (t : plain.State) → step source s ≡ next → Matches source pages calls next t → next ≡ limited_step source pages calls s
   steps_to s next t does m =
       sym (limited_by (is_within pages calls (step source s)) (step source s) (Ended Full (output_of s) (input_of s)) (ap (is_within pages calls) does ∙ matches_within next t m) ∙ does)
@@ -217,7 +218,7 @@ module _ (source : Program) (pages calls : ℕ) where
         subst (Executes s next places) (sym is) (goes choice),
   )
 
-  -- After at least one instruction, the step of the source is matched.
+  -- After at least one instruction of the plain program, the step of the source is matched.
   matched_at_end : (s next : State) (p : CodePlace) (all places : List CodePlace) (t : plain.State) → step source s ≡ next
       → Executes s next places t → Comes below (IsOnTheWay above below s) (IsMatchedStep above below matching s (p ∷ all)) places t
   matched_at_end s next p all [] t does m = record {
@@ -238,7 +239,7 @@ module _ (source : Program) (pages calls : ℕ) where
     comes = matched_at_end s next p places (p ∷ places) t does comes;
   }
 
-  -- The plain states between two matched states, while the shared state is unchanged.
+  -- The plain states between two matched states, while the invariant that source run and plain run share is unchanged.
   pub shared_way : (focus : Focus) (k : List Entry) (e : Environment) (w : World) (c : Configuration) → SharedAt source pages calls k e w c → IsOnTheWay above below (Running focus k e w) (plain.Running c)
   shared_way focus k e w c shared = way_before above below matching (Running focus k e w) (plain.Running c) refl (shared_seen shared)
 

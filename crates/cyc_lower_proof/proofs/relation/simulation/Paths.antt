@@ -27,7 +27,7 @@ pub record Link : Type 0 where
   pub instruction : Instruction
   pub following : Configuration
 
--- Says that between two configurations nothing is printed or read, and that the use of pages and calls is unchanged.
+-- Says that between two configurations nothing is printed or read, and that the page use and the number of calls are unchanged.
 pub record IsQuiet (c d : Configuration) : Type 0 where
   pub seen : plain.seen_of (plain.Running d) ≡ plain.seen_of (plain.Running c)
   pub demand : demand d.store ≡ demand c.store
@@ -41,7 +41,7 @@ abbrev pub end_of : Configuration → List Link → Configuration
 end_of c [] = c
 end_of c (l ∷ links) = end_of l.following links
 
--- The end of two joined paths is the end of the second path, which continues from the end of the first.
+-- The end of two joined paths of instructions is the end of the second path, which continues from the end of the first.
 pub end_joined : (c : Configuration) (first rest : List Link) → end_of c (first ++ rest) ≡ end_of (end_of c first) rest
 end_joined c [] rest = refl
 end_joined c (l ∷ first) rest = end_joined l.following first rest

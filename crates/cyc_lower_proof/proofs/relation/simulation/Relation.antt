@@ -49,9 +49,9 @@ use Rattle.cyc_lower_proof.proofs.relation.simulation.Stacks.{CallAt, ValueStack
 module _ (source : Program) where
   -- ---- the focus
 
-  -- The right operand is in an operand of the plain program, and the left operand is unchanged where it was. The code from position p
-  -- on uses both operands, and then executes the waiting stack entries. A right operand may become the left operand of the next
-  -- operator, or the value of a chain.
+  -- The value of the right operand is in an operand of the plain program, and the left operand is unchanged where it was. The code
+  -- from position p on uses both operands, and then executes the waiting continuation frames. A right operand may become the left
+  -- operand of the next operator, or the value of a chain.
   abbrev pub BesideAt : Tables → (ℕ → Option ℕ) → (g : ℕ) → Operand → (p : ℕ) → Words → List Frame → List Entry → Type 0
   BesideAt t locals g o p slots frames (Needs (Apply operator left) ∷ k) =
       (l : Operand) × IsIn t left slots l × IsLow l (top source g k)
@@ -73,12 +73,12 @@ module _ (source : Program) where
       At (code_of source g) p (unary_instruction operator (top source g k) o) × BesideAt t locals g (operands.Slot (top source g k)) (p + 1) slots frames k
   BesideAt t locals g o p slots frames k = ⊥
 
-  -- Says that the code of a simple right operand is at p.
+  -- Says that the code of a right operand whose evaluation has no effect is at p.
   abbrev pub RightAt : Tables → Expression → (ℕ → Option ℕ) → (g p : ℕ) → Words → List Frame → List Entry → Type 0
   RightAt t a locals g p slots frames k =
       (r : Operand) × (q : ℕ) × (is_simple (starts_on source g k) a ≡ true) × ValueAt (code_of source g) (bounds_at source g) (types_on source g k) a (top source g k) r p q × BesideAt t locals g r q slots frames k
 
-  -- Says that the right operand has been evaluated.
+  -- Says that the right operand of an operator has been evaluated.
   abbrev pub ReadyAt : Tables → Kinded → (ℕ → Option ℕ) → (g p : ℕ) → Words → List Frame → List Entry → Type 0
   ReadyAt t v locals g p slots frames k = (r : Operand) × IsIn t v slots r × BesideAt t locals g r p slots frames k
 
@@ -90,7 +90,7 @@ module _ (source : Program) where
       × PlaceStack source g locals (reached_operand (option_map bytes_of_kind target) n (top source g k)) 0 q frames k
   PartsAt t v locals g p slots frames k = ⊥
 
-  -- Says that the code of an expression is at p, by the kind of destination of its value.
+  -- Says that the code of an expression is at p; the cases differ in the destination of the expression's value.
   pub data EvaluatingAt (t : Tables) (a : Expression) (locals : ℕ → Option ℕ) (g p : ℕ) (slots : Words) (frames : List Frame) (k : List Entry) : Type 0 where
     as_operand : (o : Operand) → (q : ℕ) → ValueAt (code_of source g) (bounds_at source g) (types_on source g k) a (top source g k) o p q → Holds t slots (floor source g k) (held k)
         → ValueStack source g locals (given_at source g a) o q frames k → EvaluatingAt t a locals g p slots frames k
@@ -173,8 +173,8 @@ module _ (source : Program) where
 
   -- ---- states
 
-  -- The condition on the counters of arrays and on the open lexical regions. It compares the number of regions that stack entries close
-  -- with the number that the source has open.
+  -- The condition on the loop counters of arrays and on the open lexical regions. It compares the number of regions that continuation
+  -- frames close with the number that the source has open.
   abbrev pub ScopesBy : (closing : Option ℕ) → StoreState → (ended now : ℕ) → Type 0
   ScopesBy None store ended now = MayBeOpen (scopes_of source) ended
   ScopesBy (Some mark) store ended now = IsAhead (scopes_of source) store now
@@ -182,7 +182,7 @@ module _ (source : Program) where
   abbrev pub CountsBy : (closing : Option ℕ) → Environment → List Entry → StoreState → (now : ℕ) → Type 0
   CountsBy closing e k store now = AreCounted e.counters k × ScopesBy closing store (scopes_in k) now
 
-  -- The shared state, while lexical regions are being left and at all other times.
+  -- The invariant that source run and plain run share, while lexical regions are being left and at all other times.
   abbrev pub SharedBy : (closing : Option ℕ) → (pages calls : ℕ) → List Entry → Environment → World → Configuration → Type 0
   SharedBy closing pages calls k e w c =
       Shared pages calls w (e.home ∷ homes k) (CountsBy closing e k c.store (scopes w.regions)) c.output c.input (store_by closing c.store (scopes w.regions)) (length c.frames)
@@ -190,15 +190,15 @@ module _ (source : Program) where
   abbrev pub SharedAt : (pages calls : ℕ) → List Entry → Environment → World → Configuration → Type 0
   SharedAt pages calls k e w c = SharedBy None pages calls k e w c
 
-  -- Says that a handler catches an exception at this code position: its instruction opened the handler, and
-  -- the code of its clauses ends at the continuation.
+  -- Says that a handler catches an exception at this code position: the instruction at this position opened
+  -- the handler, and the code of its clauses ends at the continuation.
   abbrev pub CatchesAt : (g : ℕ) → Clauses → (index : ℕ) → List Frame → List Entry → Type 0
   CatchesAt g handler index frames k =
       (exits : Exits) × (m : ℕ) × (p : ℕ) × (out : ℕ) × (q : ℕ) × At (code_of source g) index (instructions.Try (floor source g k) m)
       × RestoredAt (code_of source g) (bounds_at source g) (types_at source g) (scopes_of source) (floor source g k + RECORD_WORDS) m p
       × ClausesAt (code_of source g) (bounds_at source g) (types_at source g) handler out exits (floor source g k) p q × At (code_of source g) out (instructions.Jump q) × StatementStack source g exits q frames k
 
-  -- Says that the plain machine has one open handler, with its record, for each handler entry of the running call and of the waiting
+  -- Says that the plain machine has one open handler, with its record, for each handler frame of the running call and the waiting
   -- calls. For each lexical region, a slot saves the number of regions that were open before it.
   abbrev pub HandlersStand : (g : ℕ) → Words → List plain.Handler → List Frame → List Entry → Type 0
   HandlersStand g slots handlers frames [] = ⊥
@@ -211,7 +211,8 @@ module _ (source : Program) where
   HandlersStand g slots handlers frames (CloseLexical region ∷ k) = (slots (floor source g k) ≡ scopes_in k) × HandlersStand g slots handlers frames k
   HandlersStand g slots handlers frames (entry ∷ k) = HandlersStand g slots handlers frames k
 
-  -- The data of the running call and of the waiting calls, given the slots of the running call and the stack entries of its handlers.
+  -- The facts about the data of the running call and the waiting calls, given the running call's slots and the continuation frames of
+  -- its handlers.
   abbrev pub DataFor : Tables → (slots : Words) → (handled k : List Entry) → Environment → World → Configuration → Type 0
   DataFor t slots handled k e w c =
       DataAt source t c.active.function c.active.base w.objects e.locals (callers k) slots c.globals c.frames × HandlersStand c.active.function slots c.active.handlers c.frames handled
@@ -219,7 +220,7 @@ module _ (source : Program) where
   abbrev pub DataIn : Tables → (slots : Words) → List Entry → Environment → World → Configuration → Type 0
   DataIn t slots k e w c = DataFor t slots k k e w c
 
-  -- The data of all calls, except for the slots of one local, whose earlier words are given.
+  -- The facts about the data of all calls, except for the slots of one local, whose earlier words are given.
   abbrev pub DataBut : Tables → (n words : ℕ) → List Entry → Environment → World → Configuration → Type 0
   DataBut t n words k e w c = (old : Words) × ((m : ℕ) → Outside n words m → old m ≡ c.active.slots m) × DataIn t old k e w c
 
@@ -234,8 +235,8 @@ module _ (source : Program) where
       (comparison : Comparison) × (l : Operand) × (r : Operand) × (target : ℕ) × At (code_of source c.active.function) c.active.next (instructions.Branch comparison l r target)
       × ((if compares comparison (operand_word c.active.slots l) (operand_word c.active.slots r) then target else c.active.next + 1) ≡ p)
 
-  -- Says where a value is when it is passed on. A value that is only tested has no slot: the plain program is before the branch on the
-  -- value. The plain program takes this branch when the next operand is evaluated or a statement is chosen.
+  -- Says where a value is when it is passed to the newest continuation frame. A value that is only tested has no slot: the plain program is
+  -- before the branch on the value. The plain program takes this branch when the next operand is evaluated or a statement is chosen.
   pub data GivenAt (t : Tables) (v : Kinded) (k : List Entry) (e : Environment) (w : World) (c : Configuration) : Type 0 where
     in_operand : (o : Operand) → DataIn t c.active.slots k e w c → IsIn t v c.active.slots o
         → Holds t c.active.slots (floor source c.active.function k) (kept k) → ValueStack source c.active.function e.locals v.kind o c.active.next c.frames k → GivenAt t v k e w c
@@ -247,16 +248,16 @@ module _ (source : Program) where
     with_left : DataIn t c.active.slots k e w c → ReadyAt t v e.locals c.active.function c.active.next c.active.slots c.frames k → GivenAt t v k e w c
     in_parts : DataIn t c.active.slots k e w c → PartsAt t v e.locals c.active.function c.active.next c.active.slots c.frames k → GivenAt t v k e w c
 
-  -- Relates a run that continues without a value: after a statement, or after a call without a result. If a value is required, then the
-  -- next step of the source is a fault.
+  -- Relates a source run that continues without a value to a plain run: after a statement, or after a call without a result. If a value
+  -- is required, then the next step of the source is a fault.
   pub data ProceedingAt (t : Tables) (k : List Entry) (e : Environment) (w : World) (c : Configuration) : Type 0 where
     following_statement : (exits : Exits) → DataIn t c.active.slots k e w c → StatementStack source c.active.function exits c.active.next c.frames k → ProceedingAt t k e w c
     following_call : (kind : Kind) → (o : Operand) → DataIn t c.active.slots k e w c → ValueStack source c.active.function e.locals kind o c.active.next c.frames k → ProceedingAt t k e w c
     following_wrong : (kind : Kind) → (n : ℕ) → calls_in k ≡ suc (length c.frames) → AheadStack source c.active.function e.locals kind n c.active.next c.frames k → ProceedingAt t k e w c
 
-  -- An exception reaches the newest handler by one instruction, or ends the plain program, while the source leaves one stack entry
-  -- after the other. The plain program stays at the throw until the source reaches the handler. The newest handler belongs to the call
-  -- whose stack entries the source leaves (`a`), or to the waiting calls (`rest`).
+  -- An exception reaches the newest handler by one instruction, or ends the plain program, while the source leaves one continuation
+  -- frame after the other. The plain program stays at the throw until the source reaches the handler. The newest handler belongs to
+  -- the call whose continuation frames the source leaves (`a`), or to the waiting calls (`rest`).
   abbrev pub CaughtBy : Activation → List Frame → List Entry → Type 0
   CaughtBy a rest [] = (a.handlers ≡ []) × (rest ≡ [])
   CaughtBy a rest (entry ∷ k) = HandlersStand a.function a.slots a.handlers rest (entry ∷ k)
@@ -268,9 +269,9 @@ module _ (source : Program) where
       × (a : Activation) × (rest : List Frame) × (length rest ≤ length c.frames) × (throws c tag value c.active c.frames ≡ throws c tag value a rest)
       × DataAt source shared.tables a.function a.base w.objects e.locals (callers k) a.slots c.globals rest × CaughtBy a rest k
 
-  -- Stack entries are left, and lexical regions among them. The plain program closes all of these regions in the step in which the source
-  -- leaves the outermost one. Until then the plain program is before the closing instruction, and a slot holds the number of regions that
-  -- stay open.
+  -- Continuation frames are left, and lexical regions among them. The plain program closes all of these regions in the step in which the
+  -- source leaves the outermost one. Until then the plain program is before the closing instruction, and a slot holds the number of
+  -- regions that stay open.
   abbrev pub IsMark : Option ℕ → Words → (many : ℕ) → Type 0
   IsMark None slots many = Unit {0}
   IsMark (Some mark) slots many = slots mark ≡ many

@@ -1,4 +1,4 @@
--- This file defines the state that all calls share, while the plain program matches the source.
+-- This file defines the state that all calls share, and its invariant, while the plain program matches the source.
 use Rattle.std.proofs.Common.{◌≡◌, ℕ, suc, ◌≤◌, List, [], ◌∷◌, Option, None, Some, slice_get}
 use Rattle.cyc_words.specs.Seen.{Seen, showing}
 use Rattle.cyc_words.proofs.SeenLemmas.{seen_same}
@@ -14,13 +14,13 @@ abbrev pub AreOfVariables : Tables → List ℕ → Type 0
 AreOfVariables t [] = Unit {0}
 AreOfVariables t (region ∷ regions) = (slice_get t.handles region ≡ Some None) × AreOfVariables t regions
 
--- The world `w` without its input and output.
+-- The heap state `w` without its input and output.
 abbrev pub silent : World → World
 silent w = record w { output = []; input = [] }
 
--- The state that all calls share, without the globals. The shared state consists of the bytes that are printed and read, the tables of
--- the objects and regions in the store, and the waiting calls. The pages that the store needs and the number of calls are within the
--- limits. The condition on array counters and on lexical regions is a part of the shared state.
+-- The state that all calls share, without the globals. The shared state consists of the bytes printed and read, the tables of objects
+-- and regions in the heap store, and the waiting calls. The pages that the heap store needs and the number of calls are within the
+-- limits. The condition on the loop counters of arrays and on lexical regions is a part of the shared state.
 pub record Shared (pages calls : ℕ) (w : World) (regions : List ℕ) (counting : Type 0) (plain_output plain_input : List ℕ) (store : StoreState) (waiting : ℕ) : Type 0 where
   pub tables : Tables
   pub same_output : plain_output ≡ w.output
@@ -32,25 +32,25 @@ pub record Shared (pages calls : ℕ) (w : World) (regions : List ℕ) (counting
   pub variables : AreOfVariables tables regions
   pub few_pages : demand store ≤ pages
   pub fits : suc waiting ≤ calls
-  -- The condition on the counters of arrays and on the open lexical regions.
+  -- The condition on the loop counters of arrays that are being filled and on the open lexical regions.
   pub counters : counting
 
--- The observation of a run that continues: its output and input so far.
+-- The observable behavior of a run that continues: its output and input so far.
 abbrev pub seen_in : World → Seen
 seen_in w = showing w.output w.input
 
--- Source program and plain program have the same observation.
+-- Source program and plain program have equal output and equal input so far.
 pub shared_seen : {pages calls : ℕ} {w : World} {regions : List ℕ} {counting : Type 0} {plain_output plain_input : List ℕ} {store : StoreState} {waiting : ℕ} → Shared pages calls w regions counting plain_output plain_input store waiting
     → showing plain_output plain_input ≡ seen_in w
 shared_seen {pages} {calls} {w} {regions} {counting} {plain_output} {plain_input} s = seen_same plain_output w.output plain_input w.input s.same_output s.same_input
 
--- While lexical regions are left, the source closes one region in each step, and the store closes all of them at the end. The store that
--- the relation uses is the real store without the regions that are yet to be closed.
+-- While lexical regions are left, the source closes one region in each step, and the heap store closes all of them at the end. The heap
+-- store that the relation uses is the real one without the regions that are yet to be closed.
 abbrev pub store_by : (closing : Option ℕ) → StoreState → (many : ℕ) → StoreState
 store_by None store many = store
 store_by (Some mark) store many = closed_to store many
 
--- If the store still has regions that the source has closed, then the program may open lexical regions.
+-- If the heap store still has regions that the source has closed, then the program may open lexical regions.
 abbrev pub HasScopes : Option ℕ → Type 0
 HasScopes None = ⊥
 HasScopes (Some place) = Unit {0}

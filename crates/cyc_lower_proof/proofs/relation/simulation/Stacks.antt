@@ -1,5 +1,5 @@
--- This file defines the functions of the program with their slots and data, and the code positions that correspond to the entries
--- on the control stack.
+-- This file defines the functions of the program with their slots and data, and the code positions that correspond to the control
+-- stack's continuation frames.
 use Rattle.std.proofs.Common.{reverse, ◌≡◌, ◌⊎◌, ℕ, suc, ◌+◌, ◌*◌, ◌≤◌, ◌<◌, true, List, [], ◌∷◌, ◌++◌, length, Option, None, Some, slice_get, ◌^◌, false, Bool}
 use Rattle.cyc_words.specs.Word.{IsWord as IsNumber}
 use Rattle.std.specs.Prelude.{if◌then◌else◌, option_map, not}
@@ -62,8 +62,8 @@ module _ (source : Program) where
   abbrev pub bounds_at : ℕ → Numbering
   bounds_at g = bounds_in (slice_get source.functions g)
 
-  -- The types of a function's locals; for the code also the structs, the position of the exception
-  -- blocks, and the first slots of the locals.
+  -- The types of a function's locals. The code of the function also needs the structs, the position
+  -- of the exception blocks, and the first slots of the locals.
   abbrev pub local_types : Option Function → List Ty
   local_types None = []
   local_types (Some h) = slot_types h
@@ -81,7 +81,7 @@ module _ (source : Program) where
   abbrev pub starts_at : ℕ → Starts
   starts_at g = starts_of (types_at g)
 
-  -- The types and slots of a function with these stack entries, some of which are arrays that are being filled.
+  -- The types and slots of a function with these continuation frames, some of which are for arrays that are being filled.
   abbrev pub types_on : ℕ → List Entry → Types
   types_on g k = record { locals = local_types (slice_get source.functions g); structs = source.structs; raises = raises_in (slice_get source.functions g); counters = counters_of (after_records k (scopes_of source) (words_of_all (local_types (slice_get source.functions g)))) k; globals = global_types source.globals; scopes = scopes_of source }
 
@@ -113,7 +113,7 @@ module _ (source : Program) where
   abbrev pub floor : ℕ → List Entry → ℕ
   floor g k = after_records k (scopes_of source) (base_of g)
 
-  -- The handlers and regions that were opened inside the enclosing loop or, without `loop`, inside the function.
+  -- The exception handlers and regions that were opened inside the enclosing loop or, without `loop`, inside the function.
   abbrev pub opened_by : (loop : Bool) → ℕ → List Entry → Opened
   opened_by loop g [] = nothing_opened
   opened_by loop g (Loop condition body ∷ k) = if loop then nothing_opened else opened_by loop g k
@@ -127,7 +127,7 @@ module _ (source : Program) where
   abbrev pub top : ℕ → List Entry → ℕ
   top g k = height (floor g k) (held k)
 
-  -- The slot of the next value to compute while a value is passed on.
+  -- The slot of the next value to compute while a value is passed to the newest continuation frame.
   abbrev pub ground : ℕ → List Entry → ℕ
   ground g k = height (floor g k) (kept k)
 
@@ -136,7 +136,7 @@ module _ (source : Program) where
   abbrev pub call_slots : (g base : ℕ) → CallSlots
   call_slots g base = record { code = code_of g; base = base }
 
-  -- Says that the data of the waiting calls hold, and that an older call has objects with smaller numbers.
+  -- Says that the facts about the data of the waiting calls hold, and that an older call has objects with smaller indices.
   abbrev pub FramesHold : Tables → List Object → (high : ℕ) → List Frame → List Waiting → Type 0
   FramesHold t objects high [] [] = length (global_types source.globals) ≤ high
   FramesHold t objects high (f ∷ frames) (x ∷ outer) =
@@ -159,7 +159,7 @@ module _ (source : Program) where
     by_jump : At code p (instructions.Jump q) → Arrives code p q
     by_jumps : (m : ℕ) → m < p → At code p (instructions.Jump m) → At code m (instructions.Jump q) → Arrives code p q
 
-  -- Holds if no handler or region of the function is open.
+  -- Holds if no exception handler or region that the function opened is open.
   abbrev pub IsOutside : Exits → Type 0
   IsOutside exits = (exits.in_loop ≡ nothing_opened) × (exits.in_function ≡ nothing_opened)
 
@@ -192,7 +192,7 @@ module _ (source : Program) where
       × StatementAt (code_of g) (bounds_at g) (types_at g) body exits t b p
       × ((f : ℕ) × BranchesAt (code_of g) (bounds_at g) (types_at g) condition f b t p × ((f ≡ q) ⊎ At (code_of g) f (instructions.Jump q))) × (break_target exits < q)
 
-  -- Says that the code at p is the statement that a condition chooses, followed by the code for the stack entries.
+  -- Says that the code at p is the statement that a condition chooses, followed by the code for the continuation frames.
   abbrev pub ChosenAt : (g t : ℕ) → (first second : Statement) → (waits : Exits → (q : ℕ) → Type 0) → (fails : Bool) → (p : ℕ) → Type 0
   ChosenAt g t first second waits true p =
       (exits : Exits) × (q : ℕ) × StatementAt (code_of g) (bounds_at g) (types_at g) second exits t p q × waits exits q
@@ -200,7 +200,7 @@ module _ (source : Program) where
       (exits : Exits) × (m : ℕ) × (q : ℕ) × StatementAt (code_of g) (bounds_at g) (types_at g) first exits t p m × Arrives (code_of g) m q × waits exits q
 
   -- Says that the code at p is the body of a loop if the loop's condition holds. If the condition fails, the code at
-  -- p is the code for the stack entries, or a jump to this code.
+  -- p is the code for the continuation frames, or a jump to this code.
   abbrev pub RepeatedAt : (g t : ℕ) → Expression → Statement → (waits : Exits → (q : ℕ) → Type 0) → (fails : Bool) → (p : ℕ) → Type 0
   RepeatedAt g t condition body waits true p = (outer : Exits) × (q : ℕ) × ((p ≡ q) ⊎ At (code_of g) p (instructions.Jump q)) × waits outer q
   RepeatedAt g t condition body waits false p =
@@ -229,20 +229,20 @@ module _ (source : Program) where
 
   -- ---- swaps
 
-  -- Says where one side of a swap is: a variable is an object, and a cell has its address in a slot.
+  -- Says where one operand of a swap is: a variable is an object, and a cell has its address in a slot.
   abbrev pub IsSideAt : Tables → (ℕ → Option ℕ) → Words → Side → (s object offset : ℕ) → Type 0
   IsSideAt t locals slots (VariableSide l ty) s object offset =
       (offset ≡ 0) × (object_of (record { locals = locals; home = 0; counters = λ level. None }) l ≡ Some object)
   IsSideAt t locals slots (CellSide x) s object offset = Points t object offset (slots s)
 
-  -- Says that the left side of a swap is a variable or a cell, while the right side is evaluated.
+  -- Says that the left operand of a swap is a variable or a cell, while the right operand is evaluated.
   abbrev pub IsLeft : (ℕ → Option ℕ) → (is_cell : Bool) → Side → (place : Value) → Type 0
   IsLeft locals false (VariableSide l ty) (Thin object offset) =
       (offset ≡ 0) × (object_of (record { locals = locals; home = 0; counters = λ level. None }) l ≡ Some object)
   IsLeft locals true (CellSide x) (Thin object offset) = Unit {0}
   IsLeft locals is_cell a place = ⊥
 
-  -- Says that words in slots are moved to the sides of a swap, and that the code then continues at q.
+  -- Says that words in slots are moved to the operands of a swap, and that the code then continues at q.
   abbrev pub WritesAt : Tables → (ℕ → Option ℕ) → (g : ℕ) → Words → List Write → (p q : ℕ) → Type 0
   WritesAt t locals g slots [] p q = p ≡ q
   WritesAt t locals g slots (x ∷ writes) p q =
@@ -261,8 +261,8 @@ module _ (source : Program) where
   CallAt g callees.Getchar arguments t d p q = At (code_of g) p (instructions.ReadByte d) × (p + 1 ≡ q)
   CallAt g (callees.Function n) arguments t d p q = At (code_of g) p (instructions.Call n t arguments d) × (p + 1 ≡ q)
 
-  -- Says that the code from position p on uses a value and then executes the stack entries of the running call and of its callers. The
-  -- running function is g. The value has the given kind and is in operand o.
+  -- Says that the code from position p on uses a value and then executes the continuation frames of the running call and of its
+  -- callers. The running function is g. The value has the given kind and is in operand o.
   abbrev mutual
     pub ValueStack : (g : ℕ) → (ℕ → Option ℕ) → Kind → Operand → (p : ℕ) → List Frame → List Entry → Type 0
     ValueStack g locals kind o p frames [] = ⊥
@@ -391,8 +391,8 @@ module _ (source : Program) where
     ValueStack g locals kind o p frames (Discard ∷ k) = (exits : Exits) × StatementStack g exits p frames k
     ValueStack g locals kind o p frames (entry ∷ k) = ⊥
 
-    -- Says that the code from position p on uses the address of a memory access and then executes the stack entries. This address is
-    -- the word of an operand plus a number of bytes.
+    -- Says that the code from position p on uses the address of a memory access and then executes the continuation frames. This
+    -- address is the word of an operand plus a number of bytes.
     pub PlaceStack : (g : ℕ) → (ℕ → Option ℕ) → Operand → (c p : ℕ) → List Frame → List Entry → Type 0
     PlaceStack g locals o c p frames (NeedsPlace (LoadFrom cell) ∷ k) =
         (d : ℕ) × (q : ℕ) × LoadedAt (code_of g) cell o c d (top g k) p q
@@ -416,7 +416,7 @@ module _ (source : Program) where
         × ExchangeAt (code_of g) (bounds_at g) (types_at g) kind a (CellSide y) (floor g k) m q × StatementStack g exits q frames k
     PlaceStack g locals o c p frames k = ⊥
 
-    -- Says that the code from position p on executes the stack entries after a condition that is known to fail or to hold.
+    -- Says that the code from position p on executes the continuation frames after a condition that is known to fail or to hold.
     pub DecidedStack : (g : ℕ) → (fails : Bool) → (p : ℕ) → List Frame → List Entry → Type 0
     DecidedStack g fails p frames (Needs (Chain operations) ∷ k) =
         TestsAt (code_of g) (bounds_at g) (types_on g k) operations fails (top g k) p (λ fails q. DecidedStack g fails q frames k)
@@ -426,13 +426,12 @@ module _ (source : Program) where
     DecidedStack g fails p frames (Needs (Test condition body) ∷ k) = RepeatedAt g (floor g k) condition body (λ exits q. StatementStack g exits q frames k) fails p
     DecidedStack g fails p frames k = ⊥
 
-    -- Says that the code from position p on executes the stack entries after a value that is dropped and is in no slot.
+    -- Says that the code from position p on executes the continuation frames after a value that is dropped and is in no slot.
     pub DroppedStack : (g p : ℕ) → List Frame → List Entry → Type 0
     DroppedStack g p frames (Discard ∷ k) = (exits : Exits) × StatementStack g exits p frames k
     DroppedStack g p frames k = ⊥
 
-    -- Says that the code from position p on executes the stack entries after a value that is already in slot n of the local to which
-    -- it will be assigned.
+    -- Says that the code from position p on executes the continuation frames after a value that is already in slot n of its local.
     pub AheadStack : (g : ℕ) → (ℕ → Option ℕ) → Kind → (n p : ℕ) → List Frame → List Entry → Type 0
     AheadStack g locals kind n p frames (Needs (ConvertTo from to target) ∷ k) =
         (converts_there from to ≡ true) × (masks from to ≡ false) × (words_of_kind kind ≡ words_of_kind to) × AheadStack g locals to n p frames k
@@ -448,7 +447,7 @@ module _ (source : Program) where
         (exits : Exits) × (q : ℕ) × (slot_of (starts_at g) number ≡ n) × HasRoom (types_at g) number kind × (kind_in (types_at g).locals number ≡ wanted) × ItemsAt (code_of g) (bounds_at g) (types_at g) items exits (floor g k) p q × StatementStack g exits q frames k
     AheadStack g locals kind n p frames k = ⊥
 
-    -- Says that the code from position p on executes the stack entries, which await no value.
+    -- Says that the code from position p on executes the continuation frames, which await no value.
     pub StatementStack : (g : ℕ) → Exits → (p : ℕ) → List Frame → List Entry → Type 0
     StatementStack g exits p frames (Rest items ∷ k) =
         (q : ℕ) × ItemsAt (code_of g) (bounds_at g) (types_at g) items exits (floor g k) p q × StatementStack g exits q frames k
@@ -470,7 +469,7 @@ module _ (source : Program) where
     StatementStack g exits p frames (Main ∷ k) = (s : ℕ) × At (code_of g) p (instructions.Finish s) × IsOutside exits × IsLast frames k
     StatementStack g exits p frames k = ⊥
 
-  -- Says that the code from position p on executes the stack entries after a condition, which fails if this comparison holds.
+  -- Says that the code from position p on executes the continuation frames after a condition, which fails if this comparison holds.
   abbrev pub ConditionStack : (g : ℕ) → Comparison → (l r : Operand) → (p : ℕ) → List Frame → List Entry → Type 0
   ConditionStack g failing l r p frames k = Forks (code_of g) (bounds_at g) (types_on g k) failing l r p (λ fails q. DecidedStack g fails q frames k)
 

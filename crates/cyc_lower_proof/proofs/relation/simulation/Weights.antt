@@ -6,8 +6,8 @@ use Rattle.cyc_types.specs.TypedTrees.{OpenRegion, DeclareAlias, Move, Peek, The
 use Rattle.cyc_types.specs.TypedTrees as typed
 use Rattle.cyc_meaning.specs.State.{Awaiting, Chain, Pass, PlaceBy, MakeFields, Initialise, OpenBy, AliasOf, Entry, Needs, Rest, Loop, Focus, Evaluating, Locating, Executing, Entering, Binding, State, Running, AwaitingPlace, StoreTo, NeedsPlace, SwapLeft, Writing, Catching, Index}
 
--- An expression that is an operand may have no code. An expression that begins with a subexpression weighs more than the
--- subexpression and its stack entry. A decided test has no weight; in an undecided test, the first operand needs no weight.
+-- An expression that is an operand may have no code. An expression that begins with a subexpression weighs more than the subexpression and
+-- its continuation frame. A test whose outcome is decided has no weight; in an undecided test, the first operand needs no weight.
 abbrev mutual
   pub expression_weight : Expression → ℕ
   expression_weight (Number n) = 1
@@ -36,7 +36,7 @@ abbrev mutual
   dereference_weight (Member k a s f t) = suc (suc (expression_weight a))
   dereference_weight (Element a i t) = suc (suc (suc (expression_weight a + expression_weight i)))
 
-  -- the weight of the initial content of a new object
+  -- the weight of the expressions that give a new object its initial values
   pub object_weight : Initial → ℕ
   object_weight (Plain kind a) = expression_weight a
   object_weight (Fields cs) = arguments_weight cs
@@ -57,7 +57,7 @@ abbrev mutual
   operations_weight (ThenPointer o a os) = suc (suc (expression_weight a + operations_weight os))
   operations_weight (ThenPointerPeek n o a os) = suc (suc (expression_weight a + operations_weight os))
 
--- The weight of one side of a swap, with its stack entry.
+-- The weight of one operand of a swap, with its continuation frame.
 abbrev pub side_weight : Side → ℕ
 side_weight (VariableSide l t) = 0
 side_weight (CellSide x) = suc (dereference_weight x)
@@ -98,7 +98,7 @@ clauses_weight NoClauses = 1
 clauses_weight (Default r js) = suc (suc (suc (items_weight js)))
 clauses_weight (Case tag x r js cs) = 0
 
--- Each stack entry has a weight, so a stack becomes lighter when an entry is removed.
+-- Each continuation frame has a weight, so a stack becomes lighter when a frame is removed.
 abbrev pub awaiting_weight : Awaiting → ℕ
 awaiting_weight (Chain os) = operations_weight os
 awaiting_weight (Index peek target i) = suc (expression_weight i)

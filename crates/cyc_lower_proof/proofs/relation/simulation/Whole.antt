@@ -140,7 +140,7 @@ global_has [] number few = absurd (omega (arith, few))
 global_has (g ∷ gs) zero few = (record { kind = kind_of g.of_type; value = constant_value g.value }, refl, refl)
 global_has (g ∷ gs) (suc number) few = global_has gs number (omega (arith, few))
 
--- A global whose table row is that of a char has the kind `Char`.
+-- A global whose row in the table of objects is that of a char has the kind `Char`.
 char_global : (t : Tables) (globals : List Ty) (number : ℕ) (r : IsGlobalRow t globals number) → IsCharAt t number → r.kind ≡ kinds.Char
 char_global t globals number r (address, is) =
     let start : ℕ = GLOBALS_BASE + 4 * first_word globals number + variable_bytes r.kind in
@@ -185,7 +185,7 @@ module _ (source : Program) (pages calls : ℕ) (well_typed : AreWellTypedGlobal
   stepping (Repeating object count index level wanted element) k e w c well nested words names related = repeating source pages calls object count index level wanted element k e w c well related
   stepping (Swapping kind left right before) k e w c well nested words names related = swapping source pages calls kind left right before k e w c names well related
 
-  -- A failed state counts as within all limits.
+  -- A source state that ends in a failure counts as within the limits of pages and calls.
   failed_within : (s : State) → status_in (status_of s) ≡ Failed → is_within pages calls s ≡ true
   failed_within (Running focus k e w) failed = absurd (let f : simulation.Running ≡ Failed = failed in cc)
   failed_within (Ended ending output input) failed = absurd (let f : simulation.Ended ending ≡ Failed = failed in cc)
@@ -196,7 +196,7 @@ module _ (source : Program) (pages calls : ℕ) (well_typed : AreWellTypedGlobal
   goes_well s never failed =
       never (step source s) (sym (ap (λ (b : Bool). if b then step source s else Ended Full (output_of s) (input_of s)) (failed_within (step source s) failed))) failed
 
-  -- Values in the plain machine remain 32-bit words, and calls do not overlap.
+  -- Values in the plain machine remain 32-bit words, and the slots of calls do not overlap.
   abbrev Lies : plain.State → Type 0
   Lies t = plain.HoldsWords t × LieBelow (lower_program source) t
 
@@ -296,7 +296,7 @@ module _ (source : Program) (pages calls : ℕ) (well_typed : AreWellTypedGlobal
 
   follows_source : (base : ℕ) (store : StoreState) (input : List ℕ) → IsNew pages store → 1 ≤ pages → pages ≤ MOST_PAGES → 1 ≤ calls → AllByRecursion (λ b. b < 256) input
       → IsBelow (lower_program source) (lower_program source).main base slots_end → FollowsSource source (lower_program source) pages calls base store input
-  -- The proof uses the machine with equal limits at each instruction, because the lowered code has no `Enter`.
+  -- The proof uses the plain machine that checks equal limits at each instruction, because the lowered code has no `Enter`.
   follows_source base store input new some_page few_pages some_call bytes lies never =
       let (h, starts, there) = from_start (slice_get source.functions source.main) input refl some_call (never 0 (start source input) refl) in
       follows_uniform (lower_program source) (no_enter source typed_words) pages calls (above source pages calls) [] (λ state. places_of (lower_program source)) (start source input) (plain_step.start (lower_program source) base store input)
@@ -313,7 +313,7 @@ module _ (source : Program) (pages calls : ℕ) (well_typed : AreWellTypedGlobal
         (nests_start source input, names_start source input rise),
       ))
 
--- The lowered program has the behaviors of the source program, if the source program fits the requirements of lowering.
+-- The lowered program has the behaviors of the source program, if the source program meets the requirements of lowering.
 pub follows : (source : Program) → IsFitting source → IsOfWordsProgram source → FunctionsRise source → words_of_all (global_types source.globals) ≤ MOST_GLOBALS → HasWords (lower_program source) → (pages calls base : ℕ) (store : StoreState) (input : List ℕ)
     → IsNew pages store → 1 ≤ pages → pages ≤ MOST_PAGES → 1 ≤ calls → AllByRecursion (λ b. b < 256) input → IsBelow (lower_program source) (lower_program source).main base slots_end → FollowsSource source (lower_program source) pages calls base store input
 follows source fitting typed_words rise few_globals of_words pages calls base store input new some_page few_pages some_call bytes lies =

@@ -1,4 +1,4 @@
--- Proves the law on the observable part of a step.
+-- Proves the law on the observable effects of a step, that is, on printed and read bytes.
 use Rattle.cyc_meaning.proofs.RunLaws.{step_prints, step_reads, run_bytes}
 use Rattle.cyc_meaning.proofs.laws.only_services_are_seen.Goals as goal
 

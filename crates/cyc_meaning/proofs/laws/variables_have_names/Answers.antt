@@ -1,4 +1,4 @@
--- Proves the law that variables have names.
+-- Proves the law that each live variable is a global or a local of an active call.
 use Rattle.cyc_meaning.proofs.VariableRuns.{named_at, distinct_at, apart_at, again_at}
 use Rattle.cyc_meaning.proofs.laws.variables_have_names.Goals as goal
 

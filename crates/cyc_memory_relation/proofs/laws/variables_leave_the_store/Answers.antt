@@ -1,4 +1,4 @@
--- This file proves the law that declaring and assigning variables leaves the store unchanged.
+-- This file proves the law that declaring and assigning variables leaves the heap store unchanged.
 use Rattle.std.proofs.Common.{refl}
 use Rattle.cyc_meaning.specs.State.{Stack}
 use Rattle.cyc_meaning.proofs.WorldLaws.{cell_found}

@@ -12,7 +12,8 @@ invariant-loop-number l = record {
   left : (page : ℕ) → l.number ≤ page → slice_index l.pool.fills page ≡ slice_index l.fn.pool.fills page;
 }
 
--- Invariant: the filled words of all pages are their live words, and the pages visited so far have the serials of their owners.
+-- Invariant: the filled words of all pages are their live words, and the pages visited so far have the serials of their owners
+-- (their regions' first pages).
 abbrev pub invariant-loop-number-2 : goal.invariant-loop-number-2
 invariant-loop-number-2 l = record {
   same : l.pool ≡ record l.fn.pool { fills = l.pool.fills; serials = l.pool.serials };

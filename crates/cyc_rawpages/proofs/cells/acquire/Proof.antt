@@ -1,4 +1,4 @@
--- `acquire` calls the allocator and splits the result into empty cells. Assumes `Logic`.
+-- `acquire` calls the allocator and splits the result into empty cells. The proof assumes the program logic `Logic`.
 use mathlib.Core.Path.{◌≡◌, refl, sym, subst}
 use mathlib.Core.List.{List, [], ◌∷◌, ◌++◌}
 use Prim.Native.Nat.{◌*◌, ◌<◌, ◌^◌}

@@ -1,4 +1,5 @@
--- `release` turns the cells into uninitialised space and returns the space to the allocator with the right to free it. Assumes `Logic`.
+-- `release` turns the cells into uninitialised space and returns the space to the allocator with the right to free it. The proof
+-- assumes the program logic `Logic`.
 use mathlib.Core.Path.{◌≡◌, refl, ap, subst, ◌∙◌}
 use mathlib.Core.List.{List, [], ◌∷◌, ◌++◌}
 use Prim.Native.Nat.{ℕ, ◌*◌, ◌<◌, ◌^◌}

@@ -14,7 +14,7 @@ use Rattle.cyc_front.specs.Front.{names_in, IsRefusedText}
 use Rattle.cyc_rendering.specs.inside.Reading.{HasTree}
 use Rattle.cyc_rendering.proofs.reading.tree_of.Goals as goal
 
--- Two equal lists of tokens denote the same tokens of the text.
+-- Two equal lists of token codes denote the same tokens of the text.
 lexed : (text : List ℕ) (ts us : List TokenCode) → us ≡ ts
     → (tokens : List Token) × lexer.IsAccepted text tokens × (map (token_of text) ts ≡ tokens) → lexer.IsAccepted text (map (token_of text) us)
 lexed text ts us same (tokens, is, view) =

@@ -13,7 +13,7 @@ use Rattle.cyc_select.proofs.emission.Numbering.{numbered_at}
 use Rattle.cyc_select.proofs.layout.Whole.{is_code}
 use Rattle.cyc_select.proofs.selection.selected.Goals as goal
 
--- The lines of the start code, followed by those of all functions, are the lines of the whole program.
+-- The MIPS lines of the start code, followed by those of all functions, are the lines of the whole program.
 all_lines : (plain : Program) (frames fs : List Frame) (functions : List FunctionLines) (main : ℕ) (its : FunctionLines) (none begun lines : List Line)
     → fs ≡ frames → AreNumbered plain fs (length plain.functions) functions
     → main ≡ plain.main → main < length plain.functions → its ≡ slice_index_or functions main its

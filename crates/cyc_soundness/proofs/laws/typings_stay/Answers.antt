@@ -1,4 +1,4 @@
--- This file proves the law that the typing of a world only grows.
+-- This file proves the law that the typing of the heap state (regions and objects) only grows.
 use Rattle.cyc_soundness.proofs.states.WorldLemmas.{type_grown}
 use Rattle.cyc_soundness.proofs.states.StackClaims.{stack_grown}
 use Rattle.cyc_soundness.proofs.laws.typings_stay.Goals as goal

@@ -33,9 +33,10 @@ and_held (Some n) f = with_held true f n
 pub record Guard : Type 0 where
   -- The locals on which an enclosing `catch` relies to hold their values: the code must not empty them.
   pub relied : ℕ → Bool
-  -- The locals that enclosing items have lent to the end of their blocks: they are neither peeked at, used nor assigned.
+  -- The locals that enclosing declarations and statements have lent to the end of their blocks: such locals are neither
+  -- peeked at (read without being moved), used nor assigned.
   pub locked : ℕ → Bool
-  -- The locals with a peek whose value is not yet used: they may only be peeked at.
+  -- The locals that were read early (peeked at) and whose read values are not yet used: such locals may only be peeked at again.
   pub peeked : ℕ → Bool
 
 abbrev pub nowhere : ℕ → Bool
@@ -45,18 +46,18 @@ nowhere n = false
 abbrev pub no_guard : Guard
 no_guard = record { relied = nowhere; locked = nowhere; peeked = nowhere }
 
--- The guard while the peek of a local, if there is one, is not yet used.
+-- The guard while a local, if one is given, has been read early (peeked at) and its read value is not yet used.
 abbrev pub peeking : Option ℕ → Guard → Guard
 peeking None p = p
 peeking (Some n) p = record p { peeked = updated p.peeked n true }
 
--- The guard inside the body of a `try` whose clauses rely on the locals r.
+-- The guard inside the body of a `try` whose catch clauses rely on the locals r.
 abbrev pub relying : (ℕ → Bool) → Guard → Guard
 relying r p = record p { relied = r }
 
 -- ---- demands on a local; unreachable code has none
 
--- Says that the value of a local may be peeked at.
+-- Says that the value of a local may be peeked at, that is, read without being moved.
 abbrev pub IsSeen : Guard → ℕ → Held → Type 0
 IsSeen p n Never = Unit {0}
 IsSeen p n (Holds f) = (f n ≡ true) × (p.locked n ≡ false)
@@ -84,7 +85,7 @@ abbrev pub IsReliable : Guard → (ℕ → Bool) → Held → Type 0
 IsReliable p r Never = Unit {0}
 IsReliable p r (Holds f) = ((n : ℕ) → p.relied n ≡ true → r n ≡ true) × ((n : ℕ) → r n ≡ true → f n ≡ true)
 
--- The facts at the start of a clause, given the facts at the start of its `try`.
+-- The facts at the start of a catch clause, given the facts at the start of its `try`.
 abbrev pub at_catch : (ℕ → Bool) → Held → Held
 at_catch r Never = Never
 at_catch r (Holds f) = Holds r

@@ -1,4 +1,4 @@
--- This file defines the flow rules of statements, of items and of clauses, in the form for proofs about runs.
+-- This file defines the flow rules of statements, of block items and of catch clauses, in the form for proofs about runs.
 use Rattle.std.specs.Prelude.{ℕ, Bool, true, false, Option, Some, None}
 use Rattle.cyc_types.specs.TypedTrees.{Local, Global, Expression, Converted, Side, VariableSide, CellSide, Statement, Block, Empty, Evaluate, Swap, If, While, Return, Break, Continue}
 use Rattle.cyc_types.specs.TypedTrees.{Throw, Try, Items, NoItems, MoreItems, Item, Execute, Declare, DeclareRegion, OpenRegion, DeclareAlias, DeclareKey, Clauses, NoClauses, Default, Case}
@@ -21,12 +21,12 @@ abbrev pub KeepsThrown : Guard → Option Expression → (before following : Hel
 KeepsThrown p None f g = IsAtLeast f g
 KeepsThrown p (Some a) f g = Keeps p a f g
 
--- The rule for the evaluation of one side of a swap.
+-- The rule for the evaluation of the left or right operand of a swap.
 abbrev pub KeepsSide : Guard → Side → (before following : Held) → Type 0
 KeepsSide p (VariableSide l t) f g = IsAtLeast f g
 KeepsSide p (CellSide d) f g = KeepsPlace p d f g
 
--- Says that a side of a swap that is a variable may be used after both sides were evaluated.
+-- Says that an operand of a swap that is a variable may be used after both operands were evaluated.
 abbrev pub IsSwappable : Guard → Side → Held → Type 0
 IsSwappable p (VariableSide (Local at n) t) f = IsUsable p n f
 IsSwappable p (VariableSide (Global n) t) f = Unit {0}
@@ -46,11 +46,11 @@ abbrev pub KeepsDeclaration : Guard → ℕ → Option Converted → (before fol
 KeepsDeclaration p n None f g = IsSpared p n f × IsAtLeast (with_held false f n) g
 KeepsDeclaration p n (Some c) f g = (h : Held) × KeepsConverted p c f h × IsAtLeast (with_held true h n) g
 
--- The rule for an item that lends one local and declares another.
+-- The rule for a declaration or statement that lends one local and declares another.
 abbrev pub KeepsLoan : Guard → (declared lent : ℕ) → (before following : Held) → Type 0
 KeepsLoan p n m f g = IsSeen p m f × IsAtLeast (with_held true f n) g
 
--- The lent locals after an item; a local stays lent to the end of the block.
+-- The lent locals after a declaration or statement; a local stays lent to the end of the block.
 abbrev pub and_lent : Item → (ℕ → Bool) → ℕ → Bool
 and_lent (Execute s) w = w
 and_lent (Declare n t v) w = w
@@ -59,7 +59,7 @@ and_lent (OpenRegion r n at k) w = updated w k true
 and_lent (DeclareAlias r n t at m) w = updated w m true
 and_lent (DeclareKey r n) w = w
 
--- The guard for the items after item j.
+-- The guard for the declarations and statements of a block that follow item j.
 abbrev pub following_item : Item → Guard → Guard
 following_item j p = record p { locked = and_lent j p.locked }
 
@@ -93,7 +93,7 @@ abbrev mutual
   KeepsItem p x (DeclareAlias r n t at m) f g = KeepsLoan p n m f g
   KeepsItem p x (DeclareKey r n) f g = IsAtLeast (with_held true f n) g
 
-  -- The rule for the clauses of a `try`, each of which begins with this state or a weaker one.
+  -- The rule for the catch clauses of a `try`, each of which begins with this state or a weaker one.
   pub KeepsClauses : Guard → Option Exits → Clauses → (start following : Held) → Type 0
   KeepsClauses p x NoClauses c g = Unit {0}
   KeepsClauses p x (Default r js) c g = KeepsItems p x js c g

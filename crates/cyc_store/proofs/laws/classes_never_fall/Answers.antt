@@ -1,4 +1,4 @@
--- This file proves the law that the pages of classes never decrease.
+-- This file proves the law that the number of pages of each size class never decreases.
 use Rattle.cyc_store.proofs.ServiceLemmas.{serves-classes, serves-greatest}
 use Rattle.cyc_store.proofs.laws.classes_never_fall.Goals as goal
 

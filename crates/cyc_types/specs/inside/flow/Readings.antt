@@ -19,13 +19,13 @@ use Rattle.cyc_types.specs.flow.Programs.{in_function, start_of, rule_function}
 -- ---- expressions
 
 module _ (q : List ℕ) where
-  -- a move out of a local requires that the local holds a value that is neither lent out nor peeked at; afterwards the local is empty
+  -- a local is consumed only if its value is neither borrowed nor read early by an unfinished operation; afterwards the local is empty
   consumed : (p : Place) (n : ℕ) (t : Ty) (f g : State)
       → Derives (rule q (Move p n t) f) g
       ≡ (((not (is_vacant (fullness f n)) ≡ true) × ((not (is_locked (fullness f n)) ≡ true) × ((is_free q n f ≡ true) × Unit {0}))) × (g ≡ with_fullness Vacant f n))
   consumed p n t f g = refl
 
-  -- a peek of a local is allowed even while another peek of the local is pending
+  -- a unique pointer may be read and left in its local even while an unfinished operation has already read it in this way
   looked_at : (p : Place) (n : ℕ) (t : Ty) (f g : State)
       → Derives (rule q (Peek p n t) f) g ≡ (((not (is_vacant (fullness f n)) ≡ true) × ((not (is_locked (fullness f n)) ≡ true) × Unit {0})) × (g ≡ f))
   looked_at p n t f g = refl
@@ -36,7 +36,7 @@ module _ (q : List ℕ) where
       ≡ ((g : State) × Derives (rule_converted q c f) g × (((not (is_locked (fullness g n)) && is_free q n g ≡ true) × Unit {0}) × (h ≡ with_fullness Full g n)))
   filled p n c t f h = refl
 
-  -- if a cell is reached through a local, a peek of this local is pending until the value to store has been evaluated
+  -- if a memory cell is reached through a local's unique pointer, the local must not change until the value to store has been evaluated
   put_there : (d : Dereference) (c : Converted) (t : ValueType) (f h : State)
       → Derives (rule q (Store d c t) f) h ≡ ((g : State) × Derives (rule_place q d f) g × Derives (rule_converted (and_peeked (peek_after d) q) c g) h)
   put_there d c t f h = refl
@@ -59,7 +59,7 @@ module _ (q : List ℕ) where
 -- ---- statements
 
 module _ (c : Around) where
-  -- a swap uses its two variables after both sides have been evaluated
+  -- a swap uses its two variables after its left and right operands have been evaluated
   swapped : (x y : Side) (f i : State)
       → Derives (rule_swapped x y f) i
       ≡ ((g : State) × Derives (rule_side [] x f) g × ((h : State) × Derives (rule_side (and_peeked (peeked_side x) []) y g) h × (AllKept (swap_demanded x y h) × (i ≡ h))))
@@ -80,7 +80,7 @@ module _ (c : Around) where
       × (((is_at_least k.now f ≡ true) × Unit {0}) × (m ≡ record { now = meet g k.breaks; breaks = b }))))
   loops p a s f b m = refl
 
-  -- after a `break`, the locals locked since the start of the loop's body hold their values again
+  -- after a `break`, the locals whose values were borrowed since the start of the loop's body hold their values again
   breaks : (f b : State) (m : Known) → Derives (rule_statement c Break (record { now = f; breaks = b })) m ≡ (Unit {0} × (m ≡ record { now = Unreached; breaks = meet b (with_each Full c.locks f) }))
   breaks f b m = refl
 
@@ -89,7 +89,7 @@ module _ (c : Around) where
       ≡ (((is_at_least (with_each Full ks f) l.head ≡ true) × Unit {0}) × (m ≡ record { now = Unreached; breaks = b }))
   continues l ks f b m = refl
 
-  -- a catch clause begins with the state at the `try`, except that the locals touched by the body are empty
+  -- a catch clause begins with the state at the `try`, except that the locals that the body consumes, assigns or lends out are empty
   clauses : (s : Statement) (cs : Clauses) (f b : State) (m : Known)
       → Derives (rule_statement c (Try s cs) (record { now = f; breaks = b })) m
       ≡ ((k : Known) × Derives (rule_statement c s (record { now = f; breaks = b })) k × Derives (rule_clauses c (emptied (touched_statement s []) f) cs k) m)
@@ -100,7 +100,7 @@ module _ (c : Around) where
       ≡ ((k : Known) × Derives (rule_items c js (record { now = start; breaks = b })) k × (Unit {0} × (m ≡ record { now = meet f (with_each Full (locks_of js) k.now); breaks = k.breaks })))
   default_clause start r js f b m = refl
 
-  -- at the end of a block, the locals that its items lock hold their values again
+  -- at the end of a block, the locals whose values the block's declarations borrowed hold these values again
   blocks : (r : ℕ) (js : Items) (k m : Known)
       → Derives (rule_statement c (Block r js) k) m ≡ ((l : Known) × Derives (rule_items c js k) l × (Unit {0} × (m ≡ record { now = with_each Full (locks_of js) l.now; breaks = l.breaks })))
   blocks r js k m = refl

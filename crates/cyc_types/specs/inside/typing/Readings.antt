@@ -68,7 +68,7 @@ module _ (g : Scope) where
 
   -- ---- other expressions
 
-  -- the operator `!` takes an int or a pointer, and only peeks at the pointer; a char operand is widened to an int
+  -- the operator `!` takes an int or a pointer, and leaves a unique pointer in its local; a char operand is widened to an int
   negation_typed : (p : Place) (e : Expression) (a : typed.Expression)
       → Derives (rule g (Prefixed p prefixes.Not e)) a
       ≡ ((b : typed.Expression) × Derives (rule_looked g e (rule g e)) b × (((is_tested (type_of (as_int b)) ≡ true) × Unit {0}) × (a ≡ typed.Unary unary.Not (as_int b))))
@@ -89,8 +89,8 @@ module _ (g : Scope) where
   unique_region_refused p f = refl
 
   -- A call has as many arguments as the function has parameters, and each argument is converted. No region variable of a called
-  -- signature denotes the unique region, the constraints hold, and the effect is live. Of all violated demands of a call, the one with
-  -- the lowest code is reported, and the first if several have it.
+  -- signature denotes the unique region, the constraints hold, and the regions of the effect are live. Of all violated requirements on
+  -- a call, the one with the lowest fault code is reported, and the first of several with that code.
   call_typed : (c : Callee) (s : Signature) (p : Place) (es : Expressions) (as' : List typed.Expression) (a : typed.Expression)
       → Derives (called g (Routine c s) p es as') a
       ≡ (((nat_eq (length as') (length s.parameters) ≡ true)
@@ -102,18 +102,18 @@ module _ (g : Scope) where
 
   -- ---- statements and items
 
-  -- the two sides of a swap have equal types, and are not structs
+  -- the left and right operands of a swap have equal types, and are not structs
   swap_typed : (p : Place) (x y : Found) (t : typed.Statement)
       → Derives (swapped p x y) t ≡ (((ty_eq (type_of_side x.side) (type_of_side y.side) && not (is_struct (type_of_side x.side)) ≡ true) × Unit {0}) × (t ≡ typed.Swap x.side y.side))
   swap_typed p x y t = refl
 
-  -- a label is new in its function, and its name is known in its block
+  -- the label of a block is a region name that is new in its function, and the name is in scope in the block
   labelled_typed : (l : Named) (b : Body) (t : typed.Statement)
       → Derives (rule_statement g (Labelled l b)) t
       ≡ ((u : Unit {0}) × (((not (is_taken g l) ≡ true) × Unit {0}) × (u ≡ tt)) × ((js : typed.Items) × Derives (rule_body (in_labelled l g) b) js × (Unit {0} × (t ≡ typed.Block g.next_region js))))
   labelled_typed l b t = refl
 
-  -- the initial value of a local is checked first; then the fault of its name or its conversion with the lowest code is reported
+  -- a local's initial value is checked first; of the faults of its name and of its conversion, the one with the lowest code is reported
   local_typed : (w : WrittenType) (x : Named) (e : Expression) (c : Ty × Option Converted)
       → Derives (rule_initial g w x (Some e)) c
       ≡ ((a : typed.Expression) × Derives (rule g e) a

@@ -1,4 +1,4 @@
--- The law follows from the lemmas on bytes by position.
+-- The law about reading and writing a byte of a word follows from the lemmas on bytes by position.
 use Rattle.std.proofs.Common.{refl}
 use Rattle.cyc_words.proofs.WordBytesLemmas.{byte-same, byte-other, with_byte-word}
 use Rattle.cyc_words.proofs.laws.byte_places.Goals as goal

@@ -1,4 +1,4 @@
--- Two endings that are alike are equal.
+-- Two endings of runs that are related by `Alike` are equal.
 use Rattle.cyc_words.proofs.EndingLemmas.{same_when_alike, alike_when_same}
 use Rattle.cyc_words.proofs.laws.endings.Goals as goal
 

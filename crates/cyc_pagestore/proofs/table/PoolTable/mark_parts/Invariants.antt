@@ -6,7 +6,7 @@ use Rattle.cyc_pagestore.proofs.table.PoolTable.mark_parts.Given as goal
 abbrev pub decreases-loop-done : goal.decreases-loop-done
 decreases-loop-done l = l.count - l.done
 
--- Invariant: only mark bits have changed, and the bits written so far, from the first one on, equal the new mark.
+-- Invariant: only mark bits have changed, and the bits written so far, from the first one on, equal the mark to be written.
 abbrev pub invariant-loop-done : goal.invariant-loop-done
 invariant-loop-done l = record {
   few : l.done ≤ l.count;

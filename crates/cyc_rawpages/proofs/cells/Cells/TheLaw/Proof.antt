@@ -1,4 +1,4 @@
--- A shared reference to the cells gives access to each word. Assumes `Logic`.
+-- A shared reference to the cells gives access to each word. The proof assumes the program logic `Logic`.
 use denote.Struct.Lending.{of_Lends}
 use Rattle.cyc_rawpages.specs.contracts.cells.Cells as C
 use Rattle.cyc_rawpages.proofs.cells.Cells.TheLaw.Statement.{statement}

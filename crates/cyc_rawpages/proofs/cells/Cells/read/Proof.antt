@@ -1,4 +1,4 @@
--- `read` accesses the word through the loan of a shared reference to the cells.
+-- `read` accesses the word through the borrow that a shared reference to the cells stands for.
 use mathlib.Core.Path.{◌≡◌, refl, ◌∙◌}
 use Prim.Native.Nat.{ℕ, ◌+◌, ◌*◌, ◌<◌, ◌^◌}
 use native.Mathlib.Omega.{arith}
@@ -67,7 +67,7 @@ read_spec 𝓤 𝓛 𝓜 𝓡 wired =
     rewrite ! 0 (λ (s : Option ℕ). ‵ (place_lent b' at s κs.0)) asked.1.1 refl $ hide ! $
     looks ! tt u32 (uint_Copied 𝓛 w32).opens w b' at (λ q' us. move ! (1 ∷ []) $ fsplit ! $ feq_l ! (λ is. flt_l ! (λ fits.
     rewrite ! 0 (λ (us : List Val). ‵ (cell_at q' u32.mir us b' at)) is refl $ move ! (2 ∷ []) $ drop ! $
-    -- The proof's resources at this point: the word's cell; the assertion that restores the loan.
+    -- The proof's resources at this point: the word's cell; the assertion that gives the borrowed cell back.
     first ! $ blocks ! $
     sets ! (bin ! (get ! refl) (lit ! tt) (record { fits = far })) refl (tt, record { fits = far }) $
     sets ! (bin ! (get_in ! (fld ! refl (stop !)) (sub ! 0 refl (whole !))) (get ! refl) tt) refl (tt, tt) $

@@ -5,7 +5,7 @@ use Rattle.cyc_select.specs.inside.Counts.{function_line, instruction_line}
 use Rattle.cyc_select.specs.inside.Selection.{code_lines}
 use Rattle.cyc_select.proofs.emitter.Emitter.code.Given as goal
 
--- Loop invariant: the lines emitted so far, followed by those of the remaining instructions, are all lines of the function.
+-- Loop invariant: the MIPS lines emitted so far, followed by those of the remaining instructions, are all lines of the function.
 abbrev pub invariant-loop-index : goal.invariant-loop-index
 invariant-loop-index l =
     l.self.lines.items

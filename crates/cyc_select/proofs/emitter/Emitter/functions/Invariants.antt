@@ -4,7 +4,7 @@ use Rattle.cyc_select.specs.inside.Counts.{function_line}
 use Rattle.cyc_select.specs.inside.Selection.{function_lines}
 use Rattle.cyc_select.proofs.emitter.Emitter.functions.Given as goal
 
--- Loop invariant: the lines emitted so far, followed by those of the remaining functions, are all lines of the program.
+-- Loop invariant: the MIPS lines emitted so far, followed by those of the remaining functions, are all lines of the program.
 abbrev pub invariant-loop-function : goal.invariant-loop-function
 invariant-loop-function l =
     l.self.lines.items

@@ -3,7 +3,8 @@ use Rattle.cyc_select.specs.inside.Slots.{load_words}
 use Rattle.cyc_select.specs.inside.Selection.{ordinary}
 use Rattle.cyc_select.proofs.emitter.Emitter.load_words.Given as goal
 
--- Loop invariant: the lines emitted so far, followed by those of the remaining registers, are all lines that load words into registers.
+-- Loop invariant: the MIPS lines emitted so far, followed by those of the remaining registers, are all lines that load words into
+-- registers.
 abbrev pub invariant-loop-target : goal.invariant-loop-target
 invariant-loop-target l =
     (l.next ≡ l.slot + l.target-index)

@@ -3,7 +3,7 @@ use Rattle.cyc_select.specs.inside.Slots.{saves_from, saves}
 use Rattle.cyc_select.specs.inside.Selection.{ordinary}
 use Rattle.cyc_select.proofs.emitter.Emitter.saves.Given as goal
 
--- Loop invariant: the lines emitted so far, followed by those of the remaining registers, are all lines that save registers.
+-- Loop invariant: the MIPS lines emitted so far, followed by those of the remaining registers, are all lines that save registers.
 abbrev pub invariant-loop-number : goal.invariant-loop-number
 invariant-loop-number l =
     l.self.lines.items ++ ordinary (saves_from l.frame.first_saved l.number (l.frame.saved - l.number))

@@ -4,7 +4,7 @@ use Rattle.cyc_select.specs.inside.Passing.{spills}
 use Rattle.cyc_select.specs.inside.Selection.{ordinary}
 use Rattle.cyc_select.proofs.emitter.Emitter.spills.Given as goal
 
--- Loop invariant: the lines emitted so far, followed by those of the remaining slots, are all lines that spill slots.
+-- Loop invariant: the MIPS lines emitted so far, followed by those of the remaining slots, are all lines that spill slots.
 abbrev pub invariant-loop-slot : goal.invariant-loop-slot
 invariant-loop-slot l =
     l.self.lines.items ++ ordinary (spills l.caller (coming l.callee) (l.source + l.slot) l.slot (l.count - l.slot))

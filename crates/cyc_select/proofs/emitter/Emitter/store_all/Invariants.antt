@@ -3,7 +3,7 @@ use Rattle.cyc_select.specs.inside.Slots.{store_all}
 use Rattle.cyc_select.specs.inside.Selection.{ordinary}
 use Rattle.cyc_select.proofs.emitter.Emitter.store_all.Given as goal
 
--- Loop invariant: the lines emitted so far, followed by those of the remaining registers, are all lines that store registers in slots.
+-- Loop invariant: the MIPS lines emitted so far, followed by those of the remaining registers, are all lines that store registers in slots.
 abbrev pub invariant-loop-source : goal.invariant-loop-source
 invariant-loop-source l =
     (l.next ≡ l.slot + l.source-index)

@@ -1,4 +1,4 @@
--- If a byte fails, then the device has taken exactly the bytes before it.
+-- If writing a byte of a text fails, then the device has taken exactly the bytes before it.
 use Rattle.cyc_words.proofs.DeviceLemmas.{TakesText_byte_exit}
 use Rattle.cyc_words.proofs.device.ByteOut.put_all.Goals as goal
 

@@ -1,4 +1,4 @@
--- If a part fails, then the device has taken the parts before it and a prefix of the part's own bytes.
+-- If writing one of several parts fails, then the device has taken the parts before it and a prefix of this part's own bytes.
 use Rattle.std.specs.Borrow.{Bor}
 use Rattle.std.proofs.Common.{ℕ, List, []}
 use Rattle.cyc_words.proofs.DeviceLemmas.{TakesText_part_exit}
