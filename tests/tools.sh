@@ -11,6 +11,8 @@ status=0
 modules=${MODULES:-/usr/lib/python3/dist-packages}
 # The folder of Debian's JavaScript libraries for web pages.
 libraries=${LIBRARIES:-/usr/share/javascript}
+# The folder of what programs of 32 bits are linked with.
+narrow=${NARROW:-/usr/lib32}
 for tool in $tools; do
   kind="command"
   case $tool in
@@ -21,6 +23,10 @@ for tool in $tools; do
   libjs-*)
     kind="module"
     [ -e "$libraries/${tool#libjs-}" ] && continue
+    ;;
+  lib32-*)
+    kind="module"
+    [ -e "$narrow/${tool#lib32-}" ] && continue
     ;;
   *) command -v "$tool" >/dev/null && continue ;;
   esac

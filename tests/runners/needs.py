@@ -88,9 +88,9 @@ class Room:
     def __init__(self, folder, stand_ins):
         self.folder, self.bin, self.called = folder, os.path.join(folder, "bin"), os.path.join(folder, "called")
         for name, text in stand_ins.items():
-            is_command = suite.kind_of(name) == "command"
-            prefix = suite.MODULE if name.startswith(suite.MODULE) else suite.LIBRARY
-            write(os.path.join(self.bin, name) if is_command else os.path.join(folder, "modules", name.removeprefix(prefix)), text)
+            prefix = suite.prefix_of(name)
+            path = os.path.join(self.bin, name) if prefix is None else os.path.join(folder, "modules", name.removeprefix(prefix))
+            write(path, text)
         for name in {*USUAL} - stand_ins.keys():
             os.symlink(shutil.which(name), os.path.join(self.bin, name))
         for name in OF_GATE:
@@ -99,7 +99,8 @@ class Room:
 
     def ask(self, words):
         """Returns the status of a command and the lines that it prints."""
-        environment = {**os.environ, "PATH": self.bin, "MODULES": self.path("modules"), "LIBRARIES": self.path("modules"), "CALLED": self.called}
+        folders = {variable: self.path("modules") for variable, _ in suite.MODULES.values()}
+        environment = {**os.environ, **folders, "PATH": self.bin, "CALLED": self.called}
         done = subprocess.run(words, env=environment, stdin=subprocess.DEVNULL, stdout=subprocess.PIPE, stderr=subprocess.STDOUT, text=True)
         return done.returncode, done.stdout.splitlines()
 

@@ -29,10 +29,12 @@ SECONDS, CLOCK = 60, 20
 STACK = 4
 # The file that lists the commands that tests run in addition to the program, and their packages.
 TOOLS = os.path.join(TESTS, "tools.txt")
-# The prefix of a module's name in tools.txt, and the folder of Debian's python3 modules, as in tools.sh.
-MODULE, MODULES = "python3-", "/usr/lib/python3/dist-packages"
-# The prefix and the folder of the JavaScript modules for web pages.
-LIBRARY, LIBRARIES = "libjs-", "/usr/share/javascript"
+# For each prefix of a module's name in tools.txt, as in tools.sh: the variable that names the folder of these modules, and the folder in
+# Debian. They are modules of python3, JavaScript modules for web pages, and files that programs of 32 bits are linked with.
+MODULES = {
+    "python3-": ("MODULES", "/usr/lib/python3/dist-packages"), "libjs-": ("LIBRARIES", "/usr/share/javascript"),
+    "lib32-": ("NARROW", "/usr/lib32"),
+}
 # A long value is printed by its first and last bytes; two different long values by the bytes around their first
 # difference.
 SHOWN = 400
@@ -166,17 +168,22 @@ def packages():
         return dict(line.strip().split(" ", 1) for line in file if not line.startswith("#"))
 
 
+def prefix_of(tool):
+    """Returns the prefix of a module's name, or None for a command."""
+    return next((prefix for prefix in MODULES if tool.startswith(prefix)), None)
+
+
 def is_there(tool):
-    """Returns true if a command is installed, or a module of Debian's python3 or for pages if the name has that prefix."""
-    if tool.startswith(MODULE):
-        return os.path.exists(os.path.join(os.environ.get("MODULES", MODULES), tool.removeprefix(MODULE)))
-    if tool.startswith(LIBRARY):
-        return os.path.exists(os.path.join(os.environ.get("LIBRARIES", LIBRARIES), tool.removeprefix(LIBRARY)))
-    return shutil.which(tool) is not None
+    """Returns true if a command is installed, or a module if the name has the prefix of one."""
+    prefix = prefix_of(tool)
+    if prefix is None:
+        return shutil.which(tool) is not None
+    variable, folder = MODULES[prefix]
+    return os.path.exists(os.path.join(os.environ.get(variable, folder), tool.removeprefix(prefix)))
 
 
 def kind_of(tool):
-    return "module" if tool.startswith((MODULE, LIBRARY)) else "command"
+    return "command" if prefix_of(tool) is None else "module"
 
 
 def need(tools, count):
